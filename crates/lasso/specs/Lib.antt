@@ -1,0 +1,8 @@
+-- What a reader has to believe about paths and rounds, in the order of the contract: plain functions on lists and numbers.
+pub mod Lists
+pub mod Graph
+pub mod Order
+pub mod Roll
+pub mod Distance
+pub mod Rounds
+pub mod Values

@@ -1,0 +1,26 @@
+-- All accepting paths of least length: the paper's roll.
+use Prim.Native.Nat.{ℕ, suc}
+use mathlib.Core.Bool.{Bool, true, false}
+use mathlib.Core.List.{List, [], _∷_, head?}
+use mathlib.Core.Option.{Option, some, none}
+use lib.Dec.{eqb}
+use Rattle.lasso.specs.Lists.{keep, seek, nonEmptyb}
+use Rattle.lasso.specs.Graph.{Graph, acceptingb}
+use Rattle.lasso.specs.Order.{lists}
+
+-- the accepting paths with l transitions, in dictionary order
+abbrev pub ofLength : Graph → ℕ → List (List ℕ)
+ofLength g l = keep (acceptingb g) (lists (g .size) (suc l))
+
+-- the least length of an accepting path, if there is one
+abbrev pub leastLength : Graph → Option ℕ
+leastLength g = seek (λ l. nonEmptyb (ofLength g l)) 1 (g .size)
+
+-- the accepting paths of the length given, if one is given
+abbrev pub ofLeast : Graph → Option ℕ → List (List ℕ)
+ofLeast g none = []
+ofLeast g (some l) = ofLength g l
+
+-- the roll: all accepting paths of least length, each once, in dictionary order
+abbrev pub roll : Graph → List (List ℕ)
+roll g = ofLeast g (leastLength g)

@@ -1,0 +1,59 @@
+-- Candidates, a round, and the round record.
+use Prim.Native.Nat.{ℕ, zero, suc, _+_, min}
+use mathlib.Core.Bool.{Bool, _&&_}
+use mathlib.Core.List.{List, [], _∷_}
+use mathlib.Core.Option.{Option, some, none}
+use lib.ListN.{length, getD}
+use lib.Dec.{leb}
+use Rattle.lasso.specs.Lists.{keep, below, isSome}
+use Rattle.lasso.specs.Graph.{Graph}
+use Rattle.lasso.specs.Distance.{dist, distPlus}
+
+-- the candidates: the marked states that can be reached from the initial state, in ascending number
+abbrev pub candidates : Graph → List ℕ
+candidates g = keep (λ s. g .marked s && isSome (dist g (g .start) s)) (below (g .size))
+
+-- the lesser of two lengths; none counts as more than every length
+abbrev pub lesser : Option ℕ → Option ℕ → Option ℕ
+lesser none b = b
+lesser (some a) none = some a
+lesser (some a) (some b) = some (min a b)
+
+-- the sum of two lengths; none if one of them is none
+abbrev pub sum : Option ℕ → Option ℕ → Option ℕ
+sum none b = none
+sum (some a) none = none
+sum (some a) (some b) = some (a + b)
+
+-- the least of the lengths that f gives for the entries
+abbrev pub leastOf : (ℕ → Option ℕ) → List ℕ → Option ℕ
+leastOf f [] = none
+leastOf f (s ∷ ss) = lesser (f s) (leastOf f ss)
+
+-- a round's length for candidate r: the minimum, over states s, of d(i, s) + d(r, s) plus the least length of a path with
+-- at least one edge from s to r
+abbrev pub roundLength : Graph → ℕ → Option ℕ
+roundLength g r =
+    leastOf (λ s. sum (sum (dist g (g .start) s) (dist g r s)) (distPlus g s r)) (below (g .size))
+
+-- the round record: the number of rounds done, and the best length so far
+pub record Record : Type 0 where
+  pub done : ℕ
+  pub best : Option ℕ
+
+-- the record after one more round, given that round's length
+abbrev pub withRound : Record → Option ℕ → Record
+withRound rec length = record { done = rec .done + 1; best = lesser (rec .best) length }
+
+-- no candidate is left: the count equals or exceeds the number of candidates
+abbrev pub finishedb : Graph → Record → Bool
+finishedb g rec = leb (length (candidates g)) (rec .done)
+
+-- the record after the round for the candidate whose place is the count
+abbrev pub afterRound : Graph → Record → Record
+afterRound g rec = withRound rec (roundLength g (getD (candidates g) (rec .done) 0))
+
+-- the record after n rounds of a search, which starts from count 0 and best none
+abbrev pub afterRounds : Graph → ℕ → Record
+afterRounds g zero = record { done = 0; best = none }
+afterRounds g (suc n) = afterRound g (afterRounds g n)
