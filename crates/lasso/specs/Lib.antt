@@ -3,6 +3,7 @@ pub mod Lists
 pub mod Graph
 pub mod Order
 pub mod Roll
+pub mod Following
 pub mod Distance
 pub mod Rounds
 pub mod Values

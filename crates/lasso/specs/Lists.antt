@@ -20,6 +20,11 @@ abbrev pub anyb : {A : Type 0} → (A → Bool) → List A → Bool
 anyb p [] = false
 anyb p (x ∷ xs) = p x || anyb p xs
 
+-- the first answer if the test was passed, else the second
+abbrev pub pick : {A : Type 0} → Bool → A → A → A
+pick true a b = a
+pick false a b = b
+
 -- x in front of the list if the test was passed
 abbrev pub consIf : {A : Type 0} → Bool → A → List A → List A
 consIf true x xs = x ∷ xs
@@ -64,12 +69,7 @@ abbrev pub nonEmptyb : {A : Type 0} → List A → Bool
 nonEmptyb [] = false
 nonEmptyb (x ∷ xs) = true
 
--- the first number if the test was passed, else the second
-abbrev pub pickℕ : Bool → ℕ → ℕ → ℕ
-pickℕ true a b = a
-pickℕ false a b = b
-
 -- the first place that holds x, counted from 0; the number of entries if none does
 abbrev pub placeOf : ℕ → List ℕ → ℕ
 placeOf x [] = 0
-placeOf x (y ∷ ys) = pickℕ (eqb x y) 0 (suc (placeOf x ys))
+placeOf x (y ∷ ys) = pick (eqb x y) 0 (suc (placeOf x ys))

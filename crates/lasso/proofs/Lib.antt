@@ -1,0 +1,10 @@
+-- The laws of paths, lassos, distances and rounds, from tests and lists up.
+pub mod Tests
+pub mod Least
+pub mod Different
+pub mod Walk
+pub mod Distance
+pub mod Lasso
+pub mod Cut
+pub mod Sorted
+pub mod OrderLaws
