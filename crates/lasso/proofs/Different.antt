@@ -1,14 +1,14 @@
 -- Lists with all entries different: dropping entries keeps them different, and there are at most n of them below n.
 use Prim.Native.Nat.{ℕ, zero, suc, _≤_, _<_}
-use mathlib.Core.Path.{_≡_, refl, ap, subst}
-use mathlib.Core.Logic.{_⊎_, inl, inr}
+use mathlib.Core.Path.{_≡_, refl, ap}
+use mathlib.Core.Logic.{inl, inr}
 use mathlib.Core.Bool.{Bool, true, false, not}
 use mathlib.Core.List.{List, [], _∷_, List·Memᴰ, List·Memᴰ·head, List·Memᴰ·tail}
 use native.Mathlib.Omega.{arith}
 use lib.ListN.{length, getD}
 use lib.Dec.{T, eqb, eqb→eq, T-not, not-T}
 use Rattle.lasso.specs.Lists.{memb, differentb, consIf, keep}
-use Rattle.lasso.proofs.Tests.{fst, snd, both, decide, T-true, T-false, eq→eqb, lt-or-ge, memb-at, memb-mem, mem-memb, at-memb, keep-mem}
+use Rattle.lasso.proofs.Tests.{fst, snd, both, decide, T-true, T-false, eq→eqb, lt-or-ge, memb-at, memb-mem, mem-memb, keep-mem}
 
 -- a list all of whose entries pass the test is kept whole
 pub keep-all : {A : Type 0} (p : A → Bool) (xs : List A) → ((x : A) → List·Memᴰ x xs → T (p x)) → keep p xs ≡ xs
@@ -38,7 +38,9 @@ pub length-otherThan : (v : ℕ) (xs : List ℕ) → T (differentb xs) → lengt
 length-otherThan v [] d = omega arith
 length-otherThan v (x ∷ xs) d =
     elim (decide (eqb x v)) [
-      | inl e ↦ rw (T-true (eqb x v) e) (omega (arith, ap length (keep-all (otherThan v) xs (λ y m. not-T (eqb y v) (λ q. twice (eqb→eq x v e) (eqb→eq y v q) m)))))
+      | inl e ↦
+          let others : (y : ℕ) → List·Memᴰ y xs → T (otherThan v y) = λ y m. not-T (eqb y v) (λ q. twice (eqb→eq x v e) (eqb→eq y v q) m) in
+          rw (T-true (eqb x v) e) (omega (arith, ap length (keep-all (otherThan v) xs others)))
       | inr n ↦ rw (T-false (eqb x v) n) (omega (arith, length-otherThan v xs (snd (not (memb x xs)) (differentb xs) d)))
     ]
   where
@@ -62,6 +64,7 @@ length-different (suc n) xs d low =
         ]
 
 -- the same by places: at most n places hold different entries below n
-pub length-different-places : (n : ℕ) (xs : List ℕ) → T (differentb xs) → ((j : ℕ) → j < length xs → getD xs j 0 < n) → length xs ≤ n
+pub length-different-places : (n : ℕ) (xs : List ℕ) → T (differentb xs) → ((j : ℕ) → j < length xs → getD xs j 0 < n)
+    → length xs ≤ n
 length-different-places n xs d low =
-    length-different n xs d (λ x m. let r : (j : ℕ) × (j < length xs) × (getD xs j 0 ≡ x) = memb-at x xs (mem-memb m) in rw (← r .2) (low (r .0) (r .1)))
+    length-different n xs d (λ x m. let (j, inside, at) = memb-at x xs (mem-memb m) in rw (← at) (low j inside))

@@ -1,11 +1,10 @@
 -- Distances are least lengths of walks, with no bound on the walks' lengths: a walk that passes a state twice can be cut,
 -- and one that does not has fewer edges than there are states.
 use Prim.Native.Nat.{ℕ, zero, suc, _+_, _-_, _≤_, _<_}
-use mathlib.Core.Path.{_≡_, refl, sym, _∙_, ap}
+use mathlib.Core.Path.{_≡_, _∙_, ap}
 use mathlib.Core.Logic.{_⊎_, inl, inr}
-use mathlib.Core.Bool.{Bool, true, false}
-use mathlib.Core.List.{List, [], _∷_}
-use mathlib.Core.Option.{Option, some, none}
+use mathlib.Core.List.{List, _∷_}
+use mathlib.Core.Option.{some}
 use native.Mathlib.Omega.{arith}
 use lib.ListN.{length, getD}
 use lib.Dec.{T}
@@ -15,18 +14,20 @@ use Rattle.lasso.specs.Distance.{reachb, dist, distPlus}
 use Rattle.lasso.proofs.Tests.{decide, Repeat, repeated}
 use Rattle.lasso.proofs.Least.{IsLeast, Passes, isLeast-by, isLeast-le, isLeast-has, seek-least}
 use Rattle.lasso.proofs.Different.{length-different}
-use Rattle.lasso.proofs.Walk.{Run, Walk, walk-append, walk-to, walk-cons, walk-uncons, walk-here, walk-edge, walk-end-state, run-path, run-last, run-states, seg, reach-walk, walk-reach}
+use Rattle.lasso.proofs.Walk.{Run, Walk, walk-append, walk-to, walk-cons, walk-uncons, walk-here, walk-edge, run-path, run-last, run-states, seg, reach-walk, walk-reach}
 
 -- a walk that passes a state twice can be cut
-pub walk-cut : {g : Graph} {s t : ℕ} {us : List ℕ} → Run g s us t → Repeat (s ∷ us) → (n : ℕ) × Walk g s t n × (n < length us)
+pub walk-cut : {g : Graph} {s t : ℕ} {us : List ℕ} → Run g s us t → Repeat (s ∷ us)
+    → (n : ℕ) × Walk g s t n × (n < length us)
 walk-cut {g} {s} {us = us} r d =
     let h : T (pathb g (s ∷ us)) = run-path r in
     let front : Walk g s (getD (s ∷ us) (d .i) 0) (d .i - 0) = seg g (s ∷ us) h 0 (d .i) (omega arith) (omega arith) in
-    let back : Walk g (getD (s ∷ us) (d .j) 0) (getD (s ∷ us) (length us) 0) (length us - d .j) = seg g (s ∷ us) h (d .j) (length us) (omega arith) (omega arith) in
+    let back : Walk g (getD (s ∷ us) (d .j) 0) _ (length us - d .j) = seg g (s ∷ us) h (d .j) (length us) (omega arith) (omega arith) in
     (_, walk-append (walk-to front (d .same)) (walk-to back (run-last r)), omega arith)
 
 -- a walk that passes no state twice has fewer edges than there are states
-pub walk-different : {g : Graph} {s t : ℕ} {us : List ℕ} → WellFormed g → s < g .size → Run g s us t → T (differentb (s ∷ us)) → length us < g .size
+pub walk-different : {g : Graph} {s t : ℕ} {us : List ℕ} → WellFormed g → s < g .size → Run g s us t
+    → T (differentb (s ∷ us)) → length us < g .size
 walk-different {g} {s} {us = us} wf l r d = omega (arith, length-different (g .size) (s ∷ us) d (run-states wf l r))
 
 -- a walk with fewer edges than there are states and not more than m
@@ -34,21 +35,23 @@ abbrev pub Short : Graph → ℕ → ℕ → ℕ → Type 0
 Short g s t m = (n : ℕ) × Walk g s t n × (n ≤ m) × (n < g .size)
 
 -- a walk has fewer edges than there are states, or there is one with fewer edges
-walk-short-or-cut : {g : Graph} {s t m : ℕ} → WellFormed g → s < g .size → Walk g s t m → (m < g .size) ⊎ ((n : ℕ) × Walk g s t n × (n < m))
+walk-short-or-cut : {g : Graph} {s t m : ℕ} → WellFormed g → s < g .size → Walk g s t m
+    → (m < g .size) ⊎ ((n : ℕ) × Walk g s t n × (n < m))
 walk-short-or-cut {g} {s} {t} {m} wf l w =
     elim (decide (differentb (s ∷ w .0))) [
       | inl d ↦ inl (omega (arith, walk-different wf l (w .1) d))
-      | inr d ↦ let c : (n : ℕ) × Walk g s t n × (n < length (w .0)) = walk-cut (w .1) (repeated (s ∷ w .0) d) in inr (c .0, c .1, omega arith)
+      | inr d ↦ let (n, v, less) = walk-cut (w .1) (repeated (s ∷ w .0) d) in inr (n, v, omega arith)
     ]
 
 -- every walk leaves a short one, by cuts; each cut shortens the walk, so fuel for its edges is enough
-walk-short-fuel : {g : Graph} {s t m : ℕ} → WellFormed g → s < g .size → (fuel : ℕ) → m ≤ fuel → Walk g s t m → Short g s t m
+walk-short-fuel : {g : Graph} {s t m : ℕ} → WellFormed g → s < g .size → (fuel : ℕ) → m ≤ fuel → Walk g s t m
+    → Short g s t m
 walk-short-fuel {m = m} wf l zero b w =
     elim (walk-short-or-cut wf l w) [ inl q ↦ (m, w, omega arith, q) | inr c ↦ absurd (omega arith) ]
 walk-short-fuel {g} {s} {t} {m} wf l (suc fuel) b w =
     elim (walk-short-or-cut wf l w) [
       | inl q ↦ (m, w, omega arith, q)
-      | inr c ↦ let r : Short g s t (c .0) = walk-short-fuel wf l fuel (omega arith) (c .1) in (r .0, r .1, omega arith, r .3)
+      | inr c ↦ let (n, v, le, low) = walk-short-fuel wf l fuel (omega arith) (c .1) in (n, v, omega arith, low)
     ]
 
 -- every walk leaves a short one
@@ -73,7 +76,7 @@ dist-least {g} wf s t l =
     isLeast-by (Found g 0 s t) (λ m. Walk g s t m) (dist g s t) (λ m h. reach-walk g m s t (h .2)) short (found-least g 0 s t)
   where
     short : (m : ℕ) → Walk g s t m → (n : ℕ) × Found g 0 s t n × (n ≤ m)
-    short m w = let r : Short g s t m = walk-short wf l w in (r .0, (omega arith, omega arith, walk-reach g (r .0) s t (r .1)), r .2)
+    short m w = let (n, v, le, low) = walk-short wf l w in (n, (omega arith, omega arith, walk-reach g n s t v), le)
 
 -- the positive distance is the least length of a walk with an edge, if there is one
 pub distPlus-least : {g : Graph} → WellFormed g → (s t : ℕ) → IsLeast (λ m. (1 ≤ m) × Walk g s t m) (distPlus g s t)
@@ -83,9 +86,9 @@ distPlus-least {g} wf s t =
     short : (m : ℕ) → (1 ≤ m) × Walk g s t m → (n : ℕ) × Found g 1 s t n × (n ≤ m)
     short zero h = absurd (omega arith)
     short (suc m) h =
-        let c : (u : ℕ) × T (edgeb g s u) × Walk g u t m = walk-uncons (h .1) in
-        let r : Short g (c .0) t m = walk-short wf (wf .edge-states s (c .0) (c .1) .1) (c .2) in
-        (suc (r .0), (omega arith, omega arith, walk-reach g (suc (r .0)) s t (walk-cons (c .1) (r .1))), omega arith)
+        let (u, edge, w) = walk-uncons (h .1) in
+        let (n, v, le, low) = walk-short wf (wf .edge-states s u edge .1) w in
+        (suc n, (omega arith, omega arith, walk-reach g (suc n) s t (walk-cons edge v)), omega arith)
 
 -- a distance is below the number of states
 pub dist-below : (g : Graph) (s t d : ℕ) → dist g s t ≡ some d → d < g .size
@@ -104,19 +107,23 @@ pub distPlus-walk : (g : Graph) (s t d : ℕ) → distPlus g s t ≡ some d → 
 distPlus-walk g s t d e = reach-walk g d s t (found-has g 1 s t d e .2)
 
 -- a walk bounds the distance
-pub dist-le : {g : Graph} {s t m : ℕ} → WellFormed g → s < g .size → Walk g s t m → (d : ℕ) × (dist g s t ≡ some d) × (d ≤ m)
+pub dist-le : {g : Graph} {s t m : ℕ} → WellFormed g → s < g .size → Walk g s t m
+    → (d : ℕ) × (dist g s t ≡ some d) × (d ≤ m)
 dist-le {g} {s} {t} {m} wf l w = isLeast-le (λ n. Walk g s t n) (dist g s t) (dist-least wf s t l) m w
 
 -- a walk with an edge bounds the positive distance
-pub distPlus-le : {g : Graph} {s t m : ℕ} → WellFormed g → 1 ≤ m → Walk g s t m → (d : ℕ) × (distPlus g s t ≡ some d) × (d ≤ m)
+pub distPlus-le : {g : Graph} {s t m : ℕ} → WellFormed g → 1 ≤ m → Walk g s t m
+    → (d : ℕ) × (distPlus g s t ≡ some d) × (d ≤ m)
 distPlus-le {g} {s} {t} {m} wf p w = isLeast-le (λ n. (1 ≤ n) × Walk g s t n) (distPlus g s t) (distPlus-least wf s t) m (p, w)
 
 -- going by way of t is not shorter than the distance
-pub dist-triangle : {g : Graph} → WellFormed g → (s t u : ℕ) {d e : ℕ} → s < g .size → dist g s t ≡ some d → dist g t u ≡ some e → (f : ℕ) × (dist g s u ≡ some f) × (f ≤ d + e)
+pub dist-triangle : {g : Graph} → WellFormed g → (s t u : ℕ) {d e : ℕ} → s < g .size → dist g s t ≡ some d
+    → dist g t u ≡ some e → (f : ℕ) × (dist g s u ≡ some f) × (f ≤ d + e)
 dist-triangle {g} wf s t u {d} {e} l p q = dist-le wf l (walk-append (dist-walk g s t d p) (dist-walk g t u e q))
 
 -- the distance to a successor is at most one more
-pub dist-step : {g : Graph} → WellFormed g → (s t u : ℕ) {d : ℕ} → s < g .size → dist g s t ≡ some d → T (edgeb g t u) → (f : ℕ) × (dist g s u ≡ some f) × (f ≤ d + 1)
+pub dist-step : {g : Graph} → WellFormed g → (s t u : ℕ) {d : ℕ} → s < g .size → dist g s t ≡ some d → T (edgeb g t u)
+    → (f : ℕ) × (dist g s u ≡ some f) × (f ≤ d + 1)
 dist-step {g} wf s t u {d} l p q = dist-le wf l (walk-append (dist-walk g s t d p) (walk-edge q))
 
 -- the distance from a state to itself is zero

@@ -159,6 +159,10 @@ lasso-iff g xs = (lassob→lasso g xs, λ l. lasso→lassob (l .1) (l .2))
 abbrev pub AcceptingThrough : Graph → ℕ → List ℕ → Type 0
 AcceptingThrough g q xs = Lasso g q xs × T (differentb (take (edges xs) xs))
 
+-- some accepting path has l edges
+abbrev pub AcceptingLength : Graph → ℕ → Type 0
+AcceptingLength g l = (xs : List ℕ) × T (acceptingb g xs) × (edges xs ≡ l)
+
 -- a list is an accepting path exactly if it is an accepting lasso through some marked state
 pub accepting-iff : (g : Graph) (xs : List ℕ) → T (acceptingb g xs) ↔ ((q : ℕ) × T (g .marked q) × AcceptingThrough g q xs)
 accepting-iff g xs = (

@@ -1,14 +1,14 @@
 -- What it means to be the least number with a property, if there is one; and that `seek`, `lesser`, `sum` and `leastOf`
 -- give least numbers.
 use Prim.Native.Nat.{ℕ, zero, suc, _+_, _≤_, _<_, min}
-use mathlib.Core.Path.{_≡_, refl, sym, _∙_, ap, subst}
+use mathlib.Core.Path.{_≡_, refl, ap}
 use mathlib.Core.Logic.{_⊎_, inl, inr}
-use mathlib.Core.Bool.{Bool, true, false, not}
+use mathlib.Core.Bool.{Bool, not}
 use mathlib.Core.List.{List, [], _∷_, _++_, List·Memᴰ, List·Memᴰ·head, List·Memᴰ·tail, List·Memᴰ·not-nil, List·Memᴰ·cases-cons}
 use mathlib.Core.Option.{Option, some, none}
 use native.Mathlib.Omega.{arith}
 use lib.Dec.{T, T-not}
-use Rattle.lasso.specs.Lists.{seek, someIf}
+use Rattle.lasso.specs.Lists.{seek}
 use Rattle.lasso.specs.Rounds.{lesser, sum, leastOf}
 use Rattle.lasso.proofs.Tests.{decide, lt-or-ge, T-true, T-false}
 
@@ -35,7 +35,8 @@ isLeast-unique P (some m) (some n) p q =
     let e : m ≡ n = omega (arith, p .1 n (q .0), q .1 m (p .0)) in ap (λ (k : ℕ). some k) e
 
 -- two properties have the same least number if each number with one bounds a number with the other
-pub isLeast-bounds : (P Q : ℕ → Type 0) (a : Option ℕ) → ((n : ℕ) → P n → (m : ℕ) × Q m × (m ≤ n)) → ((n : ℕ) → Q n → (m : ℕ) × P m × (m ≤ n)) → IsLeast P a → IsLeast Q a
+pub isLeast-bounds : (P Q : ℕ → Type 0) (a : Option ℕ) → ((n : ℕ) → P n → (m : ℕ) × Q m × (m ≤ n))
+    → ((n : ℕ) → Q n → (m : ℕ) × P m × (m ≤ n)) → IsLeast P a → IsLeast Q a
 isLeast-bounds P Q none to back least = λ n q. least (back n q .0) (back n q .1)
 isLeast-bounds P Q (some m) to back least =
     let (k, q, le) = to m (least .0) in
@@ -44,11 +45,13 @@ isLeast-bounds P Q (some m) to back least =
     (rw e at q, λ n h. omega (arith, least .1 (back n h .0) (back n h .1), back n h .2))
 
 -- the same where every number with the first property has the second
-pub isLeast-by : (P Q : ℕ → Type 0) (a : Option ℕ) → ((n : ℕ) → P n → Q n) → ((n : ℕ) → Q n → (m : ℕ) × P m × (m ≤ n)) → IsLeast P a → IsLeast Q a
+pub isLeast-by : (P Q : ℕ → Type 0) (a : Option ℕ) → ((n : ℕ) → P n → Q n) → ((n : ℕ) → Q n → (m : ℕ) × P m × (m ≤ n))
+    → IsLeast P a → IsLeast Q a
 isLeast-by P Q a to back least = isLeast-bounds P Q a (λ n p. (n, to n p, omega arith)) back least
 
 -- equivalent properties have the same least number
-pub isLeast-iff : (P Q : ℕ → Type 0) (a : Option ℕ) → ((n : ℕ) → P n → Q n) → ((n : ℕ) → Q n → P n) → IsLeast P a → IsLeast Q a
+pub isLeast-iff : (P Q : ℕ → Type 0) (a : Option ℕ) → ((n : ℕ) → P n → Q n) → ((n : ℕ) → Q n → P n) → IsLeast P a
+    → IsLeast Q a
 isLeast-iff P Q a f back least = isLeast-by P Q a f (λ n q. (n, back n q, omega arith)) least
 
 -- a value is the least of the numbers that equal it
@@ -66,14 +69,21 @@ seek-least p a zero = λ m h. omega arith
 seek-least p a (suc n) =
     elim (decide (p a)) [
       | inl t ↦ rw (T-true (p a) t) ((omega arith, omega arith, t), λ m h. h .0)
-      | inr t ↦ rw (T-false (p a) t) (isLeast-iff (Passes p (suc a) n) (Passes p a (suc n)) (seek p (suc a) n) (λ m h. (omega arith, omega arith, h .2)) (λ m h. (later t m h, omega arith, h .2)) (seek-least p (suc a) n))
+      | inr t ↦
+          rw (T-false (p a) t)
+          (isLeast-iff (Passes p (suc a) n) (Passes p a (suc n)) (seek p (suc a) n)
+          (λ m h. (omega arith, omega arith, h .2)) (λ m h. (later t m h, omega arith, h .2)) (seek-least p (suc a) n))
     ]
   where
     later : T (not (p a)) → (m : ℕ) → Passes p a (suc n) m → suc a ≤ m
-    later t m h = elim (lt-or-ge a m) [ inl l ↦ l | inr g ↦ let e : m ≡ a = omega arith in absurd (T-not (p a) t (rw e at (h .2))) ]
+    later t m h = elim (lt-or-ge a m) [
+      | inl l ↦ l
+      | inr g ↦ let e : m ≡ a = omega arith in absurd (T-not (p a) t (rw e at (h .2)))
+    ]
 
 -- the lesser of two least numbers is the least with one of the properties
-pub lesser-least : (P Q : ℕ → Type 0) (a b : Option ℕ) → IsLeast P a → IsLeast Q b → IsLeast (λ n. P n ⊎ Q n) (lesser a b)
+pub lesser-least : (P Q : ℕ → Type 0) (a b : Option ℕ) → IsLeast P a → IsLeast Q b
+    → IsLeast (λ n. P n ⊎ Q n) (lesser a b)
 lesser-least P Q none none p q = λ n h. elim h [ inl x ↦ p n x | inr y ↦ q n y ]
 lesser-least P Q none (some b) p q = (inr (q .0), λ n h. elim h [ inl x ↦ absurd (p n x) | inr y ↦ q .1 n y ])
 lesser-least P Q (some a) none p q = (inl (p .0), λ n h. elim h [ inl x ↦ p .1 n x | inr y ↦ absurd (q n y) ])
@@ -101,11 +111,13 @@ abbrev pub OfEntry : (ℕ → ℕ → Type 0) → List ℕ → ℕ → Type 0
 OfEntry P xs n = (x : ℕ) × List·Memᴰ x xs × P x n
 
 -- the least of the entries' least numbers is the least number with the property of some entry
-pub leastOf-least : (P : ℕ → ℕ → Type 0) (f : ℕ → Option ℕ) (xs : List ℕ) → ((x : ℕ) → List·Memᴰ x xs → IsLeast (P x) (f x)) → IsLeast (OfEntry P xs) (leastOf f xs)
+pub leastOf-least : (P : ℕ → ℕ → Type 0) (f : ℕ → Option ℕ) (xs : List ℕ)
+    → ((x : ℕ) → List·Memᴰ x xs → IsLeast (P x) (f x)) → IsLeast (OfEntry P xs) (leastOf f xs)
 leastOf-least P f [] each = λ n h. List·Memᴰ·not-nil (h .1)
 leastOf-least P f (x ∷ xs) each =
     isLeast-iff (λ n. P x n ⊎ OfEntry P xs n) (OfEntry P (x ∷ xs)) (lesser (f x) (leastOf f xs)) from to
-    (lesser-least (P x) (OfEntry P xs) (f x) (leastOf f xs) (each x (List·Memᴰ·head refl)) (leastOf-least P f xs (λ y m. each y (List·Memᴰ·tail m))))
+    (lesser-least (P x) (OfEntry P xs) (f x) (leastOf f xs) (each x (List·Memᴰ·head refl))
+    (leastOf-least P f xs (λ y m. each y (List·Memᴰ·tail m))))
   where
     from : (n : ℕ) → P x n ⊎ OfEntry P xs n → OfEntry P (x ∷ xs) n
     from n (inl p) = (x, List·Memᴰ·head refl, p)

@@ -8,3 +8,7 @@ pub mod Lasso
 pub mod Cut
 pub mod Sorted
 pub mod OrderLaws
+pub mod RollLaws
+pub mod PlaceByPlace
+pub mod Extend
+pub mod RoundLaws

@@ -5,6 +5,7 @@ use native.Mathlib.Omega.{arith}
 use mathlib.Core.Path.{refl, sym, subst}
 use mathlib.Core.Bool.{Bool, true, false}
 use mathlib.Core.List.{List, [], _∷_, _++_, map, List·Memᴰ, List·Memᴰ·head, List·Memᴰ·tail}
+use lib.ListN.{length, getD}
 use Rattle.lasso.specs.Lists.{consIf, keep, upFrom, collect}
 
 -- every entry has the property
@@ -31,6 +32,11 @@ module _ {A : Type 0} where
   -- what everything has, every entry has
   pub all-every : (P : A → Type 0) (xs : List A) → ((x : A) → P x) → All P xs
   all-every P xs h = all-of-mem P xs (λ x m. h x)
+
+  -- what the entry at each place has, every entry has
+  pub all-places : (P : A → Type 0) (d : A) (xs : List A) → ((j : ℕ) → j < length xs → P (getD xs j d)) → All P xs
+  all-places P d [] h = tt
+  all-places P d (x ∷ xs) h = (h 0 (omega arith), all-places P d xs (λ j l. h (suc j) (omega arith)))
 
   -- both parts have it, the whole has it
   pub all-append : (P : A → Type 0) (xs ys : List A) → All P xs → All P ys → All P (xs ++ ys)

@@ -1,13 +1,13 @@
 -- The vocabulary of tests: taking conjunctions and disjunctions apart and joining them, and what the list tests of
 -- specs/Lists.antt say about entries and places.
 use Prim.Native.Nat.{ℕ, zero, suc, _+_, _≤_, _<_}
-use mathlib.Core.Path.{_≡_, refl, sym, subst, ap}
+use mathlib.Core.Path.{_≡_, refl, sym, subst}
 use mathlib.Core.Logic.{_⊎_, inl, inr}
 use mathlib.Core.Bool.{Bool, true, false, _&&_, _||_, not}
 use mathlib.Core.List.{List, [], _∷_, List·Memᴰ, List·Memᴰ·head, List·Memᴰ·tail, List·Memᴰ·not-nil, List·Memᴰ·cases-cons}
 use native.Mathlib.Omega.{arith}
 use lib.ListN.{length, getD}
-use lib.Dec.{T, eqb, ltb, eqb→eq, eqb-refl, ltb→lt, nltb→le, T-not, not-T}
+use lib.Dec.{T, eqb, ltb, eqb→eq, eqb-refl, ltb→lt, nltb→le, T-not}
 use Rattle.lasso.specs.Lists.{memb, differentb, anyb, consIf, keep, upFrom, below}
 
 -- the first part of a conjunction
@@ -162,7 +162,8 @@ mem-keep p {x} (List·Memᴰ·tail {x = y} {xs = ys} m) h =
     ]
 
 -- entries at two places of a list with all entries different differ
-pub different-places : (xs : List ℕ) → T (differentb xs) → (i j : ℕ) → i < j → j < length xs → getD xs i 0 ≡ getD xs j 0 → ⊥
+pub different-places : (xs : List ℕ) → T (differentb xs) → (i j : ℕ) → i < j → j < length xs
+    → getD xs i 0 ≡ getD xs j 0 → ⊥
 different-places [] d i j p q e = absurd (omega arith)
 different-places (x ∷ xs) d i zero p q e = absurd (omega arith)
 different-places (x ∷ xs) d zero (suc j) p q e =
@@ -192,7 +193,8 @@ repeated (x ∷ xs) d =
     ]
 
 -- a list whose places all hold different entries passes the test
-pub places-different : (xs : List ℕ) → ((i j : ℕ) → i < j → j < length xs → getD xs i 0 ≡ getD xs j 0 → ⊥) → T (differentb xs)
+pub places-different : (xs : List ℕ) → ((i j : ℕ) → i < j → j < length xs → getD xs i 0 ≡ getD xs j 0 → ⊥)
+    → T (differentb xs)
 places-different xs apart =
     elim (decide (differentb xs)) [
       | inl d ↦ d

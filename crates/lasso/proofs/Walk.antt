@@ -2,13 +2,11 @@
 -- paths, and they are what `reachb` tests.
 use Prim.Native.Nat.{ℕ, zero, suc, _+_, _-_, _≤_, _<_}
 use mathlib.Core.Path.{_≡_, refl, sym, _∙_, ap, subst}
-use mathlib.Core.Logic.{_⊎_, inl, inr}
-use mathlib.Core.Bool.{Bool, true, false}
-use mathlib.Core.List.{List, [], _∷_, _++_, List·Memᴰ, List·Memᴰ·head, List·Memᴰ·tail, List·Memᴰ·cases-cons, List·Memᴰ·not-nil}
+use mathlib.Core.Logic.{inl, inr}
+use mathlib.Core.List.{List, [], _∷_, _++_, List·Memᴰ, List·Memᴰ·cases-cons, List·Memᴰ·not-nil}
 use native.Mathlib.Omega.{arith}
 use lib.ListN.{length, getD, length-append}
-use lib.Dec.{T, eqb, eqb→eq}
-use Rattle.lasso.specs.Lists.{anyb}
+use lib.Dec.{T, eqb→eq}
 use Rattle.lasso.specs.Graph.{Graph, WellFormed, edgeb, pathb}
 use Rattle.lasso.specs.Distance.{reachb}
 use Rattle.lasso.proofs.Tests.{fst, snd, both, eq→eqb, anyb-some, some-anyb, memb-mem, mem-memb}
@@ -87,14 +85,16 @@ path-tail g s [] h = tt
 path-tail g s (u ∷ us) h = snd (edgeb g s u) (pathb g (u ∷ us)) h
 
 -- the walk from a path's first state to the one at place j
-pub path-front : (g : Graph) (s : ℕ) (us : List ℕ) → T (pathb g (s ∷ us)) → (j : ℕ) → j ≤ length us → Walk g s (getD (s ∷ us) j 0) j
+pub path-front : (g : Graph) (s : ℕ) (us : List ℕ) → T (pathb g (s ∷ us)) → (j : ℕ) → j ≤ length us
+    → Walk g s (getD (s ∷ us) j 0) j
 path-front g s us h zero l = walk-here s
 path-front g s [] h (suc j) l = absurd (omega arith)
 path-front g s (u ∷ us) h (suc j) l =
     walk-cons (fst (edgeb g s u) (pathb g (u ∷ us)) h) (path-front g u us (snd (edgeb g s u) (pathb g (u ∷ us)) h) j (omega arith))
 
 -- the segment of a path from place i to place j
-pub seg : (g : Graph) (xs : List ℕ) → T (pathb g xs) → (i j : ℕ) → i ≤ j → j < length xs → Walk g (getD xs i 0) (getD xs j 0) (j - i)
+pub seg : (g : Graph) (xs : List ℕ) → T (pathb g xs) → (i j : ℕ) → i ≤ j → j < length xs
+    → Walk g (getD xs i 0) (getD xs j 0) (j - i)
 seg g [] h i j p q = absurd (omega arith)
 seg g (s ∷ us) h zero j p q = walk-length (omega arith) (path-front g s us h j (omega arith))
 seg g (s ∷ us) h (suc i) zero p q = absurd (omega arith)
@@ -102,7 +102,8 @@ seg g (s ∷ us) h (suc i) (suc j) p q =
     walk-length (omega arith) (seg g us (path-tail g s us h) i j (omega arith) (omega arith))
 
 -- the states of a run from a state are states
-pub run-states : {g : Graph} {s t : ℕ} {us : List ℕ} → WellFormed g → s < g .size → Run g s us t → (x : ℕ) → List·Memᴰ x (s ∷ us) → x < g .size
+pub run-states : {g : Graph} {s t : ℕ} {us : List ℕ} → WellFormed g → s < g .size → Run g s us t → (x : ℕ)
+    → List·Memᴰ x (s ∷ us) → x < g .size
 run-states wf l (done e) x m = elim (List·Memᴰ·cases-cons m) [ inl q ↦ rw q l | inr n ↦ absurd (List·Memᴰ·not-nil n) ]
 run-states {s = s} wf l (next {u = u} e r) x m =
     elim (List·Memᴰ·cases-cons m) [
@@ -120,7 +121,8 @@ pub walk-end-state : {g : Graph} {s t m : ℕ} → WellFormed g → s < g .size 
 walk-end-state wf l w = run-end-state wf l (w .1)
 
 -- the entries of a path from a state are states
-pub path-states : (g : Graph) (xs : List ℕ) → WellFormed g → T (pathb g xs) → getD xs 0 0 < g .size → (j : ℕ) → j < length xs → getD xs j 0 < g .size
+pub path-states : (g : Graph) (xs : List ℕ) → WellFormed g → T (pathb g xs) → getD xs 0 0 < g .size → (j : ℕ)
+    → j < length xs → getD xs j 0 < g .size
 path-states g [] wf h l j q = absurd (omega arith)
 path-states g (s ∷ us) wf h l j q = walk-end-state wf l (path-front g s us h j (omega arith))
 
@@ -128,12 +130,12 @@ path-states g (s ∷ us) wf h l j q = walk-end-state wf l (path-front g s us h j
 pub reach-walk : (g : Graph) (m s t : ℕ) → T (reachb g m s t) → Walk g s t m
 reach-walk g zero s t h = ([], done (eqb→eq s t h), refl)
 reach-walk g (suc m) s t h =
-    let r : (u : ℕ) × List·Memᴰ u (g .succs s) × T (reachb g m u t) = anyb-some (λ u. reachb g m u t) (g .succs s) h in
-    walk-cons (mem-memb (r .1)) (reach-walk g m (r .0) t (r .2))
+    let (u, edge, rest) = anyb-some (λ u. reachb g m u t) (g .succs s) h in
+    walk-cons (mem-memb edge) (reach-walk g m u t rest)
 
 -- a walk is found by reachb
 pub walk-reach : (g : Graph) (m s t : ℕ) → Walk g s t m → T (reachb g m s t)
 walk-reach g zero s t w = eq→eqb s t (walk-zero w)
 walk-reach g (suc m) s t w =
-    let r : (u : ℕ) × T (edgeb g s u) × Walk g u t m = walk-uncons w in
-    some-anyb (λ u. reachb g m u t) (memb-mem (r .0) (g .succs s) (r .1)) (walk-reach g m (r .0) t (r .2))
+    let (u, edge, rest) = walk-uncons w in
+    some-anyb (λ v. reachb g m v t) (memb-mem u (g .succs s) edge) (walk-reach g m u t rest)

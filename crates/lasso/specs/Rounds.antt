@@ -9,9 +9,13 @@ use Rattle.lasso.specs.Lists.{keep, below, isSome}
 use Rattle.lasso.specs.Graph.{Graph}
 use Rattle.lasso.specs.Distance.{dist, distPlus}
 
--- the candidates: the marked states that can be reached from the initial state, in ascending number
+-- a state is a candidate if it is marked and can be reached from the initial state
+abbrev pub candidateb : Graph → ℕ → Bool
+candidateb g s = g .marked s && isSome (dist g (g .start) s)
+
+-- the candidates, in ascending number
 abbrev pub candidates : Graph → List ℕ
-candidates g = keep (λ s. g .marked s && isSome (dist g (g .start) s)) (below (g .size))
+candidates g = keep (candidateb g) (below (g .size))
 
 -- the lesser of two lengths; none counts as more than every length
 abbrev pub lesser : Option ℕ → Option ℕ → Option ℕ
