@@ -1,0 +1,148 @@
+-- What an accepted file is, for the layers above: the facts of its tables, and that the graph it holds is well formed.
+use Prim.Native.Nat.{ℕ, zero, suc, _+_, _*_, _-_, _≤_, _<_}
+use mathlib.Core.Path.{_≡_, refl, ap}
+use mathlib.Core.Bool.{true, false, not}
+use mathlib.Core.List.{List, [], List·Memᴰ, Memᴰ·of-map}
+use mathlib.Core.Logic.{inl, inr}
+use native.Mathlib.Omega.{arith}
+use lib.ListN.{length, length-map}
+use borrow.Author.Tests.{lt-ltb, le-ltb, ltb-true}
+use lib.Dec.{T, ltb, ltb→lt, nltb→le}
+use Rattle.lasso.specs.Lists.{memb, upFrom}
+use Rattle.lasso.specs.Graph.{WellFormed, edgeb, ascendingb}
+use Rattle.lasso.proofs.Tests.{lt-or-ge, memb-mem, upFrom-range}
+use Rattle.model.specs.Layout.{states, edgeCount, initial, markBytes, totalOf, rowEntry, target, rowTargets, markBit}
+use Rattle.model.specs.Rules.{rules, Accepted}
+use Rattle.model.specs.Model.{graphOf, listIf}
+use Rattle.model.specs.declared.Header.{Header}
+use Rattle.model.specs.Values.{Valid, headerOf}
+use Rattle.model.proofs.Reasons.{none-clear, not-not}
+use Rattle.model.proofs.Kept.{states-kept, length-kept, row-first-kept, rows-ascend-kept, row-last-kept, targets-kept, order-kept, spare-kept, row-end-within}
+
+-- what acceptance gives of a file's fields and tables
+pub record Facts (f : List ℕ) : Type 0 where
+  pub states-range : (1 ≤ states f) × (states f ≤ 4096)
+  pub edges-range : edgeCount f ≤ 8192
+  pub initial-below : initial f < states f
+  pub file-length : length f ≡ totalOf (states f) (edgeCount f)
+  pub row-first : rowEntry f 0 ≡ 0
+  pub rows-ascend : (s : ℕ) → s < states f → rowEntry f s ≤ rowEntry f (s + 1)
+  pub row-last : rowEntry f (states f) ≡ edgeCount f
+  pub targets-below : (e : ℕ) → e < edgeCount f → target f e < states f
+  pub targets-ascend : (s : ℕ) → s < states f → T (ascendingb (rowTargets f s))
+  pub spare-clear : (s : ℕ) → states f ≤ s → s < 8 * markBytes (states f) → T (not (markBit f s))
+
+-- an accepted file's facts
+pub accepted-facts : (f : List ℕ) → Accepted f → Facts f
+accepted-facts f a =
+    let from2 = none-clear (rules f) a .1 in
+    let from6 = from2 .1 .1 .1 .1 in
+    let from8 = from6 .1 .1 in
+    record {
+      states-range = states-kept f (from2 .0);
+      edges-range = nltb→le 8192 (edgeCount f) (from2 .1 .0);
+      initial-below = ltb→lt (initial f) (states f) (not-not (ltb (initial f) (states f)) (from2 .1 .1 .0));
+      file-length = length-kept f (from6 .0) (from6 .1 .0);
+      row-first = row-first-kept f (from8 .0);
+      rows-ascend = rows-ascend-kept f (from8 .0);
+      row-last = row-last-kept f (from8 .0);
+      targets-below = targets-kept f (from8 .1 .0);
+      targets-ascend = order-kept f (from8 .1 .1 .0);
+      spare-clear = spare-kept f (from8 .1 .1 .1 .0);
+    }
+
+-- a row ends within the edge table
+pub row-end-le : {f : List ℕ} → Facts f → (s : ℕ) → s < states f → rowEntry f (s + 1) ≤ edgeCount f
+row-end-le {f} F s l = row-end-within f (F .rows-ascend) (F .row-last) s l
+
+-- a row's targets are states
+row-targets-below : {f : List ℕ} → Facts f → (s t : ℕ) → s < states f → T (memb t (rowTargets f s)) → t < states f
+row-targets-below {f} F s t l h =
+    let a : ℕ = rowEntry f s in
+    let n : ℕ = rowEntry f (s + 1) - a in
+    let m : (e : ℕ) × List·Memᴰ e (upFrom a n) × (target f e ≡ t) = Memᴰ·of-map (target f) (upFrom a n) (memb-mem t (rowTargets f s) h) in
+    let e : ℕ = m .0 in
+    let r : (a ≤ e) × (e < a + n) = upFrom-range a n (m .1) in
+    omega (arith, m .2, F .targets-below e (omega (arith, row-end-le F s l, F .rows-ascend s l)))
+
+-- a number from N on has no edge
+edge-from-state : (f : List ℕ) (s t : ℕ) → T (edgeb (graphOf f) s t) → (s < states f) × T (memb t (rowTargets f s))
+edge-from-state f s t h =
+    (elim (ltb s (states f)) as (λ b. ltb s (states f) ≡ b → T (memb t (listIf b (rowTargets f s))) → (s < states f) × T (memb t (rowTargets f s))) [
+      | true ↦ λ e m. (ltb-true s (states f) e, m)
+      | false ↦ λ e m. absurd m
+    ]) refl h
+
+-- the successors of a state are its row's targets
+pub succs-row : (f : List ℕ) (s : ℕ) → s < states f → graphOf f .succs s ≡ rowTargets f s
+succs-row f s l = rw (lt-ltb s (states f) l)
+
+-- the mark of a state is its bit
+pub marked-bit : (f : List ℕ) (s : ℕ) → s < states f → graphOf f .marked s ≡ markBit f s
+marked-bit f s l = rw (lt-ltb s (states f) l)
+
+-- a number from N on has no successors
+pub succs-none : (f : List ℕ) (s : ℕ) → states f ≤ s → graphOf f .succs s ≡ []
+succs-none f s l = rw (le-ltb s (states f) l)
+
+-- the successors of every number ascend strictly
+succs-ascend : {f : List ℕ} → Facts f → (s : ℕ) → T (ascendingb (graphOf f .succs s))
+succs-ascend {f} F s =
+    elim (lt-or-ge s (states f)) [
+      | inl l ↦ rw (lt-ltb s (states f) l) (F .targets-ascend s l)
+      | inr g ↦ rw (le-ltb s (states f) g) tt
+    ]
+
+-- the graph of an accepted file is well formed
+pub accepted-well-formed : (f : List ℕ) → Accepted f → WellFormed (graphOf f)
+accepted-well-formed f a =
+    let F : Facts f = accepted-facts f a in
+    record {
+      start-state = F .initial-below;
+      edge-states = λ s t h.
+          let e : (s < states f) × T (memb t (rowTargets f s)) = edge-from-state f s t h in
+          (e .0, row-targets-below F s t (e .0) (e .1));
+      ascending = succs-ascend F;
+    }
+
+-- the numbers of a valid header
+pub record Sizes (f : List ℕ) (h : Header) : Type 0 where
+  pub states-are : h .states ≡ graphOf f .size
+  pub edges-are : h .edges ≡ edgeCount f
+  pub start-is : h .start ≡ graphOf f .start
+  pub states-range : (1 ≤ h .states) × (h .states ≤ 4096)
+  pub edges-range : h .edges ≤ 8192
+  pub start-below : h .start < h .states
+
+-- a file's own header has its numbers
+pub header-numbers : (f : List ℕ) {h : Header} → h ≡ headerOf f → (h .states ≡ states f) × (h .edges ≡ edgeCount f) × (h .start ≡ initial f)
+header-numbers f e = (ap (λ (x : Header). x .states) e, ap (λ (x : Header). x .edges) e, ap (λ (x : Header). x .start) e)
+
+-- a valid header has its file's numbers
+pub valid-sizes : {f : List ℕ} {h : Header} → Valid f h → Sizes f h
+valid-sizes {f} {h} v =
+    let F : Facts f = accepted-facts f (v .accepted) in
+    omega (arith, header-numbers f (v .header))
+
+-- a valid file's facts
+pub valid-facts : {f : List ℕ} {h : Header} → Valid f h → Facts f
+valid-facts {f} v = accepted-facts f (v .accepted)
+
+-- a valid file's graph is well formed
+pub valid-well-formed : {f : List ℕ} {h : Header} → Valid f h → WellFormed (graphOf f)
+valid-well-formed {f} v = accepted-well-formed f (v .accepted)
+
+-- a range has as many numbers as asked
+upFrom-length : (a n : ℕ) → length (upFrom a n) ≡ n
+upFrom-length a zero = refl
+upFrom-length a (suc n) = ap suc (upFrom-length (suc a) n)
+
+-- no number has more than 8,192 successors
+pub succs-length-le : {f : List ℕ} → Facts f → (s : ℕ) → length (graphOf f .succs s) ≤ 8192
+succs-length-le {f} F s =
+    elim (lt-or-ge s (states f)) [
+      | inl l ↦
+          rw (lt-ltb s (states f) l, length-map, upFrom-length)
+          (omega (arith, row-end-le F s l, F .edges-range))
+      | inr g ↦ rw (le-ltb s (states f) g) (omega arith)
+    ]

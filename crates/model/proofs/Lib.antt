@@ -1,0 +1,6 @@
+-- The laws of the model file.
+pub mod Words
+pub mod Range
+pub mod Reasons
+pub mod Kept
+pub mod Laws

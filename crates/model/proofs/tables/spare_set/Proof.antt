@@ -1,0 +1,88 @@
+-- `tables::spare_set` meets its contract: the spare bits from s on decide whether one is set.
+use borrow.Author.Needs.{needs}
+use native.Mathlib.Omega.{arith}
+use Prim.Native.Nat.{_-_}
+use mathlib.Core.Path.{_≡_, sym, _∙_}
+use denote.Ref.{now}
+use Rattle.model.specs.Layout.{markBit}
+use Rattle.model.specs.Rules.{badSpare}
+use Rattle.model.proofs.Range.{Left, left-from, left-found, left-next, left-none}
+use Rattle.model.proofs.tables.spare_set.Statement.{statement}
+use Rattle.model.proofs.tables.spare_set.Tie as tie
+
+abbrev Inv-loop : tie.InvT-loop
+Inv-loop file n m marks end s₀ s = Left (markBit file) (badSpare file) end s
+
+abbrev μ-loop : tie.MeasureT-loop
+μ-loop file n m marks end s₀ s = end - s
+
+-- the bit that a turn of the loop reads
+bit-read : (c : tie.After-bit Inv-loop μ-loop) →
+    let start = c .before .before .before .before in
+    c .bit .result ≡ markBit (now (start .args .file)) (c .before .before .loop .s)
+bit-read c =
+    let start = c .before .before .before .before in
+    rw (start .pre .0 .0, start .pre .0 .1) at (c .bit .ensures)
+
+add-marks : tie.Need-add-marks Inv-loop μ-loop
+add-marks c = search needs
+
+mul-marks : tie.Need-mul-marks Inv-loop μ-loop
+mul-marks c = search needs
+
+add-marks-2 : tie.Need-add-marks-2 Inv-loop μ-loop
+add-marks-2 c = search needs
+
+mul-marks-2 : tie.Need-mul-marks-2 Inv-loop μ-loop
+mul-marks-2 c = search needs
+
+add-marks-3 : tie.Need-add-marks-3 Inv-loop μ-loop
+add-marks-3 c = search needs
+
+add-end : tie.Need-add-end Inv-loop μ-loop
+add-end c = search needs
+
+mul-end : tie.Need-mul-end Inv-loop μ-loop
+mul-end c = search needs
+
+loop-holds : tie.Need-loop-holds Inv-loop μ-loop
+loop-holds c = rw (c .before .pre .0 .0) (left-from (markBit (now (c .before .args .file))) _ _ (omega arith))
+
+bit-requires : tie.Need-bit-requires Inv-loop μ-loop
+bit-requires c κs = search needs
+
+returns : tie.Need-returns Inv-loop μ-loop
+returns c = sym (left-found (c .before .before .before .loop .inv) (search needs) (sym (bit-read (c .before)) ∙ c .if1 .taken))
+
+add-s : tie.Need-add-s Inv-loop μ-loop
+add-s c = search needs
+
+loop-less : tie.Need-loop-less Inv-loop μ-loop
+loop-less c = search needs
+
+loop-again : tie.Need-loop-again Inv-loop μ-loop
+loop-again c = left-next (c .before .before .before .loop .inv) (search needs) (sym (bit-read (c .before)) ∙ c .if1 .left)
+
+returns-2 : tie.Need-returns-2 Inv-loop μ-loop
+returns-2 c = sym (left-none (c .before .loop .inv) (c .loop-test .left))
+
+pub spare-set-spec : {M : Type 1} → statement M
+spare-set-spec =
+    tie.close
+    (tie.spec
+    Inv-loop
+    μ-loop
+    add-marks
+    mul-marks
+    add-marks-2
+    mul-marks-2
+    add-marks-3
+    add-end
+    mul-end
+    loop-holds
+    bit-requires
+    returns
+    add-s
+    loop-less
+    loop-again
+    returns-2)

@@ -1,0 +1,135 @@
+// The model file: its check by the numbered rules, and the leaves by which the layers above read it.
+// The leaves speak of the graph that the file holds, never of its bytes.
+ghost use mathlib.Core.Path.{_≡_};
+ghost use Prim.Native.Nat.{_≤_, _<_};
+ghost use lib.ListN.{length, getD, drop};
+ghost use Rattle.model.specs.Bytes.{words};
+ghost use Rattle.model.specs.Model.{graphOf};
+ghost use Rattle.model.specs.Rules.{firstBroken, rules};
+ghost use Rattle.model.specs.Values.{Valid, headerOf, checkOf};
+
+mod bytes;
+mod tables;
+
+use bytes::bit;
+use bytes::long;
+use bytes::word;
+use tables::offsets_broken;
+use tables::order_broken;
+use tables::row;
+use tables::rows_broken;
+use tables::spare_set;
+use tables::targets_broken;
+
+// The fields of an accepted file that its readers need.
+pub struct Header {
+    pub states: usize,
+    pub edges: usize,
+    pub start: usize,
+}
+
+// The answer of the check: the number of the first broken rule, or the header.
+pub enum Checked {
+    Refused(u16),
+    Accept(Header),
+}
+
+// Applies the rules 1 to 11 in order, each to the whole file before the next.
+pub fn check(file: &[u8]) -> Checked
+    ensures { λ r. ⌜ r ≡ checkOf (now (file .entry)) ⌝ }
+{
+    if file.len() < 24 {
+        return Checked::Refused(1);
+    }
+    let states = word(file, 0);
+    let edges = word(file, 2);
+    let start = word(file, 4);
+    if states == 0 {
+        return Checked::Refused(2);
+    }
+    if 4096 < states {
+        return Checked::Refused(2);
+    }
+    if 8192 < edges {
+        return Checked::Refused(3);
+    }
+    if states <= start {
+        return Checked::Refused(4);
+    }
+    if word(file, 6) != 0 {
+        return Checked::Refused(5);
+    }
+    let header = Header {
+        states,
+        edges,
+        start,
+    };
+    check_tables(file, header)
+}
+
+// Applies the rules 6 to 11 to a file that keeps the rules 1 to 5.
+fn check_tables(file: &[u8], h: Header) -> Checked
+    requires { ⌜ 24 ≤ length (now file) ⌝ }
+    requires { ⌜ h ≡ headerOf (now file) ⌝ }
+    requires { ⌜ (h .states ≤ 4096) × (h .edges ≤ 8192) ⌝ }
+    requires { ⌜ firstBroken (rules (now file)) ≡ firstBroken (drop 5 (rules (now file))) ⌝ }
+    ensures { λ r. ⌜ r ≡ checkOf (now (file .entry)) ⌝ }
+{
+    let n = h.states;
+    let m = h.edges;
+    if offsets_broken(file, n, m) {
+        return Checked::Refused(6);
+    }
+    if file.len() != long(file, 20) {
+        return Checked::Refused(7);
+    }
+    if rows_broken(file, n, m) {
+        return Checked::Refused(8);
+    }
+    if targets_broken(file, n, m) {
+        return Checked::Refused(9);
+    }
+    if order_broken(file, n, m) {
+        return Checked::Refused(10);
+    }
+    if spare_set(file, n, m) {
+        return Checked::Refused(11);
+    }
+    Checked::Accept(h)
+}
+
+// The part of the file that holds the targets of one state's row.
+pub fn row_part(file: &[u8], h: Header, s: usize) -> &[u8]
+    requires { ⌜ Valid (now file) h ⌝ }
+    requires { ⌜ s < h .states ⌝ }
+    ensures { λ r. ⌜ words (now r) ≡ graphOf (now (file .entry)) .succs s ⌝ }
+{
+    let states = h.states;
+    row(file, states, s)
+}
+
+// The number of successors that a row's part holds.
+pub fn degree(part: &[u8]) -> usize
+    ensures { λ r. ⌜ r ≡ length (words (now (part .entry))) ⌝ }
+{
+    part.len() / 2
+}
+
+// The successor at place k of a row's part.
+pub fn successor(part: &[u8], k: usize) -> usize
+    requires { ⌜ k < length (words (now part)) ⌝ }
+    ensures { λ r. ⌜ r ≡ getD (words (now (part .entry))) k 0 ⌝ }
+{
+    word(part, 2 * k)
+}
+
+// State s is marked.
+pub fn is_marked(file: &[u8], h: Header, s: usize) -> bool
+    requires { ⌜ Valid (now file) h ⌝ }
+    requires { ⌜ s < h .states ⌝ }
+    ensures { λ r. ⌜ r ≡ graphOf (now (file .entry)) .marked s ⌝ }
+{
+    let states = h.states;
+    let edges = h.edges;
+    bit(file, 24 + 2 * (states + 1) + 2 * edges, s)
+}

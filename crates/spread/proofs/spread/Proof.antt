@@ -1,0 +1,318 @@
+-- `spread` meets its contract. Each loop keeps the state of the search: the levels' loop with the queue looked at up to
+-- `at`, the queue's loop within a level, the successors' loop within a row. The measures are the levels, queue entries and
+-- successors left.
+use Prim.Native.Nat.{ℕ, _+_, _-_, _≤_, _<_}
+use mathlib.Core.Path.{_≡_, _∙_, ap, subst}
+use mathlib.Core.List.{List}
+use native.Mathlib.Omega.{arith}
+use lib.ListN.{length, getD}
+use lib.Dec.{T}
+use Rattle.lasso.specs.Graph.{Graph, edgeb}
+use Rattle.lasso.proofs.Tests.{at-memb}
+use Rattle.model.specs.Model.{graphOf}
+use Rattle.model.proofs.Laws.{Sizes, valid-sizes, valid-well-formed}
+use Rattle.spread.specs.Search.{State}
+use Rattle.spread.proofs.PushLaws.{queue-room}
+use Rattle.spread.proofs.RowLaws.{Row, planned-state, row-start, row-inside, row-hit, row-step, row-done, level-done}
+use Rattle.spread.proofs.EndLaws.{found, exhausted}
+use Rattle.spread.proofs.spread.Statement.{statement}
+use Rattle.spread.proofs.spread.Tie as tie
+
+abbrev Inv-loop2 : tie.InvT-loop2
+Inv-loop2 file h work₀ limit target n level at count₀ end s part d k₀ work count k =
+    (w : List ℕ) → Row n (graphOf file .succs) limit target w (level + 1) at end count₀ s k₀ work₀ →
+    Row n (graphOf file .succs) limit target w (level + 1) at end count s k work
+
+abbrev μ-loop2 : tie.MeasureT-loop2
+μ-loop2 file h work₀ limit target n level at count₀ end s part d k₀ work count k = d - k
+
+abbrev Inv-loop : tie.InvT-loop
+Inv-loop file h work₀ limit target n level at₀ count₀ end work at count =
+    (w : List ℕ) → State n (graphOf file .succs) limit target w (level + 1) at₀ end count₀ work₀ →
+    State n (graphOf file .succs) limit target w (level + 1) at end count work
+
+abbrev μ-loop : tie.MeasureT-loop
+μ-loop file h work₀ limit target n level at₀ count₀ end work at count = end - at
+
+abbrev Inv-levels : tie.InvT-levels
+Inv-levels file h work₀ limit target n level₀ at₀ count₀ work level at count =
+    (level ≤ limit) ×
+    ((w : List ℕ) → State n (graphOf file .succs) limit target w level₀ at₀ at₀ count₀ work₀ →
+    State n (graphOf file .succs) limit target w level at at count work)
+
+abbrev μ-levels : tie.MeasureT-levels
+μ-levels file h work₀ limit target n level₀ at₀ count₀ work level at count = limit - level
+
+-- the places that the answers speak of: entry, a level's turn, a queue entry's turn, a successor's turn, a successor read
+abbrev Start : Type 0
+Start = tie.Start Inv-loop2 μ-loop2 Inv-loop μ-loop Inv-levels μ-levels
+
+abbrev At-levels : Type 0
+At-levels = tie.At-levels Inv-loop2 μ-loop2 Inv-loop μ-loop Inv-levels μ-levels
+
+abbrev At-loop : Type 0
+At-loop = tie.At-loop Inv-loop2 μ-loop2 Inv-loop μ-loop Inv-levels μ-levels
+
+abbrev At-loop2 : Type 0
+At-loop2 = tie.At-loop2 Inv-loop2 μ-loop2 Inv-loop μ-loop Inv-levels μ-levels
+
+abbrev After-successor : Type 0
+After-successor = tie.After-successor Inv-loop2 μ-loop2 Inv-loop μ-loop Inv-levels μ-levels
+
+-- the entry, from a level's turn
+abbrev start : At-levels → Start
+start c = c .before .before .before .before .before .before .before
+
+-- the level's turn, from a queue entry's turn
+abbrev level-of : At-loop → At-levels
+level-of c = c .before .before .before .before .before .before
+
+-- the queue entry's turn, from a successor's turn
+abbrev queue-of : At-loop2 → At-loop
+queue-of c = c .before .before .before .before .before .before
+
+-- the entry, from a successor's turn
+abbrev row-entry : At-loop2 → Start
+row-entry c = start (level-of (queue-of c))
+
+-- the state whose successors are looked at
+abbrev row-s : At-loop2 → ℕ
+row-s c = c .before .before .before .get .result
+
+-- the level's last queue entry, plus one
+abbrev end-of : At-loop → ℕ
+end-of c = c .before .before .before .admit .result
+
+-- the file's graph
+abbrev graph : Start → Graph
+graph c = graphOf (c .args .file .now)
+
+-- the numbers of the file and its header
+sizes : (c : Start) → Sizes (c .args .file .now) (c .args .h)
+sizes c = valid-sizes (c .pre .0)
+
+-- the search at a level's turn
+level-state : (c : At-levels) →
+    let a = start c .args in
+    let l = c .levels in
+    State (a .h .states) (graph (start c) .succs) (a .limit) (a .target) (a .work .now) (l .level) (l .at) (l .at) (l .count) (l .work)
+level-state c =
+    let a = start c .args in
+    c .levels .inv .1 (a .work .now) (planned-state (start c .pre .1 .0) (start c .pre .1 .1) (c .before .before .before .plan .ensures))
+
+-- a level's queue entries are gone through below the limit only
+level-below : (c : At-loop) → level-of c .levels .level < start (level-of c) .args .limit
+level-below c = omega arith
+
+-- the search at a queue entry's turn
+queue-state : (c : At-loop) →
+    let a = start (level-of c) .args in
+    let l = c .loop in
+    State (a .h .states) (graph (start (level-of c)) .succs) (a .limit) (a .target) (a .work .now) (level-of c .levels .level + 1) (l .at) (end-of c) (l .count) (l .work)
+queue-state c =
+    let a = start (level-of c) .args in
+    c .loop .inv (a .work .now)
+    (c .before .before .before .admit .ensures (graph (start (level-of c)) .succs) (a .limit) (a .target) (a .work .now) (level-of c .levels .at) (level-below c) (level-state (level-of c)))
+
+-- the search at a successor's turn
+row-state : (c : At-loop2) →
+    let a = row-entry c .args in
+    let l = c .loop2 in
+    Row (a .h .states) (graph (row-entry c) .succs) (a .limit) (a .target) (a .work .now) (level-of (queue-of c) .levels .level + 1) (queue-of c .loop .at) (end-of (queue-of c)) (l .count) (row-s c) (l .k) (l .work)
+row-state c =
+    let a = row-entry c .args in
+    c .loop2 .inv (a .work .now) (row-start (omega arith) (c .before .before .before .get .ensures .0) (queue-state (queue-of c)))
+
+-- the row's number of successors
+degree-told : (c : At-loop2) → c .before .degree .result ≡ length (graph (row-entry c) .succs (row-s c))
+degree-told c = c .before .degree .ensures ∙ ap length (c .before .before .row-part .ensures)
+
+-- the successor that is looked at
+successor-told : (c : After-successor) →
+    let r = c .before .before in
+    c .successor .result ≡ getD (graph (row-entry r) .succs (row-s r)) (r .loop2 .k) 0
+successor-told c =
+    c .successor .ensures ∙ ap (λ (ws : List ℕ). getD ws (c .before .before .loop2 .k) 0) (c .before .before .before .before .row-part .ensures)
+
+-- there is an edge to it
+successor-edge : (c : After-successor) →
+    let r = c .before .before in
+    T (edgeb (graph (row-entry r)) (row-s r) (c .successor .result))
+successor-edge c =
+    let r = c .before .before in
+    let us = graph (row-entry r) .succs (row-s r) in
+    rw (successor-told c) (at-memb us (r .loop2 .k) (omega (arith, degree-told r)))
+
+-- it is a state
+successor-inside : (c : After-successor) →
+    c .successor .result < start (level-of (queue-of (c .before .before))) .args .h .states
+successor-inside c =
+    let r = c .before .before in
+    let s = row-entry r in
+    omega (arith, valid-well-formed (s .pre .0) .edge-states (row-s r) (c .successor .result) (successor-edge c) .1, sizes s .states-are)
+
+plan-requires : tie.Need-plan-requires Inv-loop2 μ-loop2 Inv-loop μ-loop Inv-levels μ-levels
+plan-requires c κs = let z = sizes (c .before .before .before) in (z .states-range .1, (c .before .before .before .pre .1 .0, c .before .before .before .pre .1 .1))
+
+levels-holds : tie.Need-levels-holds Inv-loop2 μ-loop2 Inv-loop μ-loop Inv-levels μ-levels
+levels-holds c = (omega arith, λ w S. S)
+
+same-length : tie.Need-same-length Inv-loop2 μ-loop2 Inv-loop μ-loop Inv-levels μ-levels
+same-length c = level-state (c .before) .outside .same-length
+
+returns : tie.Need-returns Inv-loop2 μ-loop2 Inv-loop μ-loop Inv-levels μ-levels
+returns c =
+    let s = start (c .before) in
+    let a = s .args in
+    let l = c .before .levels in
+    exhausted (valid-well-formed (s .pre .0)) (omega arith)
+    (subst (λ (n : ℕ). State n (graph s .succs) (a .limit) (a .target) (a .work .now) (l .level) (l .at) (l .at) (l .count) (l .work)) (sizes s .states-are) (level-state (c .before)))
+
+admit-requires : tie.Need-admit-requires Inv-loop2 μ-loop2 Inv-loop μ-loop Inv-levels μ-levels
+admit-requires c κs =
+    let s = start (c .before .before) in (
+      sizes s .states-range .1,
+      record {
+        succs = graph s .succs;
+        limit = s .args .limit;
+        target = s .args .target;
+        origin = s .args .work .now;
+        at = c .before .before .levels .at;
+        below = omega arith;
+        state = level-state (c .before .before);
+      },
+    )
+
+loop-holds : tie.Need-loop-holds Inv-loop2 μ-loop2 Inv-loop μ-loop Inv-levels μ-levels
+loop-holds c = λ w S. S
+
+mul-get : tie.Need-mul-get Inv-loop2 μ-loop2 Inv-loop μ-loop Inv-levels μ-levels
+mul-get c = omega (arith, sizes (start (level-of (c .before .before))) .states-range .1)
+
+add-get : tie.Need-add-get Inv-loop2 μ-loop2 Inv-loop μ-loop Inv-levels μ-levels
+add-get c = let S = queue-state (c .before .before) in omega (arith, sizes (start (level-of (c .before .before))) .states-range .1, S .end-count, S .queue .within)
+
+get-requires : tie.Need-get-requires Inv-loop2 μ-loop2 Inv-loop μ-loop Inv-levels μ-levels
+get-requires c κs = let S = queue-state (c .before .before) in omega (arith, S .fits, S .end-count, S .queue .within)
+
+row-part-requires :
+    tie.Need-row-part-requires Inv-loop2 μ-loop2 Inv-loop μ-loop Inv-levels μ-levels
+row-part-requires c κs =
+    let q = c .before .before .before in
+    (start (level-of q) .pre .0, row-inside (level-of q .levels .level) (row-start (omega arith) (c .get .ensures .0) (queue-state q)))
+
+degree-requires : tie.Need-degree-requires Inv-loop2 μ-loop2 Inv-loop μ-loop Inv-levels μ-levels
+degree-requires c κs = tt
+
+loop2-holds : tie.Need-loop2-holds Inv-loop2 μ-loop2 Inv-loop μ-loop Inv-levels μ-levels
+loop2-holds c = λ w R. R
+
+successor-requires :
+    tie.Need-successor-requires Inv-loop2 μ-loop2 Inv-loop μ-loop Inv-levels μ-levels
+successor-requires c κs = omega (arith, c .before .before .degree .ensures)
+
+add-reach : tie.Need-add-reach Inv-loop2 μ-loop2 Inv-loop μ-loop Inv-levels μ-levels
+add-reach c = omega (arith, start (level-of (queue-of (c .before .before .before .before))) .pre .1 .0, sizes (start (level-of (queue-of (c .before .before .before .before)))) .states-range .1)
+
+reach-requires : tie.Need-reach-requires Inv-loop2 μ-loop2 Inv-loop μ-loop Inv-levels μ-levels
+reach-requires c κs =
+    let t = c .before .before in
+    let r = t .before .before in
+    let s = row-entry r in
+    let R = row-state r in
+    (sizes s .states-range .1, (successor-inside t, (omega (arith, level-below (queue-of r), s .pre .1 .0), (R .state .fits, queue-room (t .successor .result) (R .state .fits) (R .state .queue) (successor-inside t)))))
+
+add-k : tie.Need-add-k Inv-loop2 μ-loop2 Inv-loop μ-loop Inv-levels μ-levels
+add-k c = omega arith
+
+loop2-less : tie.Need-loop2-less Inv-loop2 μ-loop2 Inv-loop μ-loop Inv-levels μ-levels
+loop2-less c = omega arith
+
+loop2-again : tie.Need-loop2-again Inv-loop2 μ-loop2 Inv-loop μ-loop Inv-levels μ-levels
+loop2-again c =
+    let e = c .before .before .before .before in
+    let t = e .before in
+    let r = t .before .before in
+    λ w R. row-step (level-of (queue-of r) .levels .level) (r .loop2 .inv w R) (t .successor .result) (successor-told t) (omega (arith, degree-told r)) (successor-inside t) (e .if2 .left) (c .before .before .reach .ensures)
+
+add-at : tie.Need-add-at Inv-loop2 μ-loop2 Inv-loop μ-loop Inv-levels μ-levels
+add-at c = omega arith
+
+loop-less : tie.Need-loop-less Inv-loop2 μ-loop2 Inv-loop μ-loop Inv-levels μ-levels
+loop-less c = omega arith
+
+loop-again : tie.Need-loop-again Inv-loop2 μ-loop2 Inv-loop μ-loop Inv-levels μ-levels
+loop-again c =
+    let q = queue-of (c .before) in
+    λ w S.
+    row-done (level-of q .levels .level) (c .before .loop2 .inv w (row-start (omega arith) (c .before .before .before .before .get .ensures .0) (q .loop .inv w S))) (omega (arith, degree-told (c .before)))
+
+add-level : tie.Need-add-level Inv-loop2 μ-loop2 Inv-loop μ-loop Inv-levels μ-levels
+add-level c = omega arith
+
+levels-less : tie.Need-levels-less Inv-loop2 μ-loop2 Inv-loop μ-loop Inv-levels μ-levels
+levels-less c = omega arith
+
+levels-again : tie.Need-levels-again Inv-loop2 μ-loop2 Inv-loop μ-loop Inv-levels μ-levels
+levels-again c =
+    let l = level-of (c .before) in (
+      omega (arith, level-below (c .before)),
+      λ w S.
+          level-done (omega arith)
+          (c .before .loop .inv w (c .before .before .before .before .admit .ensures (graph (start l) .succs) (start l .args .limit) (start l .args .target) w (l .levels .at) (level-below (c .before)) (l .levels .inv .1 w S))),
+    )
+
+add-length : tie.Need-add-length Inv-loop2 μ-loop2 Inv-loop μ-loop Inv-levels μ-levels
+add-length c = omega arith
+
+same-length-2 : tie.Need-same-length-2 Inv-loop2 μ-loop2 Inv-loop μ-loop Inv-levels μ-levels
+same-length-2 c = row-state (c .before .before .before) .state .outside .same-length
+
+returns-2 : tie.Need-returns-2 Inv-loop2 μ-loop2 Inv-loop μ-loop Inv-levels μ-levels
+returns-2 c =
+    let t = c .before in
+    let r = t .before .before in
+    let l = level-of (queue-of r) in
+    let s = start l in
+    let a = s .args in
+    let R = subst (λ (n : ℕ). Row n (graph s .succs) (a .limit) (a .target) (a .work .now) (l .levels .level + 1) (queue-of r .loop .at) (end-of (queue-of r)) (r .loop2 .count) (row-s r) (r .loop2 .k) (r .loop2 .work)) (sizes s .states-are) (row-state r) in
+    found (l .levels .level) (valid-well-formed (s .pre .0)) (level-below (queue-of r)) (R .state) (row-hit (l .levels .level) R)
+    (subst (λ (x : ℕ). T (edgeb (graph s) (row-s r) x)) (c .if2 .taken) (successor-edge t))
+
+pub spread-spec : {M : Type 1} → statement M
+spread-spec =
+    tie.close
+    (tie.spec
+    Inv-loop2
+    μ-loop2
+    Inv-loop
+    μ-loop
+    Inv-levels
+    μ-levels
+    plan-requires
+    levels-holds
+    same-length
+    returns
+    admit-requires
+    loop-holds
+    mul-get
+    add-get
+    get-requires
+    row-part-requires
+    degree-requires
+    loop2-holds
+    successor-requires
+    add-reach
+    reach-requires
+    add-k
+    loop2-less
+    loop2-again
+    add-at
+    loop-less
+    loop-again
+    add-level
+    levels-less
+    levels-again
+    add-length
+    same-length-2
+    returns-2)

@@ -1,0 +1,82 @@
+// Distances from a state, and walks through a mark: one search, or two, of which the second goes on from the marked
+// states at the levels that the first gave them.
+ghost use mathlib.Core.Path.{_≡_};
+ghost use Prim.Native.Nat.{_*_, _≤_, _<_};
+ghost use lib.ListN.{length};
+ghost use Rattle.model.specs.Values.{Valid};
+ghost use Rattle.model.specs.Model.{graphOf};
+ghost use Rattle.table.specs.Changes.{SameOutside};
+ghost use Rattle.spread.specs.Contracts.{SpreadFrom};
+ghost use Rattle.spread.specs.Through.{DistancesWithin, markedSources, LoopLength, Started, KeptMarked};
+use crate::Answer;
+use crate::spread;
+use model::Header;
+use model::is_marked;
+use table::clear;
+use table::put;
+
+// Makes x the one source, at level 0.
+fn start_at(work: &mut [u16], n: usize, x: usize)
+    requires { ⌜ x < n ⌝ }
+    requires { ⌜ 6 * n ≤ length (now work) ⌝ }
+    ensures { λ _. ⌜ Started n x (now (work .entry)) (now (work .exit)) ⌝ }
+{
+    clear(work, 2 * n, 3 * n);
+    put(work, 2 * n + x, 1);
+}
+
+// Leaves the levels of the marked states alone, so that these are the sources of a next search.
+fn keep_marked(file: &[u8], h: Header, work: &mut [u16])
+    requires { ⌜ Valid (now file) h ⌝ }
+    requires { ⌜ 6 * h .states ≤ length (now work) ⌝ }
+    ensures { λ _. ⌜ KeptMarked (graphOf (now (file .entry))) (now (work .entry)) (now (work .exit)) ⌝ }
+{
+    let n = h.states;
+    let mut s = 0;
+    while s < n {
+        if !is_marked(file, h, s) {
+            put(work, 2 * n + s, 0);
+        }
+        s += 1;
+    }
+}
+
+// Puts the distances from x, up to the limit, into region 2. No state has the number n, so no edge leads into that
+// target.
+pub fn distances(file: &[u8], h: Header, work: &mut [u16], x: usize, limit: usize)
+    requires { ⌜ Valid (now file) h ⌝ }
+    requires { ⌜ x < h .states ⌝ }
+    requires { ⌜ 1 ≤ limit ⌝ }
+    requires { ⌜ limit ≤ h .states ⌝ }
+    requires { ⌜ 6 * h .states ≤ length (now work) ⌝ }
+    ensures { λ _. ⌜ DistancesWithin (graphOf (now (file .entry))) x limit (now (work .entry)) (now (work .exit)) ⌝ }
+{
+    let n = h.states;
+    start_at(work, n, x);
+    spread(file, h, work, limit, n);
+}
+
+// Searches on from the marked states, at the levels that region 2 holds for them.
+pub fn from_marks(file: &[u8], h: Header, work: &mut [u16], limit: usize, target: usize) -> Answer
+    requires { ⌜ Valid (now file) h ⌝ }
+    requires { ⌜ limit ≤ h .states ⌝ }
+    requires { ⌜ 6 * h .states ≤ length (now work) ⌝ }
+    ensures { λ r. ⌜ SpreadFrom (graphOf (now (file .entry))) (markedSources (graphOf (now (file .entry))) limit (now (work .entry))) limit target (now (work .entry)) (now (work .exit)) r ⌝ }
+{
+    keep_marked(file, h, work);
+    spread(file, h, work, limit, target)
+}
+
+// The loop length of x, the least length of a closed walk from x through a mark, if it is at most the limit.
+pub fn loop_length(file: &[u8], h: Header, work: &mut [u16], x: usize, limit: usize) -> Answer
+    requires { ⌜ Valid (now file) h ⌝ }
+    requires { ⌜ x < h .states ⌝ }
+    requires { ⌜ 1 ≤ limit ⌝ }
+    requires { ⌜ limit ≤ h .states ⌝ }
+    requires { ⌜ 6 * h .states ≤ length (now work) ⌝ }
+    ensures answer { λ r. ⌜ LoopLength (graphOf (now (file .entry))) x limit r ⌝ }
+    ensures same { λ r. ⌜ SameOutside (2 * h .states) (6 * h .states) (now (work .entry)) (now (work .exit)) ⌝ }
+{
+    distances(file, h, work, x, limit);
+    from_marks(file, h, work, limit, x)
+}
