@@ -1,0 +1,230 @@
+-- Laws of the working table during a round: the distances from the start in region 0, what they say about candidates,
+-- and the start levels in region 2.
+use Prim.Native.Nat.{ℕ, suc, _+_, _*_, _≤_, _<_}
+use mathlib.Core.Path.{_≡_, refl, sym, _∙_, ap, ap₂}
+use mathlib.Core.Logic.{inl, inr}
+use mathlib.Core.Bool.{Bool, true, false, _&&_}
+use mathlib.Core.List.{List}
+use mathlib.Core.Option.{Option, some, none}
+use native.Mathlib.Omega.{arith}
+use lib.ListN.{length, getD, set}
+use lib.Seq.{getD-set-same, getD-set-other}
+use Rattle.lasso.specs.Lists.{isSome}
+use Rattle.lasso.specs.Graph.{Graph}
+use Rattle.lasso.specs.Distance.{dist}
+use Rattle.lasso.specs.Rounds.{candidateb, sum, roundLength}
+use Rattle.lasso.proofs.Tests.{lt-or-ge}
+use Rattle.lasso.proofs.Distance.{dist-below}
+use Rattle.model.specs.declared.Header.{Header}
+use Rattle.model.specs.Model.{graphOf}
+use Rattle.model.proofs.Laws.{valid-sizes}
+use Rattle.table.specs.Changes.{SameOutside, Copied}
+use Rattle.table.proofs.Laws.{sameOutside-refl, sameOutside-widen, sameOutside-trans, sameOutside-set}
+use Rattle.spread.specs.Regions.{entry, entryOf, valueOf}
+use Rattle.spread.specs.Hit.{under, hitLength}
+use Rattle.spread.specs.Through.{DistancesWithin}
+use Rattle.spread.specs.Contracts.{FoundFrom, ExhaustedFrom, sources}
+use Rattle.spread.proofs.UnderLaws.{under-all, under-some}
+use Rattle.rounds.specs.Contracts.{StartDistances, Started, Ready}
+use Rattle.rounds.proofs.Laws.{valueOf-entryOf, entryOf-le, under-sum, round-found}
+
+-- an entry of region 0 stands at the state's own place
+entry-zero : (n : ℕ) (w : List ℕ) (s : ℕ) → entry 0 n w s ≡ getD w s 0
+entry-zero n w s = let e : 0 * n + s ≡ s = omega arith in ap (λ (i : ℕ). getD w i 0) e
+
+-- the distances from the start, found in region 2 and copied to region 0
+pub started : {g : Graph} {n x : ℕ} {w w₁ w' : List ℕ} → n ≡ g .size → x ≡ g .start
+    → DistancesWithin g x n w w₁ → Copied (2 * n) 0 n w₁ w' → Started g w w'
+started {g} {n} {x} {w} {w₁} {w'} en ex found copied =
+    record {
+      same-length = copied .others .same-length ∙ found .outside .same-length;
+      start-distances = record { distances = at };
+      same-loops = λ i p q. copied .others .same-after i (omega arith) ∙ found .outside .same-before i (omega arith);
+      same-after = λ i p. copied .others .same-after i (omega arith) ∙ found .outside .same-after i (omega arith);
+    }
+  where
+    at : (t : ℕ) → t < g .size → entry 0 (g .size) w' t ≡ entryOf (dist g (g .start) t)
+    at t l =
+        let d : DistancesWithin g (g .start) (g .size) w w₁ = rw (en, ex) at found in
+        let all : under (suc (g .size)) (dist g (g .start) t) ≡ dist g (g .start) t =
+        under-all (suc (g .size)) (dist g (g .start) t) (λ k e. omega (arith, dist-below g (g .start) t k e)) in
+        let c : Copied (2 * g .size) 0 (g .size) w₁ w' = rw en at copied in
+        let q : 0 * g .size + t ≡ 0 + t = omega arith in
+        ap (λ (i : ℕ). getD w' i 0) q ∙ c .copies t l ∙ d .distances t l ∙ ap entryOf all
+
+-- the entry of region 0 for a state is that of its distance from the start
+start-entry : {g : Graph} {w : List ℕ} → StartDistances g w → (s : ℕ) → s < g .size
+    → getD w s 0 ≡ entryOf (dist g (g .start) s)
+start-entry {g} {w} d s l = sym (entry-zero (g .size) w s) ∙ d .distances s l
+
+-- there is a value if its entry is not zero
+isSome-entry : (a : Option ℕ) → 0 < entryOf a → isSome a ≡ true
+isSome-entry none h = absurd (omega arith)
+isSome-entry (some v) h = refl
+
+-- there is no value if its entry is zero
+none-entry : (a : Option ℕ) → entryOf a ≡ 0 → isSome a ≡ false
+none-entry none e = refl
+none-entry (some v) e = absurd (omega arith)
+
+-- a conjunction with true is its first part
+and-true : (a : Bool) → a && true ≡ a
+and-true true = refl
+and-true false = refl
+
+-- a conjunction with false is false
+and-false : (a : Bool) → a && false ≡ false
+and-false true = refl
+and-false false = refl
+
+-- a state that is not reached from the start is no candidate
+pub candidate-unreached : {g : Graph} {w : List ℕ} → StartDistances g w → (s : ℕ) → s < g .size
+    → getD w s 0 ≡ 0 → candidateb g s ≡ false
+candidate-unreached {g} d s l e =
+    ap (λ (b : Bool). g .marked s && b) (none-entry (dist g (g .start) s) (sym (start-entry d s l) ∙ e))
+    ∙ and-false (g .marked s)
+
+-- a state that is reached from the start is a candidate if it is marked
+pub candidate-reached : {g : Graph} {w : List ℕ} → StartDistances g w → (s : ℕ) → s < g .size
+    → 0 < getD w s 0 → candidateb g s ≡ g .marked s
+candidate-reached {g} d s l p =
+    ap (λ (b : Bool). g .marked s && b) (isSome-entry (dist g (g .start) s) (omega (arith, start-entry d s l)))
+    ∙ and-true (g .marked s)
+
+-- a change inside regions 2 to 5 leaves the table ready
+pub ready-kept : {f : List ℕ} {h : Header} {w w' : List ℕ} → Ready f h w
+    → SameOutside (2 * h .states) (6 * h .states) w w' → Ready f h w'
+ready-kept {f} {h} {w} {w'} ready same =
+    let sizes = valid-sizes (ready .valid) in
+    record {
+      valid = ready .valid;
+      room = omega (arith, ready .room, same .same-length);
+      start-distances = record {
+        distances = λ t l.
+            same .same-before (0 * graphOf f .size + t) (omega arith) ∙ ready .start-distances .distances t l;
+      };
+    }
+
+-- after the distances from r are found, region 0 holds those from the start
+ready-start : {f : List ℕ} {h : Header} {w w₁ : List ℕ} {r limit : ℕ} → Ready f h w
+    → DistancesWithin (graphOf f) r limit w w₁ → (s : ℕ) → s < graphOf f .size
+    → entry 0 (graphOf f .size) w₁ s ≡ entryOf (dist (graphOf f) (graphOf f .start) s)
+ready-start {f} ready found s l =
+    found .outside .same-before (0 * graphOf f .size + s) (omega arith) ∙ ready .start-distances .distances s l
+
+-- the entries of region 2 for the first s states are those of the sums of what regions 0 and 2 held
+abbrev pub Sums : ℕ → ℕ → List ℕ → List ℕ → Type 0
+Sums n s w w' = (t : ℕ) → t < s → entry 2 n w' t ≡ entryOf (sum (valueOf (entry 0 n w t)) (valueOf (entry 2 n w t)))
+
+-- the sums for the first s states stand in region 2, and all other entries are as before
+pub record Added (n s : ℕ) (w w' : List ℕ) : Type 0 where
+  pub others : SameOutside (2 * n) (2 * n + s) w w'
+  pub sums : Sums n s w w'
+
+-- at first nothing is added
+pub added-none : (n : ℕ) (w : List ℕ) → Added n 0 w w
+added-none n w =
+    record {
+      others = sameOutside-widen (2 * n) (2 * n + 0) (omega arith) (omega arith) (sameOutside-refl (2 * n) (2 * n) w);
+      sums = λ t l. absurd (omega arith);
+    }
+
+-- the entry of region 0 for a state is as before
+added-start : {n s : ℕ} {w w' : List ℕ} → s < n → Added n s w w' → getD w' s 0 ≡ entry 0 n w s
+added-start {n} {s} {w} l a = a .others .same-before s (omega arith) ∙ sym (entry-zero n w s)
+
+-- the entry of region 2 for the next state is as before
+added-level : {n s : ℕ} {w w' : List ℕ} → Added n s w w' → getD w' (2 * n + s) 0 ≡ entry 2 n w s
+added-level {n} {s} a = a .others .same-after (2 * n + s) (omega arith)
+
+-- the two entries for the next state are small enough to be added if they were at first
+pub added-fits : {n s : ℕ} {w w' : List ℕ} → s < n → entry 0 n w s + entry 2 n w s ≤ 65536 → Added n s w w'
+    → getD w' s 0 + getD w' (2 * n + s) 0 ≤ 65536
+added-fits l fits a = omega (arith, added-start l a, added-level a)
+
+-- one more sum is added by storing its entry
+pub added-more : {n s x y v : ℕ} {w w' : List ℕ} → s < n → 3 * n ≤ length w → Added n s w w'
+    → x ≡ getD w' s 0 → y ≡ getD w' (2 * n + s) 0 → v ≡ entryOf (sum (valueOf x) (valueOf y))
+    → Added n (s + 1) w (set w' (2 * n + s) v)
+added-more {n} {s} {x} {y} {v} {w} {w'} l room a ex ey e =
+    record {
+      others = sameOutside-set (2 * n + s) v (omega arith) (omega arith) (sameOutside-widen (2 * n) (2 * n + (s + 1)) (omega arith) (omega arith) (a .others));
+      sums = λ t m. elim (lt-or-ge t s) [
+        | inl less ↦ getD-set-other w' (2 * n + s) (2 * n + t) v 0 (omega arith) ∙ a .sums t less
+        | inr more ↦ let q : t ≡ s = omega arith in rw q here
+      ];
+    }
+  where
+    here : getD (set w' (2 * n + s) v) (2 * n + s) 0 ≡ entryOf (sum (valueOf (entry 0 n w s)) (valueOf (entry 2 n w s)))
+    here =
+        getD-set-same w' (2 * n + s) v 0 (omega (arith, a .others .same-length)) ∙ e
+        ∙ ap₂ (λ (i j : ℕ). entryOf (sum (valueOf i) (valueOf j))) (ex ∙ added-start l a) (ey ∙ added-level a)
+
+-- a distance from the start and one from r, in regions 0 and 2, are small enough to be added
+pub round-fits : {f : List ℕ} {h : Header} {w w₁ : List ℕ} {r limit : ℕ} → Ready f h w
+    → DistancesWithin (graphOf f) r limit w w₁ → (s : ℕ) → s < h .states
+    → entry 0 (h .states) w₁ s + entry 2 (h .states) w₁ s ≤ 65536
+round-fits {f} {h} {w} {w₁} {r} {limit} ready found s l =
+    let g = graphOf f in
+    let sizes = valid-sizes (ready .valid) in
+    let from-start = ready-start ready found s (omega arith) in
+    let from-r = found .distances s (omega arith) in
+    let low = entryOf-le (g .size) (dist g (g .start) s) (λ v e. dist-below g (g .start) s v e) in
+    let high = entryOf-le (g .size) (under (suc limit) (dist g r s)) (λ v e. dist-below g r s v (under-some (suc limit) (dist g r s) v e .0)) in
+    rw (sizes .states-are) (omega arith)
+
+-- the start levels of the search are the sums of both distances below the limit
+round-sources : {f : List ℕ} {h : Header} {w w₁ : List ℕ} {r limit : ℕ} (w₂ : List ℕ) → Ready f h w
+    → DistancesWithin (graphOf f) r limit w w₁ → Sums (graphOf f .size) (graphOf f .size) w₁ w₂ → (s : ℕ) → s < graphOf f .size
+    → sources (graphOf f .size) limit w₂ s ≡ under limit (sum (dist (graphOf f) (graphOf f .start) s) (dist (graphOf f) r s))
+round-sources {f} {r = r} {limit} w₂ ready found sums s l =
+    let g = graphOf f in
+    let a = dist g (g .start) s in
+    let b = under (suc limit) (dist g r s) in
+    let both = ap₂ (λ (x y : ℕ). sum (valueOf x) (valueOf y)) (ready-start ready found s l) (found .distances s l) in
+    let plain : sum (valueOf (entryOf a)) (valueOf (entryOf b)) ≡ sum a b = ap₂ sum (valueOf-entryOf a) (valueOf-entryOf b) in
+    ap (λ (x : ℕ). under limit (valueOf x)) (sums s l)
+    ∙ ap (under limit) (valueOf-entryOf _ ∙ both ∙ plain)
+    ∙ under-sum limit a (dist g r s)
+
+-- the search from these start levels finds the round's length
+round-length : {f : List ℕ} {h : Header} {w w₁ : List ℕ} {r limit : ℕ} (w₂ : List ℕ) → Ready f h w
+    → DistancesWithin (graphOf f) r limit w w₁ → Sums (h .states) (h .states) w₁ w₂
+    → under (suc limit) (roundLength (graphOf f) r)
+    ≡ under (suc limit) (hitLength (graphOf f) (sources (graphOf f .size) limit w₂) r)
+round-length {f} {r = r} {limit} w₂ ready found sums =
+    sym (round-found (graphOf f) limit r (sources (graphOf f .size) limit w₂)
+    (round-sources w₂ ready found (rw (valid-sizes (ready .valid) .states-are) at sums)))
+
+-- a length that the search finds is at most the limit
+pub found-le : {g : Graph} {source : ℕ → Option ℕ} {limit target l : ℕ} {w w' : List ℕ}
+    → FoundFrom g source limit target w w' l → l ≤ limit
+found-le {g} {source} {limit} {target} {l} searched =
+    omega (arith, under-some (suc limit) (hitLength g source target) l (searched .length))
+
+-- the length that the search finds is the round's
+pub round-some : {f : List ℕ} {h : Header} {w w₁ w₂ w₃ : List ℕ} {r limit l : ℕ} → Ready f h w
+    → DistancesWithin (graphOf f) r limit w w₁ → Sums (h .states) (h .states) w₁ w₂
+    → FoundFrom (graphOf f) (sources (graphOf f .size) limit w₂) limit r w₂ w₃ l
+    → under (suc limit) (roundLength (graphOf f) r) ≡ some l
+round-some {w₂ = w₂} ready found sums searched = round-length w₂ ready found sums ∙ searched .length
+
+-- if the search finds no length, the round has none up to the limit
+pub round-nothing : {f : List ℕ} {h : Header} {w w₁ w₂ w₃ : List ℕ} {r limit count : ℕ} → Ready f h w
+    → DistancesWithin (graphOf f) r limit w w₁ → Sums (h .states) (h .states) w₁ w₂
+    → ExhaustedFrom (graphOf f) (sources (graphOf f .size) limit w₂) limit r w₂ w₃ count
+    → under (suc limit) (roundLength (graphOf f) r) ≡ none
+round-nothing {w₂ = w₂} ready found sums searched = round-length w₂ ready found sums ∙ searched .length
+
+-- a round changes regions 2 to 5 only
+pub round-outside : {f : List ℕ} {h : Header} {w w₁ w₂ w₃ : List ℕ} {r limit : ℕ} → Ready f h w
+    → DistancesWithin (graphOf f) r limit w w₁ → SameOutside (2 * h .states) (3 * h .states) w₁ w₂
+    → SameOutside (2 * graphOf f .size) (6 * graphOf f .size) w₂ w₃
+    → SameOutside (2 * h .states) (6 * h .states) w w₃
+round-outside {f} {h} ready found added searched =
+    let sizes = valid-sizes (ready .valid) in
+    let from = 2 * h .states in
+    let to = 6 * h .states in
+    sameOutside-trans (sameOutside-widen from to (omega arith) (omega arith) (found .outside))
+    (sameOutside-trans (sameOutside-widen from to (omega arith) (omega arith) added)
+    (sameOutside-widen from to (omega arith) (omega arith) searched))

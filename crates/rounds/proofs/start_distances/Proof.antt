@@ -1,0 +1,33 @@
+-- `rounds::start_distances` meets its contract: the distances found in region 2 are copied to region 0.
+use borrow.Author.Needs.{needs}
+use native.Mathlib.Omega.{arith}
+use Rattle.model.proofs.Laws.{valid-sizes}
+use Rattle.rounds.proofs.TableLaws.{started}
+use Rattle.rounds.proofs.start_distances.Statement.{statement}
+use Rattle.rounds.proofs.start_distances.Tie as tie
+
+distances-requires : tie.Need-distances-requires
+distances-requires c κs =
+    let pre = c .before .before .before .pre in
+    let sizes = valid-sizes (pre .0) in
+    (pre .0, omega arith)
+
+mul-copy-down : tie.Need-mul-copy-down
+mul-copy-down c = search needs
+
+copy-down-requires : tie.Need-copy-down-requires
+copy-down-requires c κs = search needs
+
+same-length : tie.Need-same-length
+same-length c = search needs
+
+returns : tie.Need-returns
+returns c =
+    let copied = c .before .before in
+    let found = copied .before .before .before .before in
+    let sizes = valid-sizes (found .before .before .before .before .pre .0) in
+    started (sizes .states-are) (sizes .start-is) (found .distances .ensures) (copied .copy-down .ensures)
+
+pub start-distances-spec : {M : Type 1} → statement M
+start-distances-spec =
+    tie.close (tie.spec distances-requires mul-copy-down copy-down-requires same-length returns)

@@ -1,0 +1,2 @@
+-- What the rounds keep in the working table.
+pub mod Contracts
