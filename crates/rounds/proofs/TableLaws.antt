@@ -23,9 +23,9 @@ use Rattle.table.proofs.Laws.{sameOutside-refl, sameOutside-widen, sameOutside-
 use Rattle.spread.specs.Regions.{entry, entryOf, valueOf}
 use Rattle.spread.specs.Hit.{under, hitLength}
 use Rattle.spread.specs.Through.{DistancesWithin}
-use Rattle.spread.specs.Contracts.{FoundFrom, ExhaustedFrom, sources}
+use Rattle.spread.specs.Promises.{FoundFrom, ExhaustedFrom, sources}
 use Rattle.spread.proofs.UnderLaws.{under-all, under-some}
-use Rattle.rounds.specs.Contracts.{StartDistances, Started, Ready}
+use Rattle.rounds.specs.Promises.{StartDistances, Started, Ready}
 use Rattle.rounds.proofs.Laws.{valueOf-entryOf, entryOf-le, under-sum, round-found}
 
 -- an entry of region 0 stands at the state's own place

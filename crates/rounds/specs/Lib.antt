@@ -1,2 +1,2 @@
 -- What the rounds keep in the working table.
-pub mod Contracts
+pub mod Promises

@@ -11,7 +11,7 @@ ghost use Rattle.model.specs.Model.{graphOf};
 ghost use Rattle.table.specs.Changes.{SameOutside};
 ghost use Rattle.spread.specs.Regions.{entry, entryOf, valueOf};
 ghost use Rattle.spread.specs.Hit.{under};
-ghost use Rattle.rounds.specs.Contracts.{Started, Ready};
+ghost use Rattle.rounds.specs.Promises.{Started, Ready};
 use lasso::Best;
 use lasso::RoundRecord;
 use lasso::Transitions;

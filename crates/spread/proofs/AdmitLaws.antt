@@ -8,7 +8,7 @@ use native.Mathlib.Omega.{arith}
 use native.Mathlib.Decide.{ℕ-discrete}
 use Rattle.lasso.proofs.Tests.{lt-or-ge}
 use Rattle.spread.specs.Regions.{entry}
-use Rattle.spread.specs.Contracts.{sources}
+use Rattle.spread.specs.Promises.{sources}
 use Rattle.spread.specs.Buckets.{Greatest}
 use Rattle.spread.specs.Search.{start, ReachedBy, State, Reached}
 use Rattle.spread.proofs.PushLaws.{reach-state, reach-kept, reach-here}

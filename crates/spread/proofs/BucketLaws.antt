@@ -14,7 +14,7 @@ use Rattle.table.specs.Changes.{SameOutside, Cleared}
 use Rattle.table.proofs.Laws.{sameOutside-widen, sameOutside-set}
 use Rattle.spread.specs.Regions.{entry, valueOf}
 use Rattle.spread.specs.Hit.{under}
-use Rattle.spread.specs.Contracts.{sources}
+use Rattle.spread.specs.Promises.{sources}
 use Rattle.spread.specs.Buckets.{Greatest, Listed, withSource, Planned}
 use Rattle.spread.proofs.UnderLaws.{under-some, under-lt}
 

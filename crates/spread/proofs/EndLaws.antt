@@ -15,7 +15,7 @@ use Rattle.lasso.proofs.Least.{IsLeast, isLeast-unique}
 use Rattle.lasso.proofs.Walk.{Run, done, next, Walk, walk-here, walk-edge, walk-append}
 use Rattle.spread.specs.Regions.{entry, entryOf}
 use Rattle.spread.specs.Hit.{under, hitLevel, hitLength}
-use Rattle.spread.specs.Contracts.{sources, FoundFrom, ExhaustedFrom}
+use Rattle.spread.specs.Promises.{sources, FoundFrom, ExhaustedFrom}
 use Rattle.spread.specs.Search.{Hit, start, step, ReachedBy, State}
 use Rattle.spread.proofs.UnderLaws.{under-lt, under-least}
 use Rattle.spread.proofs.HitLaws.{Timed, hitLevel-least, hitLength-least}

@@ -11,7 +11,7 @@ use Rattle.lasso.proofs.Tests.{lt-or-ge, places-different}
 use Rattle.lasso.proofs.Different.{length-different-places}
 use Rattle.table.proofs.Laws.{sameOutside-widen, sameOutside-set, sameOutside-trans, set-sameOutside}
 use Rattle.spread.specs.Regions.{entry}
-use Rattle.spread.specs.Contracts.{sources, Queue}
+use Rattle.spread.specs.Promises.{sources, Queue}
 use Rattle.spread.specs.Search.{Hit, ReachedBy, State, Pushed, Reached, before, first}
 use Rattle.spread.proofs.BucketLaws.{listed-same}
 

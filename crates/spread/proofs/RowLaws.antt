@@ -7,7 +7,7 @@ use native.Mathlib.Omega.{arith}
 use lib.ListN.{length, getD}
 use Rattle.lasso.proofs.Tests.{lt-or-ge, memb-at, at-memb}
 use Rattle.spread.specs.Regions.{entry}
-use Rattle.spread.specs.Contracts.{sources}
+use Rattle.spread.specs.Promises.{sources}
 use Rattle.spread.specs.Buckets.{Planned}
 use Rattle.spread.specs.Search.{Hit, step, ReachedBy, State, Reached}
 use Rattle.spread.proofs.PushLaws.{reach-state, reach-kept, reach-queue, reach-here}

@@ -16,7 +16,7 @@ use Rattle.spread.specs.declared.Answer.{Answer}
 use Rattle.spread.specs.declared.Answer.the-variants.{Length, Nothing}
 use Rattle.spread.specs.Regions.{entry, valueOf, entryOf}
 use Rattle.spread.specs.Hit.{under, hitLevel, hitLength}
-use Rattle.spread.specs.Contracts.{ExhaustedFrom, SpreadFrom}
+use Rattle.spread.specs.Promises.{ExhaustedFrom, SpreadFrom}
 use Rattle.spread.proofs.UnderLaws.{under-lt, under-some, some-under, under-under}
 use Rattle.spread.proofs.BucketLaws.{source-entry, entry-source}
 use Rattle.spread.proofs.HitLaws.{Timed, Single, hitLength-least, hitLevel-cong, hitLength-cong, hitLevel-single, hitLevel-under, hitLength-under}

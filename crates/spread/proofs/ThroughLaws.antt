@@ -17,7 +17,7 @@ use Rattle.spread.specs.declared.Answer.{Answer}
 use Rattle.spread.specs.declared.Answer.the-variants.{Length, Nothing}
 use Rattle.spread.specs.Regions.{entry, valueOf, entryOf}
 use Rattle.spread.specs.Hit.{under}
-use Rattle.spread.specs.Contracts.{ExhaustedFrom, SpreadFrom}
+use Rattle.spread.specs.Promises.{ExhaustedFrom, SpreadFrom}
 use Rattle.spread.specs.Through.{onlyIf, markedDist, viaMark, loopLength, DistancesWithin, markedSources, LoopLength}
 use Rattle.spread.proofs.UnderLaws.{under-under, under-all}
 use Rattle.spread.proofs.HitLaws.{Timed, hitLevel-least, hitLength-least}

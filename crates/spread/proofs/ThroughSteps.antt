@@ -16,7 +16,7 @@ use Rattle.table.proofs.Laws.{sameOutside-refl, sameOutside-set, sameOutside-tr
 use Rattle.spread.specs.declared.Answer.{Answer}
 use Rattle.spread.specs.Regions.{entry, valueOf}
 use Rattle.spread.specs.Hit.{under}
-use Rattle.spread.specs.Contracts.{sources, SpreadFrom, Spread}
+use Rattle.spread.specs.Promises.{sources, SpreadFrom, Spread}
 use Rattle.spread.specs.Through.{onlyIf, DistancesWithin, markedSources, Started, KeptMarked}
 use Rattle.spread.proofs.HitLaws.{Single}
 use Rattle.spread.proofs.SearchLaws.{spread-nothing, spread-same, exhausted-distances}

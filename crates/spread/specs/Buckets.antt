@@ -6,7 +6,7 @@ use mathlib.Core.Option.{Option, some}
 use lib.ListN.{set}
 use Rattle.table.specs.Changes.{SameOutside}
 use Rattle.spread.specs.Regions.{entry}
-use Rattle.spread.specs.Contracts.{sources}
+use Rattle.spread.specs.Promises.{sources}
 
 -- v names the greatest source of level a below b: s + 1 for s, 0 if there is none
 pub record Greatest (source : ℕ → Option ℕ) (a b v : ℕ) : Type 0 where

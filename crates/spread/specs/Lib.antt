@@ -2,7 +2,7 @@
 -- parts leave in the working table.
 pub mod Regions
 pub mod Hit
-pub mod Contracts
+pub mod Promises
 pub mod Through
 pub mod Buckets
 pub mod Search

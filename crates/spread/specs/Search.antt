@@ -8,7 +8,7 @@ use lib.Dec.{T}
 use Rattle.lasso.specs.Lists.{memb}
 use Rattle.table.specs.Changes.{SameOutside}
 use Rattle.spread.specs.Regions.{entry}
-use Rattle.spread.specs.Contracts.{sources, Queue}
+use Rattle.spread.specs.Promises.{sources, Queue}
 use Rattle.spread.specs.Buckets.{Listed}
 
 -- t is hit at level k: it is a source with this start level, or an edge leads to it from a state hit one level before

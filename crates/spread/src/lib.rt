@@ -8,7 +8,7 @@ ghost use lib.ListN.{length};
 ghost use Rattle.model.specs.Values.{Valid};
 ghost use Rattle.model.specs.Model.{graphOf};
 ghost use Rattle.spread.specs.Regions.{entry};
-ghost use Rattle.spread.specs.Contracts.{Spread};
+ghost use Rattle.spread.specs.Promises.{Spread};
 ghost use Rattle.spread.specs.Buckets.{withSource, Planned};
 ghost use Rattle.spread.specs.Search.{Reached, Ready, Admitted};
 

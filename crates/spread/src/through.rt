@@ -6,7 +6,7 @@ ghost use lib.ListN.{length};
 ghost use Rattle.model.specs.Values.{Valid};
 ghost use Rattle.model.specs.Model.{graphOf};
 ghost use Rattle.table.specs.Changes.{SameOutside};
-ghost use Rattle.spread.specs.Contracts.{SpreadFrom};
+ghost use Rattle.spread.specs.Promises.{SpreadFrom};
 ghost use Rattle.spread.specs.Through.{DistancesWithin, markedSources, LoopLength, Started, KeptMarked};
 use crate::Answer;
 use crate::spread;

@@ -1,0 +1,80 @@
+-- What the three tests of a next state look for, by states and places, and the entries that they read.
+use Prim.Native.Nat.{ℕ, zero, suc, _+_, _*_, _-_, _≤_, _<_}
+use mathlib.Core.Path.{_≡_, _∙_, ap}
+use mathlib.Core.Logic.{inl, inr}
+use mathlib.Core.Bool.{Bool, true, false}
+use mathlib.Core.List.{List, _∷_}
+use native.Mathlib.Omega.{arith}
+use lib.ListN.{getD}
+use lib.Dec.{T}
+use Rattle.lasso.specs.Graph.{Graph}
+use Rattle.lasso.proofs.Tests.{lt-or-ge}
+use Rattle.spread.specs.Regions.{entry}
+use Rattle.listing.specs.Promises.{Decides}
+
+-- a state that can start the loop is reached soon enough: b is the length of its loop, a the way to it
+abbrev pub StartsAhead : ℕ → List ℕ → ℕ → Type 0
+StartsAhead n w left =
+    (s : ℕ) × (a : ℕ) × (b : ℕ) × (s < n) × (entry 1 n w s ≡ suc b) × (entry 2 n w s ≡ suc a) × (a + b ≤ left)
+
+-- the state at a place k of the list is reached soon enough, and the one at a place r from k on is marked
+abbrev pub ClosesMarked : Graph → ℕ → ℕ → List ℕ → ℕ → ℕ → Type 0
+ClosesMarked g n start w place left =
+    (k : ℕ) × (r : ℕ) × (a : ℕ) × (k ≤ r) × (r ≤ place) × T (g .marked (getD (start ∷ w) r 0)) × (entry 2 n w (getD (start ∷ w) k 0) ≡ suc a) × (a ≤ left)
+
+-- the state at a place k of the list can start the loop and is reached soon enough
+abbrev pub ClosesStart : ℕ → ℕ → List ℕ → ℕ → ℕ → Type 0
+ClosesStart n start w place left =
+    (k : ℕ) × (a : ℕ) × (k ≤ place) × (1 ≤ entry 1 n w (getD (start ∷ w) k 0)) × (entry 2 n w (getD (start ∷ w) k 0) ≡ suc a) × (a ≤ left)
+
+-- the states of the list from place 1 on are the table's entries from 0 on
+pub list-place : (start : ℕ) (w : List ℕ) (i : ℕ) → 1 ≤ i → getD (start ∷ w) i 0 ≡ getD w (i - 1) 0
+list-place start w zero l = absurd (omega arith)
+list-place start w (suc i) l = let e : i ≡ suc i - 1 = omega arith in ap (λ (j : ℕ). getD w j 0) e
+
+-- what the code reads for a state in region 1 is its entry
+pub read-one : (n : ℕ) (w : List ℕ) (s x : ℕ) → s ≡ x → getD w (n + s) 0 ≡ entry 1 n w x
+read-one n w s x e = let q : n + s ≡ 1 * n + x = omega arith in ap (λ (j : ℕ). getD w j 0) q
+
+-- what the code reads for a state in region 2 is its entry
+pub read-two : (n : ℕ) (w : List ℕ) (s x : ℕ) → s ≡ x → getD w (2 * n + s) 0 ≡ entry 2 n w x
+read-two n w s x e = ap (entry 2 n w) e
+
+-- what an answer decides, it decides for an equivalent statement
+pub decides-iff : {P Q : Type 0} → (P → Q) → (Q → P) → (b : Bool) → Decides P b → Decides Q b
+decides-iff to back true p = to p
+decides-iff to back false n = λ q. n (back q)
+
+-- what holds from k on and at the place before holds from there on
+pub from-more : (P : ℕ → Type 0) (k : ℕ) → 1 ≤ k → ((x : ℕ) → k ≤ x → P x) → P (k - 1) → (x : ℕ) → k - 1 ≤ x → P x
+from-more P k l all here x h =
+    elim (lt-or-ge (k - 1) x) [
+      | inl q ↦ all x (omega arith)
+      | inr q ↦ let e : k - 1 ≡ x = omega arith in rw e at here
+    ]
+
+-- a state of the list from place k on is marked
+abbrev pub MarkFrom : Graph → ℕ → List ℕ → ℕ → ℕ → Type 0
+MarkFrom g start w place k = (r : ℕ) × (k ≤ r) × (r ≤ place) × T (g .marked (getD (start ∷ w) r 0))
+
+-- what is known of the marks from a place k on, once the state before k is looked at
+module _ (g : Graph) (start : ℕ) (w : List ℕ) (place k : ℕ) (l : 1 ≤ k) where
+  -- it is marked
+  pub markFrom-here : k ≤ place + 1 → g .marked (getD (start ∷ w) (k - 1) 0) ≡ true → (b : Bool) → b ≡ true → Decides (MarkFrom g start w place (k - 1)) b
+  markFrom-here h marked b e = rw e (k - 1, omega arith, omega arith, rw marked tt)
+
+  -- it is not marked, and the marks stand from k on
+  pub markFrom-skip : g .marked (getD (start ∷ w) (k - 1) 0) ≡ false → (b d : Bool) → b ≡ d → Decides (MarkFrom g start w place k) d → Decides (MarkFrom g start w place (k - 1)) b
+  markFrom-skip unmarked b d same known = decides-iff to back b (rw same known)
+    where
+      to : MarkFrom g start w place k → MarkFrom g start w place (k - 1)
+      to (r, h, i, t) = (r, omega arith, i, t)
+
+      back : MarkFrom g start w place (k - 1) → MarkFrom g start w place k
+      back (r, h, i, t) =
+          elim (lt-or-ge (k - 1) r) [
+            | inl q ↦ (r, omega arith, i, t)
+            | inr q ↦
+                let e : r ≡ k - 1 = omega arith in
+                absurd (rw (ap (λ (j : ℕ). g .marked (getD (start ∷ w) j 0)) e ∙ unmarked) at t)
+          ]

@@ -1,0 +1,131 @@
+-- The successors of a list's last state, tried in their order: the first that may stand there is the least, and if the
+-- list begins a lasso, then the last one may stand there if none before it may.
+use Prim.Native.Nat.{ℕ, zero, suc, _+_, _*_, _≤_, _<_}
+use native.Mathlib.Omega.{arith}
+use native.Mathlib.Nat.{le-of-eq}
+use borrow.Author.Count.{below-more}
+use mathlib.Core.Path.{_≡_, sym, _∙_, ap, subst}
+use mathlib.Core.Logic.{inl, inr}
+use mathlib.Core.List.{List, [], _∷_, _++_}
+use lib.ListN.{length, getD, take}
+use lib.Dec.{T, ltb, ltb→lt}
+use Rattle.lasso.specs.Graph.{Graph, ascendingb, edgeb}
+use Rattle.lasso.proofs.Tests.{fst, snd, lt-or-ge, memb-at}
+use Rattle.lasso.proofs.PlaceByPlace.{Extends}
+use Rattle.model.specs.declared.Header.{Header}
+use Rattle.model.specs.Model.{graphOf}
+use Rattle.model.proofs.Laws.{valid-well-formed}
+use Rattle.table.specs.Changes.{SameOutside}
+use Rattle.table.proofs.Laws.{sameOutside-refl, sameOutside-trans}
+use Rattle.listing.specs.Promises.{LeastFollower, upTo}
+use Rattle.listing.proofs.PlacesExtend.{extends-edge, extends-step}
+use Rattle.listing.proofs.PlacesRow.{Row, successor-state}
+
+-- the rest of an ascending list ascends
+ascending-tail : (x : ℕ) (xs : List ℕ) → T (ascendingb (x ∷ xs)) → T (ascendingb xs)
+ascending-tail x [] h = tt
+ascending-tail x (y ∷ ys) h = snd (ltb x y) (ascendingb (y ∷ ys)) h
+
+-- the first entry of an ascending list is less than each later one
+ascending-first : (x : ℕ) (xs : List ℕ) → T (ascendingb (x ∷ xs)) → (j : ℕ) → j < length xs → x < getD xs j 0
+ascending-first x [] h j q = absurd (omega arith)
+ascending-first x (y ∷ ys) h zero q = ltb→lt x y (fst (ltb x y) (ascendingb (y ∷ ys)) h)
+ascending-first x (y ∷ ys) h (suc j) q =
+    omega (arith, ltb→lt x y (fst (ltb x y) (ascendingb (y ∷ ys)) h), ascending-first y ys (ascending-tail x (y ∷ ys) h) j (omega arith))
+
+-- the entries of an ascending list ascend from place to place
+ascending-places : (xs : List ℕ) → T (ascendingb xs) → (i j : ℕ) → i < j → j < length xs → getD xs i 0 < getD xs j 0
+ascending-places [] h i j p q = absurd (omega arith)
+ascending-places (x ∷ xs) h i zero p q = absurd (omega arith)
+ascending-places (x ∷ xs) h zero (suc j) p q = ascending-first x xs h j (omega arith)
+ascending-places (x ∷ xs) h (suc i) (suc j) p q = ascending-places xs (ascending-tail x xs h) i j (omega arith) (omega arith)
+
+-- numbers that are each at most the other are equal
+equal : (i j : ℕ) → j ≤ i → i ≤ j → i ≡ j
+equal i j p q = omega arith
+
+-- the entries of an ascending list do not fall from place to place
+ascending-le : (xs : List ℕ) → T (ascendingb xs) → (i j : ℕ) → i ≤ j → j < length xs → getD xs i 0 ≤ getD xs j 0
+ascending-le xs h i j p q =
+    elim (lt-or-ge i j) [
+      | inl l ↦ omega (arith, ascending-places xs h i j l q)
+      | inr l ↦ le-of-eq (ap (λ (k : ℕ). getD xs k 0) (equal i j l p))
+    ]
+
+-- The first k successors ts were tried after q: none of them from the bound on may stand there, and the table changed in
+-- the regions 2 to 5 alone.
+pub record Tried (g : Graph) (n l : ℕ) (q : List ℕ) (bound : ℕ) (ts w w' : List ℕ) (k : ℕ) : Type 0 where
+  pub same : SameOutside (2 * n) (6 * n) w w'
+  pub none : (j : ℕ) → j < k → bound ≤ getD ts j 0 → Extends g l (q ++ getD ts j 0 ∷ []) → ⊥
+
+-- nothing is tried at first
+pub tried-none : (g : Graph) (n l : ℕ) (q : List ℕ) (bound : ℕ) (ts w : List ℕ) → Tried g n l q bound ts w w 0
+tried-none g n l q bound ts w = record { same = sameOutside-refl (2 * n) (6 * n) w; none = λ j h. absurd (omega arith) }
+
+-- one more successor t was tried: it is below the bound or may not stand there
+pub tried-more : {g : Graph} {n l : ℕ} {q : List ℕ} {bound : ℕ} {ts w w' w'' : List ℕ} {k : ℕ} (t : ℕ) → Tried g n l q bound ts w w' k → SameOutside (2 * n) (6 * n) w' w''
+    → t ≡ getD ts k 0 → (bound ≤ t → Extends g l (q ++ t ∷ []) → ⊥) → Tried g n l q bound ts w w'' (k + 1)
+tried-more {g} {n} {l} {q} {bound} {ts} {k = k} t tried s at here =
+    record {
+      same = sameOutside-trans (tried .same) s;
+      none = below-more (λ j. bound ≤ getD ts j 0 → Extends g l (q ++ getD ts j 0 ∷ []) → ⊥) k (tried .none)
+          (subst (λ (u : ℕ). bound ≤ u → Extends g l (q ++ u ∷ []) → ⊥) at here);
+    }
+
+-- The successors of s, the last state of the list up to a place.
+module _ {f w : List ℕ} {h : Header} {l place s : ℕ} (r : Row f h w l place s) where
+  -- a state that may stand after the list is one of the successors
+  follower-place : (y : ℕ) → Extends (graphOf f) l (upTo (graphOf f) w place ++ y ∷ []) → (j : ℕ) × (j < length (graphOf f .succs s)) × (getD (graphOf f .succs s) j 0 ≡ y)
+  follower-place y x =
+      memb-at y (graphOf f .succs s) (subst (λ (u : ℕ). T (edgeb (graphOf f) u y)) (sym (r .last)) (extends-edge (graphOf f) l (graphOf f .start) (take place w) y x))
+
+  -- the same, with the successor's place written for the state
+  follower-at : (y : ℕ) → Extends (graphOf f) l (upTo (graphOf f) w place ++ y ∷ [])
+      → (j : ℕ) × (j < length (graphOf f .succs s)) × (getD (graphOf f .succs s) j 0 ≡ y) × Extends (graphOf f) l (upTo (graphOf f) w place ++ getD (graphOf f .succs s) j 0 ∷ [])
+  follower-at y x =
+      let (j, i, e) = follower-place y x in
+      (j, i, e, subst (λ (u : ℕ). Extends (graphOf f) l (upTo (graphOf f) w place ++ u ∷ [])) (sym e) x)
+
+  -- of the successors from the bound on the first one that may stand after the list is the least
+  pub tried-found : {bound k : ℕ} {w' : List ℕ} (t : ℕ) → Tried (graphOf f) (h .states) l (upTo (graphOf f) w place) bound (graphOf f .succs s) w w' k
+      → k < length (graphOf f .succs s) → t ≡ getD (graphOf f .succs s) k 0 → bound ≤ t → Extends (graphOf f) l (upTo (graphOf f) w place ++ t ∷ [])
+      → LeastFollower (graphOf f) l (upTo (graphOf f) w place) bound t
+  tried-found {bound} {k} t tried inside at from x =
+      record { state = omega (arith, r .sizes, successor-state t r inside at); from-bound = from; extends = x; least = least }
+    where
+      least : (y : ℕ) → bound ≤ y → y < t → Extends (graphOf f) l (upTo (graphOf f) w place ++ y ∷ []) → ⊥
+      least y p less z =
+          let (j, i, e, there) = follower-at y z in
+          elim (lt-or-ge j k) [
+            | inl b ↦ tried .none j b (omega arith) there
+            | inr b ↦ omega (arith, ascending-le (graphOf f .succs s) (valid-well-formed (r .prepared .valid) .ascending s) k j b i)
+          ]
+
+  -- nothing from the bound on may stand after the list if no successor may
+  pub tried-all : {bound k : ℕ} {w' : List ℕ} → Tried (graphOf f) (h .states) l (upTo (graphOf f) w place) bound (graphOf f .succs s) w w' k
+      → length (graphOf f .succs s) ≤ k → (y : ℕ) → bound ≤ y → Extends (graphOf f) l (upTo (graphOf f) w place ++ y ∷ []) → ⊥
+  tried-all tried all y p z = let (j, i, e, there) = follower-at y z in tried .none j (omega arith) (omega arith) there
+
+  -- if the list begins a lasso, one of the successors may stand after it
+  some-follower : Extends (graphOf f) l (upTo (graphOf f) w place) → (j : ℕ) × (j < length (graphOf f .succs s)) × Extends (graphOf f) l (upTo (graphOf f) w place ++ getD (graphOf f .succs s) j 0 ∷ [])
+  some-follower x =
+      let (y, z) = extends-step (graphOf f) l (upTo (graphOf f) w place) (omega (arith, r .long, r .inside)) x in
+      let (j, i, e, there) = follower-at y z in
+      (j, i, there)
+
+  -- the last state of a list that begins a lasso has a successor
+  pub some-successor : Extends (graphOf f) l (upTo (graphOf f) w place) → 1 ≤ length (graphOf f .succs s)
+  some-successor x = omega (arith, some-follower x .1)
+
+  -- if none of the other successors may stand after a list that begins a lasso, the last one may, and is the least
+  pub tried-last : {k : ℕ} {w' : List ℕ} (t : ℕ) → Tried (graphOf f) (h .states) l (upTo (graphOf f) w place) 0 (graphOf f .succs s) w w' k
+      → length (graphOf f .succs s) ≡ k + 1 → t ≡ getD (graphOf f .succs s) k 0 → Extends (graphOf f) l (upTo (graphOf f) w place)
+      → LeastFollower (graphOf f) l (upTo (graphOf f) w place) 0 t
+  tried-last {k} t tried all at x =
+      let (j, i, there) = some-follower x in
+      elim (lt-or-ge j k) [
+        | inl b ↦ absurd (tried .none j b (omega arith) there)
+        | inr b ↦
+            let e : getD (graphOf f .succs s) j 0 ≡ t = ap (λ (u : ℕ). getD (graphOf f .succs s) u 0) (equal j k b (omega arith)) ∙ sym at in
+            tried-found t tried (omega arith) at (omega arith) (subst (λ (u : ℕ). Extends (graphOf f) l (upTo (graphOf f) w place ++ u ∷ [])) e there)
+      ]

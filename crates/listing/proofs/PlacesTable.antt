@@ -1,0 +1,89 @@
+-- What the listing keeps in the working table, and the list that stands there up to a place.
+use Prim.Native.Nat.{ℕ, zero, suc, _+_, _*_, _≤_, _<_}
+use native.Mathlib.Omega.{arith}
+use native.Mathlib.Numerals.{add-one}
+use mathlib.Core.Path.{_≡_, refl, sym, _∙_, ap}
+use mathlib.Core.List.{List, [], _∷_, _++_}
+use lib.ListN.{length, getD, take, set, length-set, length-take}
+use lib.Seq.{ext-getD, getD-take, getD-set-other, length-take-le, take-suc-set}
+use Rattle.lasso.proofs.RollLaws.{leastLength-range}
+use Rattle.model.specs.declared.Header.{Header}
+use Rattle.model.specs.Model.{graphOf}
+use Rattle.model.proofs.Laws.{Sizes, valid-sizes}
+use Rattle.table.specs.Changes.{SameOutside}
+use Rattle.listing.specs.Promises.{Kept, Prepared, LeastFollower}
+
+-- a table keeps what it holds
+pub kept-refl : (n : ℕ) (w : List ℕ) → Kept n w w
+kept-refl n w = record { same-length = refl; same-loops = λ i p q. refl; same-after = λ i p. refl }
+
+-- what two changes keep, both together keep
+pub kept-trans : {n : ℕ} {u v w : List ℕ} → Kept n u v → Kept n v w → Kept n u w
+kept-trans a b =
+    record {
+      same-length = b .same-length ∙ a .same-length;
+      same-loops = λ i p q. b .same-loops i p q ∙ a .same-loops i p q;
+      same-after = λ i p. b .same-after i p ∙ a .same-after i p;
+    }
+
+-- a change in the regions 2 to 5 keeps region 1 and what stands past the regions
+pub same-kept : (n : ℕ) {w w' : List ℕ} → SameOutside (2 * n) (6 * n) w w' → Kept n w w'
+same-kept n s =
+    record { same-length = s .same-length; same-loops = λ i p q. s .same-before i q; same-after = λ i p. s .same-after i p }
+
+-- a store in region 0 keeps the other regions
+pub set-kept : (n : ℕ) (w : List ℕ) (p t : ℕ) → p < n → Kept n w (set w p t)
+set-kept n w p t h =
+    record {
+      same-length = length-set w p t;
+      same-loops = λ i a b. getD-set-other w p i t 0 (omega arith);
+      same-after = λ i a. getD-set-other w p i t 0 (omega arith);
+    }
+
+-- the listing can go on with a table that keeps region 1
+pub prepared-kept : {f w w' : List ℕ} {h : Header} {l : ℕ} → Prepared f h w l → Kept (h .states) w w' → Prepared f h w' l
+prepared-kept {f} {w} {w'} {h} {l} p k =
+    record {
+      valid = p .valid;
+      room = omega (arith, p .room, k .same-length);
+      least = p .least;
+      start-loops = record { loops = λ s i. k .same-loops (1 * graphOf f .size + s) (omega (arith, sizes)) (omega (arith, sizes)) ∙ p .start-loops .loops s i };
+    }
+  where
+    sizes : Sizes f h
+    sizes = valid-sizes (p .valid)
+
+-- a change in the regions 2 to 5 keeps the list
+pub same-take : (n p : ℕ) {w w' : List ℕ} → SameOutside (2 * n) (6 * n) w w' → p ≤ 2 * n → take p w' ≡ take p w
+same-take n p {w} {w'} s h =
+    ext-getD 0 (take p w') (take p w) (rw (length-take p w', length-take p w, s .same-length)) (λ i q. getD-take p w' i 0 (below i q) ∙ s .same-before i (omega (arith, below i q)) ∙ sym (getD-take p w i 0 (below i q)))
+  where
+    below : (i : ℕ) → i < length (take p w') → i < p
+    below i q = omega (arith, length-take p w')
+
+-- a store behind the list makes it one longer
+pub set-take : (w : List ℕ) (p t : ℕ) → p < length w → take (p + 1) (set w p t) ≡ take p w ++ t ∷ []
+set-take w p t h = rw (add-one p) (take-suc-set w p t h)
+
+-- the last state of the list up to a place is the one at that place
+pub upTo-last : (x : ℕ) (w : List ℕ) (p : ℕ) → p ≤ length w → getD (x ∷ take p w) (length (take p w)) 0 ≡ getD (x ∷ w) p 0
+upTo-last x w zero h = refl
+upTo-last x w (suc p) h = rw (length-take-le (suc p) w h) (getD-take (suc p) w p 0 (omega arith))
+
+-- the list fits into region 0
+pub length-fits : {f w : List ℕ} {h : Header} {l : ℕ} → Prepared f h w l → l ≤ h .states
+length-fits {f} {l = l} p = omega (arith, leastLength-range (graphOf f) l (p .least), valid-sizes (p .valid))
+
+-- what the store of a state that may stand at a place asks
+pub put-asks : {f w v q : List ℕ} {h : Header} {l place bound t : ℕ} → Prepared f h w l → place < l → SameOutside (2 * h .states) (6 * h .states) w v → LeastFollower (graphOf f) l q bound t → (place < length v) × (t < 65536)
+put-asks p inside same o = omega (arith, length-fits p, p .room, same .same-length, valid-sizes (p .valid), o .state)
+
+-- a test and a store behind the list keep what the listing keeps
+pub stored-kept : {f w v : List ℕ} {h : Header} {l place : ℕ} (t : ℕ) → Prepared f h w l → place < l → SameOutside (2 * h .states) (6 * h .states) w v → Kept (h .states) w (set v place t)
+stored-kept {v = v} {h = h} {place = place} t p inside same = kept-trans (same-kept (h .states) same) (set-kept (h .states) v place t (omega (arith, length-fits p)))
+
+-- a test and a store behind the list make it one longer
+pub stored-take : {f w v : List ℕ} {h : Header} {l place : ℕ} (t : ℕ) → Prepared f h w l → place < l → SameOutside (2 * h .states) (6 * h .states) w v → take (place + 1) (set v place t) ≡ take place w ++ t ∷ []
+stored-take {v = v} {h = h} {place = place} t p inside same =
+    set-take v place t (omega (arith, length-fits p, p .room, same .same-length))
+    ∙ ap (λ (xs : List ℕ). xs ++ t ∷ []) (same-take (h .states) place same (omega (arith, length-fits p)))

@@ -1,0 +1,127 @@
+// The first list, and the list after a given one.
+ghost use mathlib.Core.Path.{_≡_};
+ghost use mathlib.Core.List.{List·Memᴰ, head?};
+ghost use mathlib.Core.Option.{some};
+ghost use Prim.Native.Nat.{_+_, _*_, _≤_, _<_};
+ghost use lib.Dec.{T};
+ghost use Rattle.lasso.specs.Graph.{pathb};
+ghost use Rattle.lasso.specs.Roll.{roll};
+ghost use Rattle.lasso.proofs.PlaceByPlace.{Extends};
+ghost use Rattle.model.specs.Model.{graphOf};
+ghost use Rattle.table.specs.Changes.{SameOutside};
+ghost use Rattle.listing.specs.Promises.{Prepared, Kept, LeastFollower, FollowerOf, Completed, Advanced, upTo};
+use crate::follow::list_at;
+use crate::follow::may_follow;
+use model::Header;
+use model::degree;
+use model::row_part;
+use model::successor;
+use table::get;
+use table::put;
+
+// What may stand at the next place: a state, or nothing.
+pub enum Follower {
+    State(usize),
+    Nothing,
+}
+
+// The least state from a bound on that may stand after the list up to a place.
+fn least_follower(
+    file: &[u8],
+    h: Header,
+    work: &mut [u16],
+    length: usize,
+    place: usize,
+    bound: usize,
+) -> Follower
+    requires { ⌜ Prepared (now file) h (now work) length ⌝ }
+    requires { ⌜ place < length ⌝ }
+    requires { ⌜ T (pathb (graphOf (now file)) (upTo (graphOf (now file)) (now work) place)) ⌝ }
+    ensures { λ r. ⌜ FollowerOf (graphOf (now (file .entry))) length (upTo (graphOf (now (file .entry))) (now (work .entry)) place) bound r ⌝ }
+    ensures same { λ r. ⌜ SameOutside (2 * h .states) (6 * h .states) (now (work .entry)) (now (work .exit)) ⌝ }
+{
+    let s = list_at(h, work, place);
+    let part = row_part(file, h, s);
+    let d = degree(part);
+    let mut k = 0;
+    while k < d {
+        let t = successor(part, k);
+        if bound <= t {
+            if may_follow(file, h, work, length, place, t) {
+                return Follower::State(t);
+            }
+        }
+        k += 1;
+    }
+    Follower::Nothing
+}
+
+// The least state that may stand after a list that extends: of its successors the last one needs no test.
+fn first_follower(file: &[u8], h: Header, work: &mut [u16], length: usize, place: usize) -> usize
+    requires { ⌜ Prepared (now file) h (now work) length ⌝ }
+    requires { ⌜ place < length ⌝ }
+    requires { ⌜ Extends (graphOf (now file)) length (upTo (graphOf (now file)) (now work) place) ⌝ }
+    ensures { λ r. ⌜ LeastFollower (graphOf (now (file .entry))) length (upTo (graphOf (now (file .entry))) (now (work .entry)) place) 0 r ⌝ }
+    ensures same { λ r. ⌜ SameOutside (2 * h .states) (6 * h .states) (now (work .entry)) (now (work .exit)) ⌝ }
+{
+    let s = list_at(h, work, place);
+    let part = row_part(file, h, s);
+    let d = degree(part);
+    let mut tried = 0;
+    while tried + 1 < d {
+        let t = successor(part, tried);
+        if may_follow(file, h, work, length, place, t) {
+            return t;
+        }
+        tried += 1;
+    }
+    successor(part, tried)
+}
+
+// Completes the list after a place, with the least state that may stand at each.
+fn complete(file: &[u8], h: Header, work: &mut [u16], length: usize, from: usize)
+    requires { ⌜ Prepared (now file) h (now work) length ⌝ }
+    requires { ⌜ from ≤ length ⌝ }
+    requires { ⌜ Extends (graphOf (now file)) length (upTo (graphOf (now file)) (now work) from) ⌝ }
+    ensures { λ _. ⌜ Completed (graphOf (now (file .entry))) length from (now (work .entry)) (now (work .exit)) ⌝ }
+{
+    let mut place = from;
+    while place < length {
+        let t = first_follower(file, h, work, length, place);
+        put(work, place, t);
+        place += 1;
+    }
+}
+
+// Puts the first of the shortest accepting paths into region 0.
+pub fn first(file: &[u8], h: Header, work: &mut [u16], length: usize)
+    requires { ⌜ Prepared (now file) h (now work) length ⌝ }
+    ensures { λ _. ⌜ head? (roll (graphOf (now (file .entry)))) ≡ some (upTo (graphOf (now (file .entry))) (now (work .exit)) length) ⌝ }
+    ensures kept { λ _. ⌜ Kept (h .states) (now (work .entry)) (now (work .exit)) ⌝ }
+{
+    complete(file, h, work, length, 0);
+}
+
+// Puts the path after the one in region 0 there, and answers true; or answers false if that one is the last.
+pub fn advance(file: &[u8], h: Header, work: &mut [u16], length: usize) -> bool
+    requires { ⌜ Prepared (now file) h (now work) length ⌝ }
+    requires { ⌜ List·Memᴰ (upTo (graphOf (now file)) (now work) length) (roll (graphOf (now file))) ⌝ }
+    ensures { λ r. ⌜ Advanced (graphOf (now (file .entry))) length (now (work .entry)) (now (work .exit)) r ⌝ }
+    ensures kept { λ _. ⌜ Kept (h .states) (now (work .entry)) (now (work .exit)) ⌝ }
+{
+    let mut place = length;
+    while 0 < place {
+        place -= 1;
+        let bound = get(work, place) + 1;
+        let next = least_follower(file, h, work, length, place, bound);
+        match next {
+            Follower::State(t) => {
+                put(work, place, t);
+                complete(file, h, work, length, place + 1);
+                return true;
+            }
+            Follower::Nothing => {}
+        }
+    }
+    false
+}
