@@ -21,32 +21,23 @@ use Rattle.lasso.proofs.PlaceByPlace.{Extends}
 use Rattle.lasso.proofs.Extend.{Ahead, MarkAhead, Passed, CompletesWithin, joined-passed, extends-least-iff}
 use Rattle.spread.specs.Regions.{entry, entryOf}
 use Rattle.spread.specs.Through.{viaMark, loopLength}
-use Rattle.spread.proofs.UnderLaws.{under-some, some-under}
 use Rattle.spread.proofs.ThroughLaws.{ViaMark, viaMark-least, loopLength-least}
-use Rattle.listing.specs.Promises.{loopWithin, startLoop, StartLoops, Decides}
+use Rattle.listing.specs.Promises.{startLoop, StartLoops, Decides}
+use Rattle.listing.proofs.StartLaws.{ClosedVia, startLoop-iff, loopLength-closed}
 use Rattle.listing.proofs.FollowTests.{StartsAhead, ClosesMarked, ClosesStart, decides-iff}
 use Rattle.listing.proofs.FollowLevels.{LevelsBelow, levels-entry, levels-value}
 
--- a closed walk of at least one edge from s through a mark
-abbrev Loops : Graph → ℕ → ℕ → Type 0
-Loops g s k = (1 ≤ k) × ViaMark g s (λ q m. Walk g q s m) k
-
 -- a stem to s and a loop at s through a mark that have at most l edges together make s a loop's start
-pub startLoop-le : {g : Graph} {s x : ℕ} → WellFormed g → (l k : ℕ) → Walk g (g .start) s x → Loops g s k → x + k ≤ l
+startLoop-le : {g : Graph} {s x : ℕ} → WellFormed g → (l k : ℕ) → Walk g (g .start) s x → ClosedVia g s k → x + k ≤ l
     → (b : ℕ) × (startLoop g l s ≡ some b) × (b ≤ k)
 startLoop-le {g} {s} wf l k stem loop h =
     let (d, at, low) = dist-le wf (wf .start-state) stem in
-    let (b, long, short) = isLeast-le (Loops g s) (loopLength g s) (loopLength-least wf s (walk-end-state wf (wf .start-state) stem)) k loop in
-    (b, ap (λ (a : Option ℕ). loopWithin l a (loopLength g s)) at ∙ some-under (suc (l - d)) (loopLength g s) b long (omega arith), short)
+    let (b, long, short) = isLeast-le (ClosedVia g s) (loopLength g s) (loopLength-least wf s (walk-end-state wf (wf .start-state) stem)) k loop in
+    (b, startLoop-iff wf l s b .1 (d, at, long, omega arith), short)
 
 -- a loop's start has a loop of the length found
-pub startLoop-loops : {g : Graph} → WellFormed g → (l s b : ℕ) → s < g .size → startLoop g l s ≡ some b → Loops g s b
-startLoop-loops {g} wf l s b inside e =
-    isLeast-has (Loops g s) (loopLength g s) (loopLength-least wf s inside) b (within (dist g (g .start) s) e)
-  where
-    within : (d : Option ℕ) → loopWithin l d (loopLength g s) ≡ some b → loopLength g s ≡ some b
-    within none q = let z : _≡_ {A = ℕ} 0 1 = cc in absurd (omega arith)
-    within (some d) q = under-some (suc (l - d)) (loopLength g s) b q .0
+startLoop-closed : {g : Graph} → WellFormed g → (l s b : ℕ) → s < g .size → startLoop g l s ≡ some b → ClosedVia g s b
+startLoop-closed wf l s b inside e = let (d, at, loop, h) = startLoop-iff wf l s b .0 e in loopLength-closed wf inside loop
 
 -- A list q up to a place and a state t after it: a path from the initial state, shorter than the least length l of an
 -- accepting path or as long.
@@ -90,11 +81,11 @@ module _ {g : Graph} {l place : ℕ} {q : List ℕ} {t : ℕ} (o : Beginning g l
 
   -- a loop start reached soon enough completes the list
   starts-completes : {w : List ℕ} → Holds g l place q (dist g t) w → StartsAhead (g .size) w (l - (place + 1)) → CompletesWithin g l q t
-  starts-completes w (s, a, b, inside, at-loop, at-level, h) =
-      let loop : startLoop g l s ≡ some b = entry-some (startLoop g l s) b (sym (w .loops .loops s inside) ∙ at-loop) in
-      let (turns, via) = startLoop-loops (o .well-formed) l s b inside loop in
+  starts-completes holds (s, a, b, inside, at-loop, at-level, h) =
+      let loop : startLoop g l s ≡ some b = entry-some (startLoop g l s) b (sym (holds .loops .loops s inside) ∙ at-loop) in
+      let (turns, via) = startLoop-closed (o .well-formed) l s b inside loop in
       let (m, i, j, marked, there, back, total) = via in
-      let way : Walk g t s a = dist-walk g t s a (levels-value (w .levels) s a inside (omega arith) at-level) in (
+      let way : Walk g t s a = dist-walk g t s a (levels-value (holds .levels) s a inside (omega arith) at-level) in (
         length q + a + i + j,
         omega arith,
         inl (record { knot = s; mark = m; a = a; b = i; c = j; marked = marked; to-knot = way; to-mark = there; back = back; turns = omega arith; total = omega arith }),
@@ -106,11 +97,11 @@ module _ {g : Graph} {l place : ℕ} {q : List ℕ} {t : ℕ} (o : Beginning g l
 
   -- a loop start ahead is reached soon enough
   ahead-starts : {n : ℕ} {w : List ℕ} → n ≤ l → Holds g l place q (dist g t) w → Ahead g n q t → StartsAhead (g .size) w (l - (place + 1))
-  ahead-starts h w p =
+  ahead-starts le holds p =
       let inside : p .knot < g .size = walk-end-state (o .well-formed) next-state (p .to-knot) in
       let (a, at, low) = dist-le (o .well-formed) next-state (p .to-knot) in
       let (b, loop, short) = startLoop-le (o .well-formed) l (p .b + p .c) (walk-append to-next (p .to-knot)) (p .turns, (p .mark, p .b, p .c, p .marked, p .to-mark, p .back, refl)) (omega arith) in
-      (p .knot, a, b, inside, w .loops .loops (p .knot) inside ∙ ap entryOf loop, levels-entry (w .levels) (p .knot) a inside (omega arith) at, omega arith)
+      (p .knot, a, b, inside, holds .loops .loops (p .knot) inside ∙ ap entryOf loop, levels-entry (holds .levels) (p .knot) a inside (omega arith) at, omega arith)
 
   -- a state of the list reached soon enough, with a mark passed from it on, completes the list
   marked-completes : {w : List ℕ} → Holds g l place q (dist g t) w → ClosesMarked g (g .size) (g .start) w place (l - (place + 1)) → CompletesWithin g l q t
@@ -150,18 +141,18 @@ module _ {g : Graph} {l place : ℕ} {q : List ℕ} {t : ℕ} (o : Beginning g l
 
   -- a mark ahead is found by the distances from t
   mark-ahead-near : {n : ℕ} {w : List ℕ} → n ≤ l → Holds g l place q (dist g t) w → MarkAhead g n q t → ClosesStart (g .size) (g .start) w place (l - (place + 1))
-  mark-ahead-near h w p =
-      let (b, loop) = mark-ahead-start h p in
+  mark-ahead-near le holds p =
+      let (b, loop) = mark-ahead-start le p in
       let (a, at, low) = dist-le (o .well-formed) next-state (walk-append (p .to-mark) (p .back)) in
-      closes-found w (p .k) a b (omega (arith, p .k-lt, o .places)) loop at (omega arith)
+      closes-found holds (p .k) a b (omega (arith, p .k-lt, o .places)) loop at (omega arith)
 
   -- a mark ahead is found by the lengths from t through a mark
   mark-ahead-via : {n : ℕ} {w : List ℕ} → n ≤ l → Holds g l place q (viaMark g t) w → MarkAhead g n q t → ClosesStart (g .size) (g .start) w place (l - (place + 1))
-  mark-ahead-via h w p =
+  mark-ahead-via le holds p =
       let x : ℕ = getD q (p .k) 0 in
-      let (b, loop) = mark-ahead-start h p in
+      let (b, loop) = mark-ahead-start le p in
       let (a, at, low) = isLeast-le (ViaMark g t (λ y m. Walk g y x m)) (viaMark g t x) (viaMark-least (o .well-formed) t next-state x) (p .a + p .b) (p .mark, p .a, p .b, p .marked, p .to-mark, p .back, refl) in
-      closes-found w (p .k) a b (omega (arith, p .k-lt, o .places)) loop at (omega arith)
+      closes-found holds (p .k) a b (omega (arith, p .k-lt, o .places)) loop at (omega arith)
 
   -- a state of the list reached soon enough through a mark completes the list
   via-completes : {w : List ℕ} → Holds g l place q (viaMark g t) w → ClosesStart (g .size) (g .start) w place (l - (place + 1)) → CompletesWithin g l q t
@@ -175,7 +166,7 @@ module _ {g : Graph} {l place : ℕ} {q : List ℕ} {t : ℕ} (o : Beginning g l
         inr (inl (record { k = k; mark = m; a = i; b = j; k-lt = omega arith; marked = marked; to-mark = there; back = back; total = omega arith })),
       )
 
-  -- a beginning extends exactly if it can be completed
+  -- what can be completed with at most l edges extends the list
   extends-of : CompletesWithin g l q t → Extends g l (q ++ t ∷ [])
   extends-of = extends-least-iff g q t (o .path) (o .starts) (o .well-formed) l (o .least) .1
 

@@ -21,9 +21,10 @@ use Rattle.table.proofs.Laws.{sameOutside-trans}
 use Rattle.spread.specs.declared.Answer.{Answer}
 use Rattle.spread.specs.Promises.{SpreadFrom}
 use Rattle.spread.specs.Through.{markedSources, DistancesWithin}
+use Rattle.spread.proofs.SearchLaws.{spread-sameOutside}
 use Rattle.listing.specs.Promises.{StartLoops, Prepared, Decides, upTo}
 use Rattle.listing.proofs.FollowTests.{StartsAhead, ClosesMarked, ClosesStart}
-use Rattle.listing.proofs.FollowLevels.{LevelsBelow, distances-levels, marks-levels, spread-outside}
+use Rattle.listing.proofs.FollowLevels.{LevelsBelow, distances-levels, marks-levels}
 use Rattle.listing.proofs.FollowLaws.{Beginning, Holds, place-state, starts-extends, marked-extends, closes-not-extends, closes-decides}
 
 -- a search changes neither the loop lengths nor the list
@@ -104,7 +105,7 @@ module _ {f : List ℕ} {h : Header} {w : List ℕ} {l place t : ℕ} (asked : A
     -- both searches change regions 2 to 5 only
     pub searched-outside : (u : List ℕ) (r : Answer) → Searched u r → SameOutside (2 * graphOf f .size) (6 * graphOf f .size) w u
     searched-outside u r sp =
-        sameOutside-trans (D .outside) (spread-outside (graphOf f) (markedSources (graphOf f) (l - (place + 1) + 1) v) (l - (place + 1) + 1) (h .states) v u r sp)
+        sameOutside-trans (D .outside) (spread-sameOutside (graphOf f) (markedSources (graphOf f) (l - (place + 1) + 1) v) (l - (place + 1) + 1) (h .states) r sp)
 
     -- when both are ruled out
     module _ (no-start : StartsAhead (h .states) v (l - (place + 1)) → ⊥) (no-mark : ClosesMarked (graphOf f) (h .states) (h .start) v place (l - (place + 1)) → ⊥) where
@@ -118,5 +119,5 @@ module _ {f : List ℕ} {h : Header} {w : List ℕ} {l place t : ℕ} (asked : A
       pub via-decides : (u : List ℕ) (r : Answer) → Searched u r → (b : Bool) → Decides (ClosesStart (h .states) (h .start) u place (l - (place + 1))) b → Decides (Extends (graphOf f) l (upTo (graphOf f) w place ++ t ∷ [])) b
       via-decides u r sp b known =
           let S : Sizes f h = asked-sizes .2 in
-          let levels = marks-levels (graphOf f) t (l - (place + 1) + 1) v (near .levels) (asked-beginning .well-formed) u r (rw (S .states-are) at sp) in
+          let levels = marks-levels D (asked-beginning .well-formed) u r (rw (S .states-are) at sp) in
           closes-decides asked-beginning near (rw (S .states-are) at no-start) (rw (S .states-are, S .start-is) at no-mark) (asked-holds u (searched-outside u r sp) levels) b (rw (S .states-are, S .start-is) at known)

@@ -1,0 +1,107 @@
+-- The first reason that holds, in the table that every call applies with the call's own reasons behind it: what the check
+-- of a file says about it, which reasons are left to decide once the file is accepted and the table has room, and what
+-- becomes of the working table.
+use Prim.Native.Nat.{ℕ, _*_, _≤_, _<_}
+use mathlib.Core.Path.{_≡_, refl, sym, _∙_, ap}
+use mathlib.Core.Bool.{Bool, true, false}
+use mathlib.Core.List.{List, [], _∷_, _++_}
+use mathlib.Core.Option.{Option, some, none}
+use native.Mathlib.Omega.{arith}
+use borrow.Author.Tests.{lt-ltb, le-ltb}
+use lib.ListN.{length, replicate}
+use Rattle.lasso.specs.Lists.{someIf}
+use Rattle.model.specs.Layout.{states}
+use Rattle.model.specs.Rules.{Reason, firstBroken, rules, Accepted}
+use Rattle.model.specs.declared.Header.{Header}
+use Rattle.model.specs.declared.Checked.the-variants.{Refused, Accept}
+use Rattle.model.specs.Values.{headerOf, answerOf, checkOf, Valid}
+use Rattle.model.proofs.Laws.{valid-sizes}
+use Rattle.table.specs.Changes.{Cleared}
+use Rattle.table.proofs.Laws.{cleared-all}
+use Rattle.finder.specs.Tables.{smallTable, commonRules, workAfter, workOf}
+
+-- the first value, or the second if there is none
+abbrev orElse : Option ℕ → Option ℕ → Option ℕ
+orElse none b = b
+orElse (some a) b = some a
+
+-- a test in front of two tables is in front of the first
+someIf-orElse : (b : Bool) (n : ℕ) (p q : Option ℕ) → someIf b n (orElse p q) ≡ orElse (someIf b n p) q
+someIf-orElse true n p q = refl
+someIf-orElse false n p q = refl
+
+-- the first reason of two tables, one after the other
+firstBroken-append : (rs ss : List Reason) → firstBroken (rs ++ ss) ≡ orElse (firstBroken rs) (firstBroken ss)
+firstBroken-append [] ss = refl
+firstBroken-append (r ∷ rs) ss =
+    rw (firstBroken-append rs ss) (someIf-orElse (r .holds) (r .number) (firstBroken rs) (firstBroken ss))
+
+-- if no reason of a table holds, those behind it decide
+pub clear-append : (rs ss : List Reason) → firstBroken rs ≡ none → firstBroken (rs ++ ss) ≡ firstBroken ss
+clear-append rs ss e = firstBroken-append rs ss ∙ ap (λ (o : Option ℕ). orElse o (firstBroken ss)) e
+
+-- if a reason of a table holds, those behind it do not count
+pub broken-append : (rs ss : List Reason) (n : ℕ) → firstBroken rs ≡ some n → firstBroken (rs ++ ss) ≡ some n
+broken-append rs ss n e = firstBroken-append rs ss ∙ ap (λ (o : Option ℕ). orElse o (firstBroken ss)) e
+
+-- the reason that the common table has behind those of the file
+abbrev tableReason : List ℕ → ℕ → List Reason
+tableReason f work = record { number = 12; holds = smallTable f work } ∷ []
+
+-- a refused file is refused with the number of its check, whatever the working table
+pub common-refused : (f : List ℕ) (work n : ℕ) → firstBroken (rules f) ≡ some n → firstBroken (commonRules f work) ≡ some n
+common-refused f work n e = broken-append (rules f) (tableReason f work) n e
+
+-- an accepted file is refused with 12 if the working table is too small
+pub common-small : (f : List ℕ) (work : ℕ) → Accepted f → work < 6 * states f → firstBroken (commonRules f work) ≡ some 12
+common-small f work a less =
+    clear-append (rules f) (tableReason f work) a ∙ ap (λ (b : Bool). someIf b 12 none) (lt-ltb work (6 * states f) less)
+
+-- an accepted file with room in the working table breaks none of 1 to 12
+pub common-clear : (f : List ℕ) (work : ℕ) → Accepted f → 6 * states f ≤ work → firstBroken (commonRules f work) ≡ none
+common-clear f work a room =
+    clear-append (rules f) (tableReason f work) a ∙ ap (λ (b : Bool). someIf b 12 none) (le-ltb work (6 * states f) room)
+
+-- the room that the header of an accepted file asks is the room that the file asks
+pub valid-room : {f : List ℕ} {h : Header} → Valid f h → {n : ℕ} → 6 * h .states ≤ n → 6 * states f ≤ n
+valid-room v room = omega (arith, valid-sizes v .states-are)
+
+-- an accepted file is refused with 12 if the working table has less room than its header asks
+pub valid-small : {f : List ℕ} {h : Header} → Valid f h → (work : ℕ) → work < 6 * h .states → firstBroken (commonRules f work) ≡ some 12
+valid-small {f} v work less = common-small f work (v .accepted) (omega (arith, valid-sizes v .states-are))
+
+-- it breaks none of 1 to 12 if the table has that room
+pub valid-clear : {f : List ℕ} {h : Header} → Valid f h → (work : ℕ) → 6 * h .states ≤ work → firstBroken (commonRules f work) ≡ none
+valid-clear {f} v work room = common-clear f work (v .accepted) (valid-room v room)
+
+-- the check refuses a file with the first reason that holds
+pub check-refused : (f : List ℕ) (n : ℕ) → Refused n ≡ checkOf f → firstBroken (rules f) ≡ some n
+check-refused f n e = go (firstBroken (rules f)) e
+  where
+    go : (o : Option ℕ) → Refused n ≡ answerOf o f → o ≡ some n
+    go none q = let z : _≡_ {A = ℕ} 0 1 = cc in absurd (omega arith)
+    go (some m) q = let same : m ≡ n = cc in ap some same
+
+-- the check accepts a file that breaks none of 1 to 11, and answers its header
+pub check-accepted : (f : List ℕ) (h : Header) → Accept h ≡ checkOf f → Accepted f × (h ≡ headerOf f)
+check-accepted f h e = go (firstBroken (rules f)) e
+  where
+    go : (o : Option ℕ) → Accept h ≡ answerOf o f → (o ≡ none) × (h ≡ headerOf f)
+    go none q = (refl, cc)
+    go (some m) q = let z : _≡_ {A = ℕ} 0 1 = cc in absurd (omega arith)
+
+-- an accepted file and its header are what the layers below ask
+pub check-valid : (f : List ℕ) (h : Header) → Accept h ≡ checkOf f → Valid f h
+check-valid f h e =
+    let (accepted, header) = check-accepted f h e in
+    record { accepted = accepted; header = header }
+
+-- a call that 1 to 12 refuse leaves the working table untouched
+pub work-refused : (f w : List ℕ) (n : ℕ) → firstBroken (commonRules f (length w)) ≡ some n → w ≡ workOf f w
+work-refused f w n e = sym (ap (λ (o : Option ℕ). workAfter o w) e)
+
+-- a call that 1 to 12 do not refuse leaves it all zero: it is cleared as a whole, at the length it had
+pub work-cleared : (f w : List ℕ) {w₁ w' : List ℕ} → firstBroken (commonRules f (length w)) ≡ none → length w₁ ≡ length w
+    → Cleared 0 (length w₁) w₁ w' → w' ≡ workOf f w
+work-cleared f w {w₁} {w'} e same cleared =
+    cleared-all w₁ w' cleared ∙ ap (λ (n : ℕ). replicate n 0) same ∙ sym (ap (λ (o : Option ℕ). workAfter o w) e)

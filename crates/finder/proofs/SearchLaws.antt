@@ -1,0 +1,188 @@
+-- What a search on an accepted file with room in the working table answers and writes, case by case.
+use Prim.Native.Nat.{ℕ, suc, _+_, _*_, _≤_, _<_, min}
+use mathlib.Core.Path.{_≡_, refl, sym, _∙_, ap, subst}
+use mathlib.Core.Bool.{Bool, true, false}
+use mathlib.Core.List.{List, [], _∷_, _++_, head?, List·Memᴰ, List·Memᴰ·head}
+use mathlib.Core.Option.{Option, some, none}
+use native.Mathlib.Omega.{arith}
+use borrow.Author.Tests.{lt-ltb, le-ltb}
+use lib.ListN.{length, take, drop}
+use lib.Seq.{length-take-le}
+use Rattle.lasso.specs.Lists.{pick, someIf}
+use Rattle.lasso.specs.Graph.{Graph, WellFormed, edges, loopStart}
+use Rattle.lasso.specs.Roll.{leastLength, roll}
+use Rattle.lasso.specs.Rounds.{Record, candidates, afterRounds}
+use Rattle.lasso.proofs.RoundLaws.{afterRounds-done, afterRounds-leastLength}
+use Rattle.lasso.proofs.RollLaws.{leastLength-range, roll-empty, roll-length}
+use Rattle.model.specs.Model.{graphOf}
+use Rattle.model.specs.Layout.{states}
+use Rattle.model.specs.Rules.{Reason, firstBroken, Accepted}
+use Rattle.model.proofs.Laws.{accepted-facts}
+use Rattle.finder.specs.Outcomes.{Outcome, refused, answered, outcome, Searched, stopped, empty}
+use Rattle.finder.specs.Tables.{commonRules, tooLong, noRoom, written}
+use Rattle.finder.specs.Search.{stopsb, firstOf, searched, firstDue, lengthDue, searchReasons, searchOutcome, unlessRefused, searchList, searchAnswer}
+use Rattle.finder.proofs.ReasonLaws.{broken-append, clear-append, common-clear}
+
+-- the reasons that a search has behind the common ones
+abbrev pub ownReasons : Graph → ℕ → ℕ → List Reason
+ownReasons g allowance answer =
+    record { number = 14; holds = tooLong (leastLength g) } ∷
+    record { number = 15; holds = noRoom (lengthDue (firstDue g allowance)) answer } ∷ []
+
+-- a search's outcome, and the list that it writes
+pub record SearchIs (f : List ℕ) (allowance answer work : ℕ) (o : Outcome Searched) (due : Option (List ℕ)) : Type 0 where
+  pub outcome : searchOutcome f allowance answer work ≡ o
+  pub list : searchList f allowance answer work ≡ due
+
+-- the answer table holds the list that is written
+pub search-answer : {f : List ℕ} {allowance work : ℕ} {o : Outcome Searched} {due : Option (List ℕ)} (a : List ℕ)
+    → SearchIs f allowance (length a) work o due → searchAnswer f allowance a work ≡ written due a
+search-answer a s = ap (λ (l : Option (List ℕ)). written l a) (s .list)
+
+-- a search for which a reason holds is refused with the first, and writes nothing
+search-broken : (f : List ℕ) (allowance answer work n : ℕ) → firstBroken (searchReasons f allowance answer work) ≡ some n
+    → SearchIs f allowance answer work (refused n) none
+search-broken f allowance answer work n e =
+    record {
+      outcome = ap (λ (o : Option ℕ). outcome o (searched (graphOf f) allowance)) e;
+      list = ap (λ (o : Option ℕ). unlessRefused o (firstDue (graphOf f) allowance)) e;
+    }
+
+-- a search for which none of 1 to 12 holds is not refused: what it answers, and the list due
+search-kept : (f : List ℕ) (allowance answer work : ℕ) (s : Searched) (due : Option (List ℕ))
+    → firstBroken (searchReasons f allowance answer work) ≡ none → searched (graphOf f) allowance ≡ s
+    → firstDue (graphOf f) allowance ≡ due → SearchIs f allowance answer work (answered s) due
+search-kept f allowance answer work s due e p q =
+    record {
+      outcome = ap (λ (o : Option ℕ). outcome o (searched (graphOf f) allowance)) e ∙ ap (λ (x : Searched). answered x) p;
+      list = ap (λ (o : Option ℕ). unlessRefused o (firstDue (graphOf f) allowance)) e ∙ q;
+    }
+
+-- refused with a reason of 1 to 12
+pub search-refused : (f : List ℕ) (allowance answer work n : ℕ) → firstBroken (commonRules f work) ≡ some n
+    → SearchIs f allowance answer work (refused n) none
+search-refused f allowance answer work n e =
+    search-broken f allowance answer work n (broken-append (commonRules f work) (ownReasons (graphOf f) allowance answer) n e)
+
+-- the shortest accepting path of an accepted file never has more than 4,096 transitions
+pub never-too-long : (f : List ℕ) → Accepted f → tooLong (leastLength (graphOf f)) ≡ false
+never-too-long f a = go (leastLength (graphOf f)) refl
+  where
+    go : (o : Option ℕ) → leastLength (graphOf f) ≡ o → tooLong o ≡ false
+    go none e = refl
+    go (some l) e =
+        let facts = accepted-facts f a in
+        le-ltb 4096 l (omega (arith, leastLength-range (graphOf f) l e, facts .states-range))
+
+-- the first of a list of lists decides between found and empty
+firstOf-head : (rs : List (List ℕ)) (xs : List ℕ) (rounds : ℕ) → head? rs ≡ some xs
+    → firstOf rs rounds ≡ Searched.found (edges xs) (loopStart xs) rounds
+firstOf-head [] xs rounds e = let z : _≡_ {A = ℕ} 0 1 = cc in absurd (omega arith)
+firstOf-head (r ∷ rs) xs rounds e =
+    let q : r ≡ xs = cc in ap (λ (zs : List ℕ). Searched.found (edges zs) (loopStart zs) rounds) q
+
+-- with a least length there is a first list, of that length
+pub roll-first : (g : Graph) (l : ℕ) → leastLength g ≡ some l → (xs : List ℕ) × (head? (roll g) ≡ some xs) × (length xs ≡ suc l)
+roll-first g l e = go (roll g) refl
+  where
+    go : (rs : List (List ℕ)) → roll g ≡ rs → (xs : List ℕ) × (head? rs ≡ some xs) × (length xs ≡ suc l)
+    go [] q = let n : leastLength g ≡ none = roll-empty g .0 q in let z : _≡_ {A = ℕ} 0 1 = cc in absurd (omega arith)
+    go (xs ∷ rs) q =
+        (xs, refl, roll-length g l e xs (subst (λ (zs : List (List ℕ)). List·Memᴰ xs zs) (sym q) (List·Memᴰ·head refl)))
+
+-- an allowance that suffices does all rounds: their number, and the least length of an accepting path
+pub all-rounds : {g : Graph} → WellFormed g → (rec : Record) (allowance : ℕ)
+    → rec ≡ afterRounds g (min allowance (length (candidates g))) → length (candidates g) ≤ allowance
+    → (rec .done ≡ length (candidates g)) × (rec .best ≡ leastLength g)
+all-rounds {g} wf rec allowance e enough =
+    let n : ℕ = length (candidates g) in
+    let all : min allowance n ≡ n = omega arith in
+    let q : rec ≡ afterRounds g n = e ∙ ap (λ (m : ℕ). afterRounds g m) all in (
+      ap (λ (r : Record). r .done) q ∙ afterRounds-done g n,
+      ap (λ (r : Record). r .best) q ∙ afterRounds-leastLength wf,
+    )
+
+module _ (f : List ℕ) (accepted : Accepted f) (allowance answer work : ℕ) (room : 6 * states f ≤ work) where
+  -- the graph of the file
+  abbrev g : Graph
+  g = graphOf f
+
+  -- only reason 15 is left to decide
+  search-reasons : firstBroken (searchReasons f allowance answer work) ≡ someIf (noRoom (lengthDue (firstDue g allowance)) answer) 15 none
+  search-reasons =
+      clear-append (commonRules f work) (ownReasons g allowance answer) (common-clear f work accepted room)
+      ∙ ap (λ (b : Bool). someIf b 14 (someIf (noRoom (lengthDue (firstDue g allowance)) answer) 15 none)) (never-too-long f accepted)
+
+  -- the list due has room or not
+  search-due : (due : Option (List ℕ)) (b : Bool) → firstDue g allowance ≡ due → noRoom (lengthDue due) answer ≡ b
+      → firstBroken (searchReasons f allowance answer work) ≡ someIf b 15 none
+  search-due due b q e =
+      search-reasons
+      ∙ ap (λ (d : Option (List ℕ)). someIf (noRoom (lengthDue d) answer) 15 none) q
+      ∙ ap (λ (x : Bool). someIf x 15 none) e
+
+  -- the allowance is less than the number of candidates: stopped with the record after that many rounds
+  pub search-stopped : allowance < length (candidates g)
+      → SearchIs f allowance answer work (answered (stopped (afterRounds g allowance))) none
+  search-stopped less =
+      let stops : stopsb g allowance ≡ true = lt-ltb allowance (length (candidates g)) less in
+      let due : firstDue g allowance ≡ none = ap (λ (b : Bool). pick b none (head? (roll g))) stops in
+      search-kept f allowance answer work (stopped (afterRounds g allowance)) none (search-due none false due refl)
+      (ap (λ (b : Bool). pick b (stopped (afterRounds g allowance)) (firstOf (roll g) (length (candidates g)))) stops) due
+
+  -- the allowance suffices: the first of the roll decides
+  search-goes-on : length (candidates g) ≤ allowance
+      → (searched g allowance ≡ firstOf (roll g) (length (candidates g))) × (firstDue g allowance ≡ head? (roll g))
+  search-goes-on enough =
+      let goes : stopsb g allowance ≡ false = le-ltb allowance (length (candidates g)) enough in (
+        ap (λ (b : Bool). pick b (stopped (afterRounds g allowance)) (firstOf (roll g) (length (candidates g)))) goes,
+        ap (λ (b : Bool). pick b none (head? (roll g))) goes,
+      )
+
+  -- there is no accepting path: empty, with the number of candidates
+  pub search-empty : length (candidates g) ≤ allowance → leastLength g ≡ none
+      → SearchIs f allowance answer work (answered (empty (length (candidates g)))) none
+  search-empty enough none-least =
+      let (answers, due) = search-goes-on enough in
+      let no-list : roll g ≡ [] = roll-empty g .1 none-least in
+      let nothing : firstDue g allowance ≡ none = due ∙ ap (λ (rs : List (List ℕ)). head? rs) no-list in
+      search-kept f allowance answer work (empty (length (candidates g))) none (search-due none false nothing refl)
+      (answers ∙ ap (λ (rs : List (List ℕ)). firstOf rs (length (candidates g))) no-list) nothing
+
+  -- the first of the roll has room: found, with its figures
+  pub search-found : length (candidates g) ≤ allowance → (xs : List ℕ) → head? (roll g) ≡ some xs → edges xs + 1 ≤ answer
+      → SearchIs f allowance answer work (answered (Searched.found (edges xs) (loopStart xs) (length (candidates g)))) (some xs)
+  search-found enough xs first fits =
+      let (answers, due) = search-goes-on enough in
+      search-kept f allowance answer work (Searched.found (edges xs) (loopStart xs) (length (candidates g))) (some xs)
+      (search-due (some xs) false (due ∙ first) (le-ltb answer (edges xs + 1) fits))
+      (answers ∙ firstOf-head (roll g) xs (length (candidates g)) first) (due ∙ first)
+
+  -- it has no room: refused with 15
+  pub search-no-room : length (candidates g) ≤ allowance → (l : ℕ) → leastLength g ≡ some l → answer < l + 1
+      → SearchIs f allowance answer work (refused 15) none
+  search-no-room enough l least less =
+      let (xs, first, long) = roll-first g l least in
+      let (answers, due) = search-goes-on enough in
+      search-broken f allowance answer work 15
+      (search-due (some xs) true (due ∙ first) (lt-ltb answer (edges xs + 1) (omega arith)))
+
+-- the first of the roll, which stands in region 0 behind the start, was written to the answer table: what a search with
+-- any allowance that suffices answers and writes
+pub first-written : (f : List ℕ) → Accepted f → (work : ℕ) → 6 * states f ≤ work → (a a' w : List ℕ) (s l k rounds : ℕ)
+    → s ≡ graphOf f .start → l ≤ length w → head? (roll (graphOf f)) ≡ some (graphOf f .start ∷ take l w) → l < length a
+    → k ≡ loopStart (s ∷ take l w) → rounds ≡ length (candidates (graphOf f)) → a' ≡ (s ∷ take l w) ++ drop (l + 1) a
+    → (allowance : ℕ) → rounds ≤ allowance
+    → (answered (Searched.found l k rounds) ≡ searchOutcome f allowance (length a) work) × (a' ≡ searchAnswer f allowance a work)
+first-written f accepted work room a a' w s l k rounds at-start fits first free at-k all out allowance enough =
+    let g : Graph = graphOf f in
+    let xs : List ℕ = s ∷ take l w in
+    let long : length (take l w) ≡ l = length-take-le l w fits in
+    let at-l : l ≡ edges xs = omega arith in
+    let first' : head? (roll g) ≡ some xs = subst (λ (x : ℕ). head? (roll g) ≡ some (x ∷ take l w)) (sym at-start) first in
+    let found = search-found f accepted allowance (length a) work room (omega arith) xs first' (omega arith) in
+    let figures : answered (Searched.found l k rounds) ≡ answered (Searched.found (edges xs) (loopStart xs) (length (candidates g))) = cc in
+    let entries : l + 1 ≡ length xs = omega arith in (
+      figures ∙ sym (found .outcome),
+      out ∙ ap (λ (n : ℕ). xs ++ drop n a) entries ∙ sym (search-answer a found),
+    )

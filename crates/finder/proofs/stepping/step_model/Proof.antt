@@ -1,0 +1,97 @@
+-- `stepping::step_model` meets its contract: finished if the count of candidates is at most the place, else the record
+-- after the round for the candidate at that place.
+use mathlib.Core.Path.{_∙_, ap}
+use Prim.Native.Nat.{ℕ, _<_}
+use native.Mathlib.Omega.{arith}
+use borrow.Author.Needs.{needs}
+use lib.ListN.{length}
+use Rattle.lasso.specs.Rounds.{candidates, roundLength, withRound}
+use Rattle.lasso.specs.Values.{recordOf}
+use Rattle.model.specs.Model.{graphOf}
+use Rattle.model.proofs.Laws.{valid-sizes}
+use Rattle.finder.proofs.ReasonLaws.{valid-clear}
+use Rattle.finder.proofs.ReadyLaws.{ready-started}
+use Rattle.finder.proofs.StepLaws.{candidates-length-le, step-finished, step-advanced}
+use Rattle.finder.proofs.stepping.step_model.Statement.{statement}
+use Rattle.finder.proofs.stepping.step_model.Tie as tie
+
+-- where the distances from the start are there, and the function's start, from where the candidates are counted
+abbrev started : tie.After-count-candidates → tie.After-start-distances
+started c = c .before .before .before .before
+
+abbrev start : tie.After-count-candidates → tie.Start
+start c = started c .before .before .before .before
+
+-- a candidate is left
+left-over : (c : tie.Else1) → let a = start (c .before .before) .args in a .so-far .done < length (candidates (graphOf (a .file .now)))
+left-over c = omega (arith, c .before .before .count-candidates .ensures, c .if1 .left)
+
+start-distances-requires : tie.Need-start-distances-requires
+start-distances-requires c κs = search needs
+
+count-candidates-requires : tie.Need-count-candidates-requires
+count-candidates-requires c κs = search needs
+
+cast-place : tie.Need-cast-place
+cast-place c = search needs
+
+same-length : tie.Need-same-length
+same-length c = search needs
+
+returns : tie.Need-returns
+returns c =
+    let counted = c .before .before in
+    let s = start counted in (
+      step-finished (s .args .file .now) (recordOf (s .args .so-far)) _ (valid-clear (s .pre .0) _ (s .pre .1))
+          (omega (arith, counted .count-candidates .ensures, c .if1 .taken)),
+      started counted .start-distances .ensures .same-length,
+    )
+
+candidate-at-requires : tie.Need-candidate-at-requires
+candidate-at-requires c κs =
+    let counted = c .before .before .before in
+    let s = start counted in
+    (ready-started (s .pre .0) (s .pre .1) (started counted .start-distances .ensures), left-over (c .before))
+
+after-round-requires : tie.Need-after-round-requires
+after-round-requires c κs =
+    let counted = c .before .before .before .before .before in
+    let s = start counted in
+    let sizes = valid-sizes (s .pre .0) in (
+      ready-started (s .pre .0) (s .pre .1) (started counted .start-distances .ensures),
+      (
+        c .before .candidate-at .ensures .1,
+        omega (arith, left-over (c .before .before .before), candidates-length-le (graphOf (s .args .file .now))),
+      ),
+    )
+
+same-length-2 : tie.Need-same-length-2
+same-length-2 c = search needs
+
+returns-2 : tie.Need-returns-2
+returns-2 c =
+    let done = c .before .before in
+    let found = done .before .before in
+    let else = found .before .before in
+    let counted = else .before .before in
+    let s = start counted in
+    let rec = recordOf (s .args .so-far) in
+    let g = graphOf (s .args .file .now) in (
+      step-advanced (s .args .file .now) rec _ (valid-clear (s .pre .0) _ (s .pre .1)) (left-over else) _
+          (done .after-round .ensures .0 ∙ ap (λ (r : ℕ). withRound rec (roundLength g r)) (found .candidate-at .ensures .0)),
+      done .after-round .ensures .1 .same-length ∙ started counted .start-distances .ensures .same-length,
+    )
+
+pub step-model-spec : {M : Type 1} → statement M
+step-model-spec =
+    tie.close
+    (tie.spec
+    start-distances-requires
+    count-candidates-requires
+    cast-place
+    same-length
+    returns
+    candidate-at-requires
+    after-round-requires
+    same-length-2
+    returns-2)

@@ -1,0 +1,71 @@
+-- `writing::loop_start` meets its contract. The loop's invariant: no place before k holds the last state.
+use Prim.Native.Nat.{ℕ, _-_, _≤_, _<_}
+use mathlib.Core.Path.{_≡_, sym, _∙_}
+use mathlib.Core.List.{_∷_}
+use native.Mathlib.Omega.{arith}
+use borrow.Author.Count.{below-more}
+use borrow.Author.Needs.{needs}
+use lib.ListN.{getD}
+use Rattle.finder.proofs.WriteLaws.{loopStart-is, before-last}
+use Rattle.finder.proofs.writing.loop_start.Statement.{statement}
+use Rattle.finder.proofs.writing.loop_start.Tie as tie
+
+abbrev Inv-loop : tie.InvT-loop
+Inv-loop h work transitions last k₀ k =
+    (k ≤ transitions) × ((i : ℕ) → i < k → getD (h .start ∷ work) i 0 ≡ last → ⊥)
+
+abbrev μ-loop : tie.MeasureT-loop
+μ-loop h work transitions last k₀ k = transitions - k
+
+list-at-requires : tie.Need-list-at-requires Inv-loop μ-loop
+list-at-requires c κs = search needs
+
+loop-holds : tie.Need-loop-holds Inv-loop μ-loop
+loop-holds c = (omega arith, λ i less. absurd (omega arith))
+
+list-at-requires-2 : tie.Need-list-at-requires-2 Inv-loop μ-loop
+list-at-requires-2 c κs = omega arith
+
+-- a place that does not hold the last state is before the last
+before-end : (c : tie.Then1 Inv-loop μ-loop) → c .before .before .loop .k < c .before .before .before .before .before .args .transitions
+before-end c =
+    let a = c .before .before .before .before .before .args in
+    before-last (a .h .start ∷ a .work .now) (c .before .before .loop .k) (a .transitions) _ _ (c .before .before .loop .inv .0)
+    (c .before .list-at2 .ensures) (c .before .before .before .list-at .ensures) (c .if1 .taken)
+
+add-k : tie.Need-add-k Inv-loop μ-loop
+add-k c = omega (arith, before-end c)
+
+loop-less : tie.Need-loop-less Inv-loop μ-loop
+loop-less c = omega (arith, before-end c)
+
+loop-again : tie.Need-loop-again Inv-loop μ-loop
+loop-again c = (
+  omega (arith, before-end c),
+  below-more _ _ (c .before .before .loop .inv .1) (λ e. c .if1 .taken (c .before .list-at2 .ensures ∙ e)),
+)
+
+returns : tie.Need-returns Inv-loop μ-loop
+returns c =
+    let a = c .before .before .before .before .before .args in
+    let last = c .before .before .before .list-at .ensures in
+    let (within, before) = c .before .before .loop .inv in (
+      loopStart-is (a .h .start) (a .work .now) (a .transitions) _ (c .before .before .before .before .before .pre) within
+          (sym (c .before .list-at2 .ensures) ∙ c .if1 .left ∙ last)
+          (λ i less e. before i less (e ∙ sym last)),
+      within,
+    )
+
+pub loop-start-spec : {M : Type 1} → statement M
+loop-start-spec =
+    tie.close
+    (tie.spec
+    Inv-loop
+    μ-loop
+    list-at-requires
+    loop-holds
+    list-at-requires-2
+    add-k
+    loop-less
+    loop-again
+    returns)

@@ -1,0 +1,46 @@
+-- "Next": the shortest accepting path that follows an earlier one.
+use Prim.Native.Nat.{ℕ}
+use mathlib.Core.Bool.{Bool, not}
+use mathlib.Core.List.{List, [], _∷_, _++_}
+use mathlib.Core.Option.{Option, some, none}
+use lib.ListN.{length}
+use Rattle.lasso.specs.Lists.{anyb}
+use Rattle.lasso.specs.Graph.{Graph, edges, loopStart}
+use Rattle.lasso.specs.Roll.{leastLength, roll}
+use Rattle.lasso.specs.Following.{sameb, following}
+use Rattle.model.specs.Model.{graphOf}
+use Rattle.model.specs.Rules.{Reason, firstBroken}
+use Rattle.finder.specs.Outcomes.{Outcome, outcome, Followed, noMore}
+use Rattle.finder.specs.Tables.{commonRules, tooLong, noRoom, written}
+use Rattle.finder.specs.Search.{lengthDue, unlessRefused}
+
+-- 13. the earlier list, with all its entries, is not a shortest accepting path of this model
+abbrev pub notShortest : Graph → List ℕ → Bool
+notShortest g earlier = not (anyb (sameb earlier) (roll g))
+
+-- found with the list's length and its loop start, or no more
+abbrev pub followed : Option (List ℕ) → Followed
+followed none = noMore
+followed (some xs) = Followed.found (edges xs) (loopStart xs)
+
+-- the reasons that next applies: all of them
+abbrev pub nextReasons : List ℕ → List ℕ → ℕ → ℕ → List Reason
+nextReasons f earlier answer work =
+    commonRules f work ++
+    record { number = 13; holds = notShortest (graphOf f) earlier } ∷
+    record { number = 14; holds = tooLong (leastLength (graphOf f)) } ∷
+    record { number = 15; holds = noRoom (lengthDue (following earlier (roll (graphOf f)))) answer } ∷ []
+
+-- what next answers
+abbrev pub nextOutcome : List ℕ → List ℕ → ℕ → ℕ → Outcome Followed
+nextOutcome f earlier answer work =
+    outcome (firstBroken (nextReasons f earlier answer work)) (followed (following earlier (roll (graphOf f))))
+
+-- the list that next writes
+abbrev pub nextList : List ℕ → List ℕ → ℕ → ℕ → Option (List ℕ)
+nextList f earlier answer work =
+    unlessRefused (firstBroken (nextReasons f earlier answer work)) (following earlier (roll (graphOf f)))
+
+-- the answer table after next
+abbrev pub nextAnswer : List ℕ → List ℕ → List ℕ → ℕ → List ℕ
+nextAnswer f earlier a work = written (nextList f earlier (length a) work) a

@@ -1,0 +1,64 @@
+-- A search: the first of the shortest accepting paths, if the allowance suffices.
+use Prim.Native.Nat.{ℕ}
+use mathlib.Core.Bool.{Bool, _&&_}
+use mathlib.Core.List.{List, [], _∷_, _++_, head?}
+use mathlib.Core.Option.{Option, some, none}
+use lib.ListN.{length}
+use lib.Dec.{ltb, leb}
+use Rattle.lasso.specs.Lists.{pick}
+use Rattle.lasso.specs.Graph.{Graph, edges, loopStart}
+use Rattle.lasso.specs.Roll.{leastLength, roll}
+use Rattle.lasso.specs.Rounds.{candidates, afterRounds}
+use Rattle.model.specs.Model.{graphOf}
+use Rattle.model.specs.Rules.{Reason, firstBroken}
+use Rattle.finder.specs.Outcomes.{Outcome, refused, answered, outcome, Searched, stopped, empty}
+use Rattle.finder.specs.Tables.{commonRules, tooLong, noRoom, written}
+
+-- the allowance is less than the number of candidates
+abbrev pub stopsb : Graph → ℕ → Bool
+stopsb g allowance = ltb allowance (length (candidates g))
+
+-- found with the list's length, its loop start and the rounds, or empty
+abbrev pub firstOf : List (List ℕ) → ℕ → Searched
+firstOf [] rounds = empty rounds
+firstOf (xs ∷ rest) rounds = Searched.found (edges xs) (loopStart xs) rounds
+
+-- what a search not refused answers
+abbrev pub searched : Graph → ℕ → Searched
+searched g allowance =
+    pick (stopsb g allowance) (stopped (afterRounds g allowance)) (firstOf (roll g) (length (candidates g)))
+
+-- the list that is to be written: the first of the roll, unless the search is stopped
+abbrev pub firstDue : Graph → ℕ → Option (List ℕ)
+firstDue g allowance = pick (stopsb g allowance) none (head? (roll g))
+
+-- the length of the list that is to be written
+abbrev pub lengthDue : Option (List ℕ) → Option ℕ
+lengthDue none = none
+lengthDue (some xs) = some (edges xs)
+
+-- the reasons that a search applies: it skips 13
+abbrev pub searchReasons : List ℕ → ℕ → ℕ → ℕ → List Reason
+searchReasons f allowance answer work =
+    commonRules f work ++
+    record { number = 14; holds = tooLong (leastLength (graphOf f)) } ∷
+    record { number = 15; holds = noRoom (lengthDue (firstDue (graphOf f) allowance)) answer } ∷ []
+
+-- what a search answers
+abbrev pub searchOutcome : List ℕ → ℕ → ℕ → ℕ → Outcome Searched
+searchOutcome f allowance answer work =
+    outcome (firstBroken (searchReasons f allowance answer work)) (searched (graphOf f) allowance)
+
+-- the list due if the call is not refused
+abbrev pub unlessRefused : Option ℕ → Option (List ℕ) → Option (List ℕ)
+unlessRefused none due = due
+unlessRefused (some n) due = none
+
+-- the list that a search writes
+abbrev pub searchList : List ℕ → ℕ → ℕ → ℕ → Option (List ℕ)
+searchList f allowance answer work =
+    unlessRefused (firstBroken (searchReasons f allowance answer work)) (firstDue (graphOf f) allowance)
+
+-- the answer table after a search
+abbrev pub searchAnswer : List ℕ → ℕ → List ℕ → ℕ → List ℕ
+searchAnswer f allowance a work = written (searchList f allowance (length a) work) a
