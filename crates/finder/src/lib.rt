@@ -10,7 +10,6 @@ ghost use Rattle.finder.specs.Search.{searchOutcome, searchAnswer};
 
 mod searching;
 mod stepping;
-mod writing;
 
 use lasso::RoundRecord;
 use lasso::Transitions;

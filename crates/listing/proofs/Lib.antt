@@ -13,3 +13,4 @@ pub mod PlacesRow
 pub mod PlacesFollower
 pub mod PlacesComplete
 pub mod PlacesRoll
+pub mod WriteLaws

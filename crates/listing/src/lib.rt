@@ -4,8 +4,10 @@
 mod follow;
 mod places;
 mod starts;
+mod writing;
 
 pub use follow::list_at;
 pub use places::advance;
 pub use places::first;
 pub use starts::prepare;
+pub use writing::write_list;

@@ -4,9 +4,9 @@ use mathlib.Core.Path.{_≡_, refl, _∙_, ap}
 use mathlib.Core.List.{List, _∷_, _++_}
 use native.Mathlib.Omega.{arith}
 use lib.ListN.{length, take, drop, length-drop}
-use Rattle.finder.proofs.WriteLaws.{front-store, front-length, entries-fit}
-use Rattle.finder.proofs.writing.write_part.Statement.{statement}
-use Rattle.finder.proofs.writing.write_part.Tie as tie
+use Rattle.listing.proofs.WriteLaws.{front-store, front-length, entries-fit}
+use Rattle.listing.proofs.writing.write_part.Statement.{statement}
+use Rattle.listing.proofs.writing.write_part.Tie as tie
 
 abbrev Inv-loop : tie.InvT-loop
 Inv-loop h work from count part₀ i₀ part i =

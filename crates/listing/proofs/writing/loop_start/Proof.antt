@@ -6,9 +6,9 @@ use native.Mathlib.Omega.{arith}
 use borrow.Author.Count.{below-more}
 use borrow.Author.Needs.{needs}
 use lib.ListN.{getD}
-use Rattle.finder.proofs.WriteLaws.{loopStart-is, before-last}
-use Rattle.finder.proofs.writing.loop_start.Statement.{statement}
-use Rattle.finder.proofs.writing.loop_start.Tie as tie
+use Rattle.listing.proofs.WriteLaws.{loopStart-is, before-last}
+use Rattle.listing.proofs.writing.loop_start.Statement.{statement}
+use Rattle.listing.proofs.writing.loop_start.Tie as tie
 
 abbrev Inv-loop : tie.InvT-loop
 Inv-loop h work transitions last k₀ k =

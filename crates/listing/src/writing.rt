@@ -4,7 +4,7 @@ ghost use mathlib.Core.List.{_∷_, _++_};
 ghost use Prim.Native.Nat.{_+_, _≤_, _<_};
 ghost use lib.ListN.{length, take, drop};
 ghost use Rattle.lasso.specs.Graph.{loopStart};
-use listing::list_at;
+use crate::follow::list_at;
 use model::Header;
 
 // The place where the loop starts: the first place that holds the last state.
