@@ -3,5 +3,10 @@ pub mod ReasonLaws
 pub mod ReadyLaws
 pub mod StepLaws
 pub mod SearchLaws
+pub mod PathTests
+pub mod LoopTests
+pub mod LoadLaws
+pub mod TableLaws
+pub mod NextLaws
 pub mod OutcomeLaws
 pub mod Condition2

@@ -3,14 +3,17 @@
 ghost use mathlib.Core.Path.{_≡_};
 ghost use lib.ListN.{length};
 ghost use Rattle.lasso.specs.Values.{recordOf};
-ghost use Rattle.finder.specs.Outcomes.{stepOutcomeOf, searchOutcomeOf};
+ghost use Rattle.finder.specs.Outcomes.{stepOutcomeOf, searchOutcomeOf, nextOutcomeOf};
 ghost use Rattle.finder.specs.Tables.{workOf};
 ghost use Rattle.finder.specs.Step.{stepOutcome};
 ghost use Rattle.finder.specs.Search.{searchOutcome, searchAnswer};
+ghost use Rattle.finder.specs.Next.{nextOutcome, nextAnswer};
 
+mod following;
 mod searching;
 mod stepping;
 
+use following::next_of_model;
 use lasso::RoundRecord;
 use lasso::Transitions;
 use model::Checked;
@@ -76,6 +79,27 @@ pub fn search(file: &[u8], allowance: u16, answer: &mut [u16], work: &mut [u16])
                 return SearchAnswer::Refused(12);
             }
             let result = search_model(file, h, allowance, answer, work);
+            let end = work.len();
+            clear(work, 0, end);
+            result
+        }
+    }
+}
+
+// The shortest accepting path that follows an earlier one, written to the answer table.
+pub fn next(file: &[u8], earlier: &[u16], answer: &mut [u16], work: &mut [u16]) -> NextAnswer
+    ensures outcome { λ r. ⌜ nextOutcomeOf r ≡ nextOutcome (now (file .entry)) (now (earlier .entry)) (length (now (answer .entry))) (length (now (work .entry))) ⌝ }
+    ensures answer { λ r. ⌜ now (answer .exit) ≡ nextAnswer (now (file .entry)) (now (earlier .entry)) (now (answer .entry)) (length (now (work .entry))) ⌝ }
+    ensures work { λ r. ⌜ now (work .exit) ≡ workOf (now (file .entry)) (now (work .entry)) ⌝ }
+{
+    let checked = check(file);
+    match checked {
+        Checked::Refused(number) => NextAnswer::Refused(number),
+        Checked::Accept(h) => {
+            if work.len() < 6 * h.states {
+                return NextAnswer::Refused(12);
+            }
+            let result = next_of_model(file, h, earlier, answer, work);
             let end = work.len();
             clear(work, 0, end);
             result

@@ -1,0 +1,172 @@
+-- What "next" answers and writes, case by case.
+use Prim.Native.Nat.{ℕ, _+_, _*_, _≤_, _<_}
+use mathlib.Core.Path.{_≡_, refl, sym, _∙_, ap, subst}
+use mathlib.Core.Bool.{Bool, true, false, not}
+use mathlib.Core.List.{List, [], _∷_, _++_, List·Memᴰ}
+use mathlib.Core.Option.{Option, some, none}
+use native.Mathlib.Omega.{arith}
+use borrow.Author.Tests.{lt-ltb, le-ltb}
+use lib.ListN.{length, take, drop}
+use lib.Seq.{length-take-le}
+use lib.Dec.{T, eqb, eqb→eq, not-T}
+use Rattle.lasso.specs.Lists.{anyb, someIf}
+use Rattle.lasso.specs.Graph.{Graph, WellFormed, edges, lassob, loopStart}
+use Rattle.lasso.specs.Roll.{leastLength, roll}
+use Rattle.lasso.specs.Following.{sameb, following}
+use Rattle.lasso.proofs.Tests.{parts, join, T-true, T-false, eq→eqb, anyb-some, some-anyb}
+use Rattle.lasso.proofs.OrderLaws.{sameb→eq, sameb-refl}
+use Rattle.lasso.proofs.RollLaws.{roll-empty, roll-lasso, lasso-in-roll}
+use Rattle.model.specs.Model.{graphOf}
+use Rattle.model.specs.Layout.{states}
+use Rattle.model.specs.Rules.{Reason, firstBroken, Accepted}
+use Rattle.finder.specs.Outcomes.{Outcome, refused, answered, outcome, Followed, noMore}
+use Rattle.finder.specs.Tables.{commonRules, tooLong, noRoom, written}
+use Rattle.finder.specs.Search.{lengthDue, unlessRefused}
+use Rattle.finder.specs.Next.{notShortest, followed, nextReasons, nextOutcome, nextList, nextAnswer}
+use Rattle.finder.proofs.ReasonLaws.{broken-append, clear-append, common-clear}
+use Rattle.finder.proofs.SearchLaws.{never-too-long}
+use Rattle.finder.proofs.LoopTests.{lassoOf}
+
+-- a list of the roll is a shortest accepting path
+pub shortest-mem : (g : Graph) (xs : List ℕ) → List·Memᴰ xs (roll g) → notShortest g xs ≡ false
+shortest-mem g xs m = ap not (T-true (anyb (sameb xs) (roll g)) (some-anyb (sameb xs) m (sameb-refl xs)))
+
+-- a list that is not in the roll is none
+pub notShortest-apart : (g : Graph) (xs : List ℕ) → (List·Memᴰ xs (roll g) → ⊥) → notShortest g xs ≡ true
+notShortest-apart g xs d = ap not (T-false (anyb (sameb xs) (roll g)) (not-T (anyb (sameb xs) (roll g)) found))
+  where
+    found : T (anyb (sameb xs) (roll g)) → ⊥
+    found h =
+        let (ys, m, same) = anyb-some (sameb xs) (roll g) h in
+        d (subst (λ (zs : List ℕ). List·Memᴰ zs (roll g)) (sym (sameb→eq xs ys same)) m)
+
+-- without an accepting path no list is one
+pub notShortest-none : (g : Graph) (xs : List ℕ) → leastLength g ≡ none → notShortest g xs ≡ true
+notShortest-none g xs e = ap (λ (rs : List (List ℕ)). not (anyb (sameb xs) rs)) (roll-empty g .1 e)
+
+module _ (g : Graph) (wf : WellFormed g) (l : ℕ) (least : leastLength g ≡ some l) (xs : List ℕ) where
+  -- a lasso of the least length is in the roll
+  pub lassoOf-mem : lassoOf g xs l ≡ true → List·Memᴰ xs (roll g)
+  lassoOf-mem e =
+      let h : T (lassoOf g xs l) = rw e tt in
+      let lasso : T (lassob g xs) = search parts in
+      let long : edges xs ≡ l = search (parts, eqb→eq) in
+      lasso-in-roll g wf l least xs lasso long
+
+  -- a list that is no lasso of the least length is no shortest accepting path
+  pub notShortest-lasso : lassoOf g xs l ≡ false → notShortest g xs ≡ true
+  notShortest-lasso e = notShortest-apart g xs apart
+    where
+      apart : List·Memᴰ xs (roll g) → ⊥
+      apart m =
+          let (lasso, long) = roll-lasso g l least xs m in
+          let exact : T (eqb (edges xs) l) = eq→eqb (edges xs) l long in
+          let h : T (lassoOf g xs l) = search join in
+          rw e at h
+
+-- the reasons that "next" has behind the common ones
+abbrev pub nextOwnReasons : Graph → List ℕ → ℕ → List Reason
+nextOwnReasons g earlier answer =
+    record { number = 13; holds = notShortest g earlier } ∷
+    record { number = 14; holds = tooLong (leastLength g) } ∷
+    record { number = 15; holds = noRoom (lengthDue (following earlier (roll g))) answer } ∷ []
+
+-- the outcome of "next", and the list that it writes
+pub record NextIs (f earlier : List ℕ) (answer work : ℕ) (o : Outcome Followed) (due : Option (List ℕ)) : Type 0 where
+  pub outcome : nextOutcome f earlier answer work ≡ o
+  pub list : nextList f earlier answer work ≡ due
+
+-- the answer table holds the list that is written
+pub next-answer : {f earlier : List ℕ} {work : ℕ} {o : Outcome Followed} {due : Option (List ℕ)} (a : List ℕ)
+    → NextIs f earlier (length a) work o due → nextAnswer f earlier a work ≡ written due a
+next-answer a s = ap (λ (l : Option (List ℕ)). written l a) (s .list)
+
+-- a reason holds: refused with the first, and nothing is written
+next-broken : (f earlier : List ℕ) (answer work n : ℕ) → firstBroken (nextReasons f earlier answer work) ≡ some n
+    → NextIs f earlier answer work (refused n) none
+next-broken f earlier answer work n e =
+    let due : Option (List ℕ) = following earlier (roll (graphOf f)) in
+    record {
+      outcome = ap (λ (o : Option ℕ). outcome o (followed due)) e;
+      list = ap (λ (o : Option ℕ). unlessRefused o due) e;
+    }
+
+-- no reason holds: the list that follows decides
+next-kept : (f earlier : List ℕ) (answer work : ℕ) (due : Option (List ℕ))
+    → firstBroken (nextReasons f earlier answer work) ≡ none → following earlier (roll (graphOf f)) ≡ due
+    → NextIs f earlier answer work (answered (followed due)) due
+next-kept f earlier answer work due e q =
+    record {
+      outcome = ap (λ (o : Option ℕ). outcome o (followed (following earlier (roll (graphOf f))))) e ∙ ap (λ (d : Option (List ℕ)). answered (followed d)) q;
+      list = ap (λ (o : Option ℕ). unlessRefused o (following earlier (roll (graphOf f)))) e ∙ q;
+    }
+
+-- refused with a reason of 1 to 12
+pub next-refused : (f earlier : List ℕ) (answer work n : ℕ) → firstBroken (commonRules f work) ≡ some n
+    → NextIs f earlier answer work (refused n) none
+next-refused f earlier answer work n e =
+    next-broken f earlier answer work n (broken-append (commonRules f work) (nextOwnReasons (graphOf f) earlier answer) n e)
+
+module _ (f : List ℕ) (accepted : Accepted f) (earlier : List ℕ) (answer work : ℕ) (room : 6 * states f ≤ work) where
+  -- the graph of the file
+  abbrev g : Graph
+  g = graphOf f
+
+  -- the reasons 13 and 15 are left to decide
+  next-reasons : firstBroken (nextReasons f earlier answer work)
+      ≡ someIf (notShortest g earlier) 13 (someIf (noRoom (lengthDue (following earlier (roll g))) answer) 15 none)
+  next-reasons =
+      clear-append (commonRules f work) (nextOwnReasons g earlier answer) (common-clear f work accepted room)
+      ∙ ap (λ (b : Bool). someIf (notShortest g earlier) 13 (someIf b 14 (someIf (noRoom (lengthDue (following earlier (roll g))) answer) 15 none))) (never-too-long f accepted)
+
+  -- the earlier list is no shortest accepting path: refused with 13
+  pub next-not-shortest : notShortest g earlier ≡ true → NextIs f earlier answer work (refused 13) none
+  next-not-shortest e =
+      next-broken f earlier answer work 13
+      (next-reasons ∙ ap (λ (b : Bool). someIf b 13 (someIf (noRoom (lengthDue (following earlier (roll g))) answer) 15 none)) e)
+
+  -- the earlier list is in the roll: the list due has room or not
+  next-due : List·Memᴰ earlier (roll g) → (due : Option (List ℕ)) (b : Bool) → following earlier (roll g) ≡ due
+      → noRoom (lengthDue due) answer ≡ b → firstBroken (nextReasons f earlier answer work) ≡ someIf b 15 none
+  next-due m due b q e =
+      next-reasons
+      ∙ ap (λ (x : Bool). someIf x 13 (someIf (noRoom (lengthDue (following earlier (roll g))) answer) 15 none)) (shortest-mem g earlier m)
+      ∙ ap (λ (d : Option (List ℕ)). someIf (noRoom (lengthDue d) answer) 15 none) q
+      ∙ ap (λ (x : Bool). someIf x 15 none) e
+
+  module _ (m : List·Memᴰ earlier (roll g)) where
+    -- it is the last of the roll: no more
+    pub next-no-more : following earlier (roll g) ≡ none → NextIs f earlier answer work (answered noMore) none
+    next-no-more last = next-kept f earlier answer work none (next-due m none false last refl) last
+
+    -- another follows and has no room: refused with 15
+    pub next-no-room : (xs : List ℕ) → following earlier (roll g) ≡ some xs → answer < edges xs + 1
+        → NextIs f earlier answer work (refused 15) none
+    next-no-room xs follows less =
+        next-broken f earlier answer work 15 (next-due m (some xs) true follows (lt-ltb answer (edges xs + 1) less))
+
+    -- it has room: found, with its figures
+    pub next-found : (xs : List ℕ) → following earlier (roll g) ≡ some xs → edges xs + 1 ≤ answer
+        → NextIs f earlier answer work (answered (Followed.found (edges xs) (loopStart xs))) (some xs)
+    next-found xs follows fits =
+        next-kept f earlier answer work (some xs) (next-due m (some xs) false follows (le-ltb answer (edges xs + 1) fits)) follows
+
+-- the list that follows, which stands in region 0 behind the start, was written to the answer table: what "next" answers
+-- and writes
+pub following-written : (f : List ℕ) → Accepted f → (work : ℕ) → 6 * states f ≤ work → (earlier a a' w : List ℕ) (s l k : ℕ)
+    → List·Memᴰ earlier (roll (graphOf f)) → s ≡ graphOf f .start → l ≤ length w
+    → following earlier (roll (graphOf f)) ≡ some (graphOf f .start ∷ take l w) → l < length a
+    → k ≡ loopStart (s ∷ take l w) → a' ≡ (s ∷ take l w) ++ drop (l + 1) a
+    → (answered (Followed.found l k) ≡ nextOutcome f earlier (length a) work) × (a' ≡ nextAnswer f earlier a work)
+following-written f accepted work room earlier a a' w s l k m at-start fits follows free at-k out =
+    let g : Graph = graphOf f in
+    let xs : List ℕ = s ∷ take l w in
+    let long : length (take l w) ≡ l = length-take-le l w fits in
+    let at-l : l ≡ edges xs = omega arith in
+    let follows' : following earlier (roll g) ≡ some xs = subst (λ (x : ℕ). following earlier (roll g) ≡ some (x ∷ take l w)) (sym at-start) follows in
+    let found = next-found f accepted earlier (length a) work room m xs follows' (omega arith) in
+    let figures : answered (Followed.found l k) ≡ answered (Followed.found (edges xs) (loopStart xs)) = cc in
+    let entries : l + 1 ≡ length xs = omega arith in (
+      figures ∙ sym (found .outcome),
+      out ∙ ap (λ (n : ℕ). xs ++ drop n a) entries ∙ sym (next-answer a found),
+    )

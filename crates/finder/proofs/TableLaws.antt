@@ -1,0 +1,85 @@
+-- The working table of "next": prepared with the states that can start a loop, then with the earlier list in region 0, then
+-- with the one that follows.
+use Prim.Native.Nat.{ℕ, suc, _+_, _*_, _≤_}
+use mathlib.Core.Path.{_≡_, sym, _∙_, ap, subst}
+use mathlib.Core.Bool.{Bool, true, false}
+use mathlib.Core.List.{List, List·Memᴰ}
+use mathlib.Core.Option.{some, none}
+use native.Mathlib.Omega.{arith}
+use lib.ListN.{length, getD}
+use lib.Dec.{T, eqb, eqb→eq}
+use Rattle.lasso.specs.Graph.{Graph, edges}
+use Rattle.lasso.specs.Roll.{leastLength, roll}
+use Rattle.lasso.specs.Following.{following}
+use Rattle.lasso.proofs.Tests.{parts}
+use Rattle.lasso.proofs.RollLaws.{leastLength-range, roll-length, roll-lasso}
+use Rattle.model.specs.declared.Header.{Header}
+use Rattle.model.specs.Model.{graphOf}
+use Rattle.model.proofs.Laws.{valid-sizes}
+use Rattle.rounds.specs.Promises.{Ready}
+use Rattle.listing.specs.Promises.{StartLoops, Prepared, upTo, Advanced}
+use Rattle.finder.proofs.LoadLaws.{loaded, loaded-list, loaded-after, loaded-length}
+
+module _ (g : Graph) (l : ℕ) (least : leastLength g ≡ some l) (xs : List ℕ) (m : List·Memᴰ xs (roll g)) where
+  -- a list of the roll begins with the start
+  roll-start : getD xs 0 0 ≡ g .start
+  roll-start =
+      let (lasso, long) = roll-lasso g l least xs m in
+      let starts : T (eqb (getD xs 0 0) (g .start)) = search parts in
+      eqb→eq (getD xs 0 0) (g .start) starts
+
+  -- it has l transitions
+  pub roll-edges : edges xs ≡ l
+  roll-edges = roll-lasso g l least xs m .1
+
+  -- put into region 0, it is the list up to place l
+  pub loaded-upTo : (w w' : List ℕ) → w' ≡ loaded xs w → upTo g w' l ≡ xs
+  loaded-upTo w w' e =
+      ap (λ (z : List ℕ). upTo g z l) e ∙ loaded-list (g .start) xs w l (roll-length g l least xs m) roll-start
+
+  -- so the list up to place l is in the roll
+  pub loaded-mem : (w w' : List ℕ) → w' ≡ loaded xs w → List·Memᴰ (upTo g w' l) (roll g)
+  loaded-mem w w' e = subst (λ (zs : List ℕ). List·Memᴰ zs (roll g)) (sym (loaded-upTo w w' e)) m
+
+module _ {f : List ℕ} {h : Header} {w : List ℕ} (ready : Ready f h w) (l : ℕ) (least : leastLength (graphOf f) ≡ some l) where
+  -- the least length fits region 0
+  pub least-fits : (1 ≤ l) × (l ≤ h .states) × (h .states ≤ 4096)
+  least-fits =
+      let sizes = valid-sizes (ready .valid) in
+      omega (arith, leastLength-range (graphOf f) l least)
+
+  -- a list of the roll leaves the table's length as it is
+  pub loaded-kept : (w₁ w₂ : List ℕ) → length w₁ ≡ length w → (xs : List ℕ) → List·Memᴰ xs (roll (graphOf f))
+      → w₂ ≡ loaded xs w₁ → length w₂ ≡ length w
+  loaded-kept w₁ w₂ same xs m e =
+      ap length e
+      ∙ loaded-length xs w₁ (omega (arith, least-fits, ready .room, roll-edges (graphOf f) l least xs m))
+      ∙ same
+
+  -- a prepared table is prepared with a list of the roll in region 0
+  pub prepared-loaded : (w₁ w₂ : List ℕ) → length w₁ ≡ length w → StartLoops (graphOf f) l w₁ → (xs : List ℕ)
+      → List·Memᴰ xs (roll (graphOf f)) → w₂ ≡ loaded xs w₁ → Prepared f h w₂ l
+  prepared-loaded w₁ w₂ same loops xs m e =
+      let g : Graph = graphOf f in
+      let sizes = valid-sizes (ready .valid) in
+      let long : length xs ≡ suc l = roll-length g l least xs m in
+      record {
+        valid = ready .valid;
+        room = omega (arith, ready .room, loaded-kept w₁ w₂ same xs m e);
+        least = least;
+        start-loops = record {
+          loops = λ s low.
+              ap (λ (z : List ℕ). getD z (1 * g .size + s) 0) e
+              ∙ loaded-after xs w₁ (1 * g .size + s) (omega arith) (omega (arith, least-fits))
+              ∙ loops .loops s low;
+        };
+      }
+
+module _ (g : Graph) (l : ℕ) (w w' : List ℕ) (r : Bool) (xs : List ℕ) (at : upTo g w l ≡ xs) (a : Advanced g l w w' r) where
+  -- no advance: nothing follows the list that was there
+  pub advanced-none : r ≡ false → following xs (roll g) ≡ none
+  advanced-none e = subst (λ (zs : List ℕ). following zs (roll g) ≡ none) at ((rw e at a) .0)
+
+  -- an advance: the list that is there now follows the one before
+  pub advanced-some : r ≡ true → following xs (roll g) ≡ some (upTo g w' l)
+  advanced-some e = subst (λ (zs : List ℕ). following zs (roll g) ≡ some (upTo g w' l)) at (rw e at a)

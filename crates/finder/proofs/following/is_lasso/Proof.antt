@@ -1,0 +1,69 @@
+-- `following::is_lasso` meets its contract: its three tests are those of a lasso of the length.
+use Prim.Native.Nat.{ℕ}
+use mathlib.Core.Path.{_≡_, sym, _∙_, ap}
+use mathlib.Core.Bool.{_&&_}
+use native.Mathlib.Omega.{arith}
+use borrow.Author.Needs.{needs}
+use borrow.Author.Tests.{not-true, not-false}
+use denote.Ref.{now}
+use lib.ListN.{length, getD}
+use lib.Dec.{T, eqb, eqb→eq}
+use Rattle.lasso.specs.Graph.{pathb}
+use Rattle.lasso.proofs.Tests.{parts}
+use Rattle.model.specs.Model.{graphOf}
+use Rattle.model.proofs.Laws.{valid-sizes}
+use Rattle.finder.proofs.LoopTests.{lassoOf-other, lassoOf-no-path, lassoOf-closes}
+use Rattle.finder.proofs.following.is_lasso.Statement.{statement}
+use Rattle.finder.proofs.following.is_lasso.Tie as tie
+
+-- the function's start, from where the path was tested
+abbrev start : tie.After-is-path → tie.Start
+start c = c .before .before .before .before
+
+-- the test of a path from the start
+path-tested : (c : tie.After-is-path)
+    → let a = start c .args in
+    (eqb (getD (now (a .list)) 0 0) (graphOf (now (a .file)) .start) && pathb (graphOf (now (a .file))) (now (a .list))) ≡ c .is-path .result
+path-tested c =
+    let a = start c .args in
+    ap (λ (s : ℕ). eqb (getD (now (a .list)) 0 0) s && pathb (graphOf (now (a .file))) (now (a .list))) (sym (valid-sizes (start c .pre .0) .start-is))
+    ∙ sym (c .is-path .ensures)
+
+-- the list is a path from the start
+is-path : (c : tie.Else2)
+    → let a = start (c .before) .args in
+    T (eqb (getD (now (a .list)) 0 0) (graphOf (now (a .file)) .start) && pathb (graphOf (now (a .file))) (now (a .list)))
+is-path c = rw (path-tested (c .before) ∙ not-false _ (c .if2 .left)) tt
+
+add-if1 : tie.Need-add-if1
+add-if1 c = search needs
+
+returns : tie.Need-returns
+returns c =
+    let a = c .before .before .before .args in
+    sym (lassoOf-other (graphOf (now (a .file))) (now (a .list)) (a .transitions) (c .if1 .taken))
+
+is-path-requires : tie.Need-is-path-requires
+is-path-requires c κs = search needs
+
+returns-2 : tie.Need-returns-2
+returns-2 c =
+    let a = start (c .before) .args in
+    sym (lassoOf-no-path (graphOf (now (a .file))) (now (a .list)) (a .transitions) (path-tested (c .before) ∙ not-true _ (c .if2 .taken)))
+
+closes-requires : tie.Need-closes-requires
+closes-requires c κs =
+    let s = start (c .before) in
+    let walk = is-path c in
+    let first : getD (now (s .args .list)) 0 0 ≡ graphOf (now (s .args .file)) .start = search (parts, eqb→eq) in
+    (s .pre .0, (omega (arith, c .before .before .if1 .left), (first ∙ sym (valid-sizes (s .pre .0) .start-is), search parts)))
+
+returns-3 : tie.Need-returns-3
+returns-3 c =
+    let tested = c .before .before in
+    let a = start tested .args in
+    c .closes .ensures ∙ lassoOf-closes (graphOf (now (a .file))) (now (a .list)) (a .transitions) (tested .before .if1 .left) (is-path (c .before))
+
+pub is-lasso-spec : {M : Type 1} → statement M
+is-lasso-spec =
+    tie.close (tie.spec add-if1 returns is-path-requires returns-2 closes-requires returns-3)
