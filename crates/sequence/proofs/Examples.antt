@@ -1,0 +1,34 @@
+-- The starred examples hold: by computation, and for H with any allowance that suffices by the law of a search that finds.
+use Prim.Native.Nat.{ℕ, _≤_}
+use native.Mathlib.Omega.{arith}
+use mathlib.Core.Path.{_≡_, refl, _∙_, ap}
+use mathlib.Core.List.{List, [], _∷_}
+use mathlib.Core.Option.{some}
+use lib.ListN.{replicate}
+use Rattle.finder.specs.Outcomes.{Outcome, answered, Searched}
+use Rattle.finder.specs.Search.{searchAnswer}
+use Rattle.finder.proofs.SearchLaws.{SearchIs, search-answer, search-found}
+use Rattle.sequence.specs.Calls.{ofSearch}
+use Rattle.sequence.specs.Examples.{fileH, lentAnswer, rowH, given, expected, ExamplesHold}
+
+-- a search of H with allowance 2 or more finds the list with its figures
+H-found : (allowance : ℕ) → 2 ≤ allowance
+    → SearchIs fileH allowance 8 42 (answered (Searched.found 3 2 2)) (some (0 ∷ 5 ∷ 6 ∷ 6 ∷ []))
+H-found allowance h =
+    search-found fileH refl allowance 8 42 (omega arith) h (0 ∷ 5 ∷ 6 ∷ 6 ∷ []) refl (omega arith)
+
+-- so it gives what is expected
+H-given : (allowance : ℕ) → 2 ≤ allowance → given (rowH allowance) ≡ expected (rowH allowance)
+H-given allowance h =
+    let s = H-found allowance h in
+    let zeros : List ℕ = replicate 42 0 in
+    ap
+    (λ (o : Outcome Searched). record { answer = ofSearch o; table = searchAnswer fileH allowance lentAnswer 42; work = zeros })
+    (s .outcome)
+    ∙ ap
+    (λ (t : List ℕ). record { answer = ofSearch (answered (Searched.found 3 2 2)); table = t; work = zeros })
+    (search-answer lentAnswer s)
+
+-- the starred examples
+pub examples-hold : ExamplesHold
+examples-hold = record { rows = refl; more-allowance = H-given; bytes = refl }

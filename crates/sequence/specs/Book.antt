@@ -1,0 +1,79 @@
+-- The book of condition 3: it is fed the file and the calls' arguments, and keeps one number h.
+use Prim.Native.Nat.{ℕ, suc, _+_}
+use mathlib.Core.List.{List, [], _∷_, _++_}
+use mathlib.Core.Option.{Option, some, none}
+use lib.ListN.{length, getElem?}
+use Rattle.lasso.specs.Graph.{Graph, edges, loopStart}
+use Rattle.lasso.specs.Roll.{leastLength, roll}
+use Rattle.model.specs.Model.{graphOf}
+use Rattle.model.specs.Rules.{Reason, firstBroken}
+use Rattle.finder.specs.Outcomes.{Outcome, refused, answered, outcome, Searched, stopped, empty, Followed, noMore}
+use Rattle.finder.specs.Tables.{commonRules, tooLong, noRoom, written, workOf}
+use Rattle.finder.specs.Search.{searchReasons, searched, firstDue, lengthDue, unlessRefused}
+use Rattle.finder.specs.Next.{notShortest, followed}
+use Rattle.sequence.specs.Calls.{Call, search, next, Answer, ofSearch, ofNext, Result}
+
+-- what the book gives for a call: the result, and h afterwards
+pub record Page : Type 0 where
+  pub result : Result
+  pub after : ℕ
+
+-- the reasons of a next in the book: the list that is to be written is the one at place h of the roll
+abbrev pub bookReasons : List ℕ → ℕ → List ℕ → ℕ → ℕ → List Reason
+bookReasons f h earlier answer work =
+    commonRules f work ++
+    record { number = 13; holds = notShortest (graphOf f) earlier } ∷
+    record { number = 14; holds = tooLong (leastLength (graphOf f)) } ∷
+    record { number = 15; holds = noRoom (lengthDue (getElem? (roll (graphOf f)) h)) answer } ∷ []
+
+-- h after a search not refused: 1 if it found the roll's first list
+abbrev pub afterSearch : ℕ → Searched → ℕ
+afterSearch h (stopped r) = h
+afterSearch h (empty rounds) = h
+afterSearch h (Searched.found l k rounds) = 1
+
+-- h after a next not refused: one more if it found a list
+abbrev pub afterNext : ℕ → Option (List ℕ) → ℕ
+afterNext h none = h
+afterNext h (some xs) = suc h
+
+-- h the same if the call is refused
+abbrev pub unlessRefusedℕ : Option ℕ → ℕ → ℕ → ℕ
+unlessRefusedℕ none h h' = h'
+unlessRefusedℕ (some n) h h' = h
+
+-- the book's page for a call: refused with the first reason in checking order; or for a search "stopped", "empty" or
+-- "found" with the roll's first list; or for a next "no more" if h is the number of lists in the roll, else "found" with
+-- the list at place h
+abbrev pub page : List ℕ → ℕ → Call → Page
+page f h (search allowance a w) =
+    let first : Option ℕ = firstBroken (searchReasons f allowance (length a) (length w)) in
+    record {
+      result = record {
+        answer = ofSearch (outcome first (searched (graphOf f) allowance));
+        table = written (unlessRefused first (firstDue (graphOf f) allowance)) a;
+        work = workOf f w;
+      };
+      after = unlessRefusedℕ first h (afterSearch h (searched (graphOf f) allowance));
+    }
+page f h (next earlier a w) =
+    let first : Option ℕ = firstBroken (bookReasons f h earlier (length a) (length w)) in
+    let list : Option (List ℕ) = getElem? (roll (graphOf f)) h in
+    record {
+      result = record {
+        answer = ofNext (outcome first (followed list));
+        table = written (unlessRefused first list) a;
+        work = workOf f w;
+      };
+      after = unlessRefusedℕ first h (afterNext h list);
+    }
+
+-- the book's results for a sequence of calls, from h on
+abbrev pub bookResults : List ℕ → ℕ → List Call → List Result
+bookResults f h [] = []
+bookResults f h (c ∷ cs) = page f h c .result ∷ bookResults f (page f h c .after) cs
+
+-- h after a sequence of calls
+abbrev pub bookEnd : List ℕ → ℕ → List Call → ℕ
+bookEnd f h [] = h
+bookEnd f h (c ∷ cs) = bookEnd f (page f h c .after) cs

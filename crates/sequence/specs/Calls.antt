@@ -1,0 +1,58 @@
+-- The calls of a sequence, and what the finder does at each: by the definitions that its promises cite.
+use Prim.Native.Nat.{ℕ, suc, _+_}
+use mathlib.Core.List.{List, [], _∷_, _++_, map}
+use mathlib.Core.Option.{Option, some, none}
+use lib.ListN.{length, take}
+use Rattle.finder.specs.Outcomes.{Outcome, refused, answered, Searched, stopped, empty, Followed, noMore}
+use Rattle.finder.specs.Tables.{workOf}
+use Rattle.finder.specs.Search.{searchOutcome, searchAnswer}
+use Rattle.finder.specs.Next.{nextOutcome, nextAnswer}
+
+-- a search or a next, with everything given or lent with it: the allowance or the earlier list, the answer table and the
+-- working table
+pub data Call : Type 0 where
+  search : (allowance : ℕ) (answer work : List ℕ) → Call
+  next : (earlier answer work : List ℕ) → Call
+
+-- the answer of a search or of a next
+pub data Answer : Type 0 where
+  ofSearch : Outcome Searched → Answer
+  ofNext : Outcome Followed → Answer
+
+-- what a call does: its answer, and the answer table and the working table afterwards
+pub record Result : Type 0 where
+  pub answer : Answer
+  pub table : List ℕ
+  pub work : List ℕ
+
+-- what the finder does at a call on file f
+abbrev pub finderAt : List ℕ → Call → Result
+finderAt f (search allowance a w) = record {
+  answer = ofSearch (searchOutcome f allowance (length a) (length w));
+  table = searchAnswer f allowance a (length w);
+  work = workOf f w;
+}
+finderAt f (next earlier a w) = record {
+  answer = ofNext (nextOutcome f earlier (length a) (length w));
+  table = nextAnswer f earlier a (length w);
+  work = workOf f w;
+}
+
+-- the length of the list that an answer "found" brings
+abbrev pub foundLength : Answer → Option ℕ
+foundLength (ofSearch (refused n)) = none
+foundLength (ofSearch (answered (stopped r))) = none
+foundLength (ofSearch (answered (Searched.found l k rounds))) = some l
+foundLength (ofSearch (answered (empty rounds))) = none
+foundLength (ofNext (refused n)) = none
+foundLength (ofNext (answered (Followed.found l k))) = some l
+foundLength (ofNext (answered noMore)) = none
+
+-- entries 0 to L of the answer table
+abbrev pub copyOf : Option ℕ → List ℕ → Option (List ℕ)
+copyOf none table = none
+copyOf (some l) table = some (take (suc l) table)
+
+-- the list that a call brings, as a copy of entries 0 to L, if it answered "found"
+abbrev pub received : Result → Option (List ℕ)
+received r = copyOf (foundLength (r .answer)) (r .table)

@@ -1,0 +1,171 @@
+-- The starred examples: one table, and one claim about its rows.
+use Prim.Native.Nat.{ℕ, _+_, _*_, _-_, _/_, _%_, _^_, _≤_}
+use mathlib.Core.Path.{_≡_}
+use mathlib.Core.List.{List, [], _∷_, _++_, map}
+use mathlib.Core.Option.{some, none}
+use lib.ListN.{length, replicate}
+use lib.Dec.{eqb}
+use Rattle.lasso.specs.Lists.{pick, below}
+use Rattle.model.specs.Layout.{states, rowsAt, edgesAt, marksAt, markBytes, totalOf}
+use Rattle.finder.specs.Outcomes.{Outcome, refused, answered, Searched, stopped, empty, Followed, noMore}
+use Rattle.sequence.specs.Calls.{Call, search, next, Answer, ofSearch, ofNext, Result, finderAt}
+
+-- the two bytes of a 16-bit number
+abbrev pub word16 : ℕ → List ℕ
+word16 x = x % 256 ∷ x / 256 ∷ []
+
+-- the four bytes of a 32-bit number
+abbrev pub word32 : ℕ → List ℕ
+word32 x = word16 (x % 65536) ++ word16 (x / 65536)
+
+-- the bytes of 16-bit numbers, one after another
+abbrev pub words16 : List ℕ → List ℕ
+words16 [] = []
+words16 (x ∷ xs) = word16 x ++ words16 xs
+
+-- the entries of the row table: the place where each row begins, and where the last ends
+abbrev pub rowEntries : ℕ → List (List ℕ) → List ℕ
+rowEntries place [] = place ∷ []
+rowEntries place (row ∷ rows) = place ∷ rowEntries (place + length row) rows
+
+-- the entries of the edge table: the rows, one after another
+abbrev pub targets : List (List ℕ) → List ℕ
+targets [] = []
+targets (row ∷ rows) = row ++ targets rows
+
+-- a mark byte: bit s mod 8 is set for each marked state s with s div 8 the byte's place
+abbrev pub markByte : List ℕ → ℕ → ℕ
+markByte [] place = 0
+markByte (s ∷ marks) place = pick (eqb (s / 8) place) (2 ^ (s % 8)) 0 + markByte marks place
+
+-- the model file with the initial state, the successors of each state, and the marked states
+abbrev pub fileOf : ℕ → List (List ℕ) → List ℕ → List ℕ
+fileOf start rows marks =
+    let n : ℕ = length rows in
+    let m : ℕ = length (targets rows) in
+    words16 (n ∷ m ∷ start ∷ 0 ∷ []) ++
+    word32 rowsAt ++ word32 (edgesAt n) ++ word32 (marksAt n m) ++ word32 (totalOf n m) ++
+    words16 (rowEntries 0 rows) ++ words16 (targets rows) ++ map (markByte marks) (below (markBytes n))
+
+-- A: N = 1, no edge, 0 marked
+abbrev pub fileA : List ℕ
+fileA = fileOf 0 ([] ∷ []) (0 ∷ [])
+
+-- B: 0→0, 0 marked
+abbrev pub fileB : List ℕ
+fileB = fileOf 0 ((0 ∷ []) ∷ []) (0 ∷ [])
+
+-- C: 0→0, no mark
+abbrev pub fileC : List ℕ
+fileC = fileOf 0 ((0 ∷ []) ∷ []) []
+
+-- D: 0→1, 0→2, 1→3, 2→3, 3→1, 3→2, 4→4, marks 3 and 4
+abbrev pub fileD : List ℕ
+fileD = fileOf 0 ((1 ∷ 2 ∷ []) ∷ (3 ∷ []) ∷ (3 ∷ []) ∷ (1 ∷ 2 ∷ []) ∷ (4 ∷ []) ∷ []) (3 ∷ 4 ∷ [])
+
+-- E: 0→1, 1→1, 0 marked
+abbrev pub fileE : List ℕ
+fileE = fileOf 0 ((1 ∷ []) ∷ (1 ∷ []) ∷ []) (0 ∷ [])
+
+-- F: 0→1, 1→0, 1 marked
+abbrev pub fileF : List ℕ
+fileF = fileOf 0 ((1 ∷ []) ∷ (0 ∷ []) ∷ []) (1 ∷ [])
+
+-- G: 0→1, 1→1, 1 marked
+abbrev pub fileG : List ℕ
+fileG = fileOf 0 ((1 ∷ []) ∷ (1 ∷ []) ∷ []) (1 ∷ [])
+
+-- H: 0→1, 0→5, 1→2, 2→3, 3→4, 4→1, 5→6, 6→6, marks 1 and 6
+abbrev pub fileH : List ℕ
+fileH = fileOf 0 ((1 ∷ 5 ∷ []) ∷ (2 ∷ []) ∷ (3 ∷ []) ∷ (4 ∷ []) ∷ (1 ∷ []) ∷ (6 ∷ []) ∷ (6 ∷ []) ∷ []) (1 ∷ 6 ∷ [])
+
+-- D's bytes as the paper gives them: header, offsets and total, rows, targets, mark byte
+abbrev pub bytesD : List ℕ
+bytesD =
+    5 ∷ 0 ∷ 7 ∷ 0 ∷ 0 ∷ 0 ∷ 0 ∷ 0 ∷
+    24 ∷ 0 ∷ 0 ∷ 0 ∷ 36 ∷ 0 ∷ 0 ∷ 0 ∷ 50 ∷ 0 ∷ 0 ∷ 0 ∷ 51 ∷ 0 ∷ 0 ∷ 0 ∷
+    0 ∷ 0 ∷ 2 ∷ 0 ∷ 3 ∷ 0 ∷ 4 ∷ 0 ∷ 6 ∷ 0 ∷ 7 ∷ 0 ∷
+    1 ∷ 0 ∷ 2 ∷ 0 ∷ 3 ∷ 0 ∷ 3 ∷ 0 ∷ 1 ∷ 0 ∷ 2 ∷ 0 ∷ 4 ∷ 0 ∷
+    24 ∷ []
+
+-- A row of the table: a file, the call on it, the answer expected, and the list expected to be written, empty if none is.
+pub record Row : Type 0 where
+  pub file : List ℕ
+  pub call : Call
+  pub answer : Answer
+  pub list : List ℕ
+
+-- the tables lent: 8 answer entries and 6 × N working entries, filled with a number that is no state of an example, so
+-- that it shows what is written
+abbrev pub lentAnswer : List ℕ
+lentAnswer = replicate 8 9
+
+abbrev pub lentWork : List ℕ → List ℕ
+lentWork f = replicate (6 * states f) 9
+
+-- a search of the file with an allowance
+abbrev pub searchOf : List ℕ → ℕ → Call
+searchOf f allowance = search allowance lentAnswer (lentWork f)
+
+-- the row of a search that is not refused
+abbrev pub searchRow : List ℕ → ℕ → Searched → List ℕ → Row
+searchRow f allowance s list = record { file = f; call = searchOf f allowance; answer = ofSearch (answered s); list = list }
+
+-- the row of a next after an earlier list
+abbrev pub nextRow : List ℕ → List ℕ → Outcome Followed → List ℕ → Row
+nextRow f earlier o list = record { file = f; call = next earlier lentAnswer (lentWork f); answer = ofNext o; list = list }
+
+-- H's row for an allowance that suffices
+abbrev pub rowH : ℕ → Row
+rowH allowance = searchRow fileH allowance (Searched.found 3 2 2) (0 ∷ 5 ∷ 6 ∷ 6 ∷ [])
+
+-- the starred examples
+abbrev pub examples : List Row
+examples =
+    -- A
+    searchRow fileA 65535 (empty 1) [] ∷
+    -- B
+    searchRow fileB 65535 (Searched.found 1 0 1) (0 ∷ 0 ∷ []) ∷
+    -- C
+    searchRow fileC 65535 (empty 0) [] ∷
+    -- D
+    searchRow fileD 65535 (Searched.found 3 1 1) (0 ∷ 1 ∷ 3 ∷ 1 ∷ []) ∷
+    -- D2
+    nextRow fileD (0 ∷ 1 ∷ 3 ∷ 1 ∷ []) (answered (Followed.found 3 1)) (0 ∷ 2 ∷ 3 ∷ 2 ∷ []) ∷
+    -- D3
+    nextRow fileD (0 ∷ 2 ∷ 3 ∷ 2 ∷ []) (answered noMore) [] ∷
+    -- D4
+    nextRow fileD (0 ∷ 2 ∷ 3 ∷ 1 ∷ []) (refused 13) [] ∷
+    -- E
+    searchRow fileE 65535 (empty 1) [] ∷
+    -- F
+    searchRow fileF 65535 (Searched.found 2 0 1) (0 ∷ 1 ∷ 0 ∷ []) ∷
+    -- G
+    searchRow fileG 65535 (Searched.found 2 1 1) (0 ∷ 1 ∷ 1 ∷ []) ∷
+    -- H
+    rowH 2 ∷
+    -- H1
+    searchRow fileH 1 (stopped (record { done = 1; best = some 5 })) [] ∷
+    -- H0
+    searchRow fileH 0 (stopped (record { done = 0; best = none })) [] ∷ []
+
+-- what the finder does at a row's call
+abbrev pub given : Row → Result
+given r = finderAt (r .file) (r .call)
+
+-- what is expected: the row's answer; its list from entry 0 of the answer table on, later entries as they were lent; and
+-- the working table all zero
+abbrev pub expected : Row → Result
+expected r =
+    record {
+      answer = r .answer;
+      table = r .list ++ replicate (8 - length (r .list)) 9;
+      work = replicate (6 * states (r .file)) 0;
+    }
+
+-- The examples hold: each row gives what is expected; H does with any allowance from 2 on; and the file of D is the
+-- paper's.
+pub record ExamplesHold : Type 0 where
+  pub rows : map given examples ≡ map expected examples
+  pub more-allowance : (allowance : ℕ) → 2 ≤ allowance → given (rowH allowance) ≡ expected (rowH allowance)
+  pub bytes : fileD ≡ bytesD

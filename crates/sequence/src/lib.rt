@@ -1,0 +1,1 @@
+// Condition 3: one claim about any sequence of calls.
