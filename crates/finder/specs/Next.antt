@@ -23,13 +23,17 @@ abbrev pub followed : Option (List ℕ) → Followed
 followed none = noMore
 followed (some xs) = Followed.found (edges xs) (loopStart xs)
 
--- the reasons that next applies: all of them
-abbrev pub nextReasons : List ℕ → List ℕ → ℕ → ℕ → List Reason
-nextReasons f earlier answer work =
-    commonRules f work ++
+-- the reasons 13 to 15, where the list that is to be written is given
+abbrev pub dueReasons : List ℕ → List ℕ → Option (List ℕ) → ℕ → List Reason
+dueReasons f earlier due answer =
     record { number = 13; holds = notShortest (graphOf f) earlier } ∷
     record { number = 14; holds = tooLong (leastLength (graphOf f)) } ∷
-    record { number = 15; holds = noRoom (lengthDue (following earlier (roll (graphOf f)))) answer } ∷ []
+    record { number = 15; holds = noRoom (lengthDue due) answer } ∷ []
+
+-- the reasons that next applies, all of them: the list that is to be written is the one that follows the earlier one
+abbrev pub nextReasons : List ℕ → List ℕ → ℕ → ℕ → List Reason
+nextReasons f earlier answer work =
+    commonRules f work ++ dueReasons f earlier (following earlier (roll (graphOf f))) answer
 
 -- what next answers
 abbrev pub nextOutcome : List ℕ → List ℕ → ℕ → ℕ → Outcome Followed

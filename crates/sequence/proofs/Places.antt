@@ -8,6 +8,8 @@ use mathlib.Core.List.{List, [], _∷_, _++_, List·Memᴰ, List·Memᴰ·head, 
 use mathlib.Core.Option.{Option, some, none}
 use lib.ListN.{length, getD, take, getElem?}
 use lib.Seq.{take-append-seam}
+use lib.Dec.{eqb, eqb·zero-suc, eqb·suc-suc}
+use Rattle.lasso.proofs.Tests.{T-true, eq→eqb}
 use Rattle.lasso.specs.Graph.{Graph, edges}
 use Rattle.lasso.specs.Roll.{ofLeast, leastLength, roll}
 use Rattle.lasso.specs.Following.{following}
@@ -15,6 +17,7 @@ use Rattle.lasso.proofs.Sorted.{Sorted}
 use Rattle.lasso.proofs.OrderLaws.{Before, following-at}
 use Rattle.lasso.proofs.RollLaws.{ofLength-length}
 use Rattle.finder.specs.Tables.{written}
+use Rattle.sequence.specs.Book.{listAt}
 
 -- a place that holds an entry is a place of the list
 pub getElem-lt : {A : Type 0} {x : A} (xs : List A) (i : ℕ) → getElem? xs i ≡ some x → i < length xs
@@ -29,6 +32,12 @@ getElem-none (x ∷ xs) zero h = (λ e. let z : _≡_ {A = ℕ} 0 1 = cc in omeg
 getElem-none (x ∷ xs) (suc i) h =
     let (to, from) = getElem-none xs i (omega arith) in
     (λ e. omega (arith, to e), λ e. from (omega arith))
+
+-- up to the end of a list, the book's list at a place is what the place holds
+pub listAt-getElem : (rs : List (List ℕ)) (h : ℕ) → h ≤ length rs → listAt rs h ≡ getElem? rs h
+listAt-getElem [] h l = rw (T-true (eqb h 0) (eq→eqb h 0 (omega arith)))
+listAt-getElem (x ∷ rs) zero l = rw (eqb·zero-suc (length rs))
+listAt-getElem (x ∷ rs) (suc h) l = rw (eqb·suc-suc h (length rs)) (listAt-getElem rs h (omega arith))
 
 -- what a place holds is an entry
 pub getElem-mem : {A : Type 0} {x : A} (xs : List A) (i : ℕ) → getElem? xs i ≡ some x → List·Memᴰ x xs

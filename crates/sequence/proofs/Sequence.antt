@@ -19,16 +19,16 @@ use Rattle.lasso.proofs.Sorted.{Sorted}
 use Rattle.lasso.proofs.OrderLaws.{Before}
 use Rattle.lasso.proofs.RollLaws.{roll-strict}
 use Rattle.model.specs.Model.{graphOf}
-use Rattle.model.specs.Rules.{Reason, firstBroken, Accepted}
+use Rattle.model.specs.Rules.{firstBroken, Accepted}
 use Rattle.finder.specs.Outcomes.{outcome, stopped}
 use Rattle.finder.specs.Tables.{commonRules, tooLong, noRoom, written, workOf}
 use Rattle.finder.specs.Search.{stopsb, firstOf, lengthDue, unlessRefused, searchReasons}
-use Rattle.finder.specs.Next.{notShortest, followed}
+use Rattle.finder.specs.Next.{notShortest, dueReasons, followed}
 use Rattle.finder.proofs.ReasonLaws.{broken-append, clear-append}
 use Rattle.sequence.specs.Calls.{Call, search, next, ofSearch, ofNext, Result, finderAt, foundLength, copyOf, received}
-use Rattle.sequence.specs.Book.{page, bookReasons, afterSearch, afterNext, unlessRefusedℕ, bookResults, bookEnd}
+use Rattle.sequence.specs.Book.{listAt, page, afterSearch, afterNext, unlessRefusedℕ, bookResults, bookEnd}
 use Rattle.sequence.specs.Claim.{lastReceived, Lent, Proper, collect, listsReceived, Listed}
-use Rattle.sequence.proofs.Places.{getElem-lt, getElem-mem, take-getElem, following-getElem, roll-entries, copy-written}
+use Rattle.sequence.proofs.Places.{listAt-getElem, getElem-lt, getElem-mem, take-getElem, following-getElem, roll-entries, copy-written}
 
 -- the copy last received when h lists were: none, or the list at place h − 1
 abbrev copyAt : List (List ℕ) → ℕ → Option (List ℕ)
@@ -100,13 +100,6 @@ next-stands rs {copy} {lists} {h} s none earlier a w = go (getElem? rs h) refl
           within = omega (arith, getElem-lt rs h e);
         }
 
--- the reasons that a next has behind the common ones, where the list due is given
-abbrev dueReasons : List ℕ → List ℕ → Option (List ℕ) → ℕ → List Reason
-dueReasons f earlier due answer =
-    record { number = 13; holds = notShortest (graphOf f) earlier } ∷
-    record { number = 14; holds = tooLong (leastLength (graphOf f)) } ∷
-    record { number = 15; holds = noRoom (lengthDue due) answer } ∷ []
-
 -- what the first reason and the list due make of a next
 abbrev nextGives : List ℕ → List ℕ → List ℕ → Option ℕ → Option (List ℕ) → Result
 nextGives f a w first due =
@@ -154,8 +147,8 @@ next-page f {copy} {lists} {h} s earlier a w lent =
     elim lent [
       | inl e ↦
           ap (λ (due : Option (List ℕ)). nextWith f earlier a w due)
-          (copy-due rs h earlier (roll-strict (graphOf f)) (sym (s .at-copy) ∙ e))
-      | inr t ↦ refused-same f earlier t a w (following earlier rs) (getElem? rs h)
+          (copy-due rs h earlier (roll-strict (graphOf f)) (sym (s .at-copy) ∙ e) ∙ sym (listAt-getElem rs h (s .within)))
+      | inr t ↦ refused-same f earlier t a w (following earlier rs) (listAt rs h)
     ]
 
 -- what the finder does at a call is on the book's page
@@ -177,10 +170,15 @@ page-stands f {copy} {lists} {h} s (search allowance a w) =
     (search-stands (roll g) s first (stopsb g allowance) (afterRounds g allowance) allowance (length (candidates g)) a w)
 page-stands f {copy} {lists} {h} s (next earlier a w) =
     let g : Graph = graphOf f in
-    let first : Option ℕ = firstBroken (bookReasons f h earlier (length a) (length w)) in
+    let first : Option (List ℕ) → Option ℕ = λ due. firstBroken (commonRules f (length w) ++ dueReasons f earlier due (length a)) in
+    let after : Option (List ℕ) → ℕ = λ due. unlessRefusedℕ (first due) h (afterNext h due) in
+    let due : Option (List ℕ) = getElem? (roll g) h in
+    let stands : After (roll g) copy lists (next earlier a w) (received (nextWith f earlier a w due)) (after due)
+    = subst (λ (list : Option (List ℕ)). After (roll g) copy lists (next earlier a w) list (after due))
+    (sym (next-received (roll g) (roll-entries g) h (first due) a)) (next-stands (roll g) s (first due) earlier a w) in
     subst
-    (λ (list : Option (List ℕ)). After (roll g) copy lists (next earlier a w) list (page f h (next earlier a w) .after))
-    (sym (next-received (roll g) (roll-entries g) h first a)) (next-stands (roll g) s first earlier a w)
+    (λ (list : Option (List ℕ)). After (roll g) copy lists (next earlier a w) (received (nextWith f earlier a w list)) (after list))
+    (sym (listAt-getElem (roll g) h (s .within))) stands
 
 -- what a sequence of calls comes to from wherever it stands: the results are the book's, the lists received are the first
 -- h of the roll, and h is never more than the number of its lists
@@ -214,8 +212,3 @@ pub condition-3 : (f : List ℕ) → Accepted f → (cs : List Call) → Proper 
 condition-3 f accepted cs proper =
     let all = sequence-comes-to f (at-start (roll (graphOf f))) cs proper in
     record { results = all .results; lists = all .at-lists }
-
--- h is never more than the number of lists in the roll; so the book's "no more", which it answers if no list stands at
--- place h, is answered exactly if h is that number (`getElem-none`)
-pub book-within : (f : List ℕ) (cs : List Call) → Proper f none cs → bookEnd f 0 cs ≤ length (roll (graphOf f))
-book-within f cs proper = sequence-comes-to f (at-start (roll (graphOf f))) cs proper .within

@@ -1,30 +1,27 @@
 -- The book of condition 3: it is fed the file and the calls' arguments, and keeps one number h.
-use Prim.Native.Nat.{ℕ, suc, _+_}
+use Prim.Native.Nat.{ℕ, suc}
 use mathlib.Core.List.{List, [], _∷_, _++_}
 use mathlib.Core.Option.{Option, some, none}
-use lib.ListN.{length, getElem?}
-use Rattle.lasso.specs.Graph.{Graph, edges, loopStart}
-use Rattle.lasso.specs.Roll.{leastLength, roll}
+use lib.ListN.{length, getD}
+use lib.Dec.{eqb}
+use Rattle.lasso.specs.Lists.{pick}
+use Rattle.lasso.specs.Roll.{roll}
 use Rattle.model.specs.Model.{graphOf}
-use Rattle.model.specs.Rules.{Reason, firstBroken}
-use Rattle.finder.specs.Outcomes.{Outcome, refused, answered, outcome, Searched, stopped, empty, Followed, noMore}
-use Rattle.finder.specs.Tables.{commonRules, tooLong, noRoom, written, workOf}
-use Rattle.finder.specs.Search.{searchReasons, searched, firstDue, lengthDue, unlessRefused}
-use Rattle.finder.specs.Next.{notShortest, followed}
-use Rattle.sequence.specs.Calls.{Call, search, next, Answer, ofSearch, ofNext, Result}
+use Rattle.model.specs.Rules.{firstBroken}
+use Rattle.finder.specs.Outcomes.{outcome, Searched, stopped, empty}
+use Rattle.finder.specs.Tables.{commonRules, written, workOf}
+use Rattle.finder.specs.Search.{searchReasons, searched, firstDue, unlessRefused}
+use Rattle.finder.specs.Next.{dueReasons, followed}
+use Rattle.sequence.specs.Calls.{Call, search, next, ofSearch, ofNext, Result}
 
 -- what the book gives for a call: the result, and h afterwards
 pub record Page : Type 0 where
   pub result : Result
   pub after : ℕ
 
--- the reasons of a next in the book: the list that is to be written is the one at place h of the roll
-abbrev pub bookReasons : List ℕ → ℕ → List ℕ → ℕ → ℕ → List Reason
-bookReasons f h earlier answer work =
-    commonRules f work ++
-    record { number = 13; holds = notShortest (graphOf f) earlier } ∷
-    record { number = 14; holds = tooLong (leastLength (graphOf f)) } ∷
-    record { number = 15; holds = noRoom (lengthDue (getElem? (roll (graphOf f)) h)) answer } ∷ []
+-- the list that a next gets in the book: none if h is the number of lists in the roll, otherwise the one at place h
+abbrev pub listAt : List (List ℕ) → ℕ → Option (List ℕ)
+listAt rs h = pick (eqb h (length rs)) none (some (getD rs h []))
 
 -- h after a search not refused: 1 if it found the roll's first list
 abbrev pub afterSearch : ℕ → Searched → ℕ
@@ -57,8 +54,8 @@ page f h (search allowance a w) =
       after = unlessRefusedℕ first h (afterSearch h (searched (graphOf f) allowance));
     }
 page f h (next earlier a w) =
-    let first : Option ℕ = firstBroken (bookReasons f h earlier (length a) (length w)) in
-    let list : Option (List ℕ) = getElem? (roll (graphOf f)) h in
+    let list : Option (List ℕ) = listAt (roll (graphOf f)) h in
+    let first : Option ℕ = firstBroken (commonRules f (length w) ++ dueReasons f earlier list (length a)) in
     record {
       result = record {
         answer = ofNext (outcome first (followed list));
