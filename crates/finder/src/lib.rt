@@ -58,8 +58,8 @@ pub fn step(file: &[u8], so_far: RoundRecord, work: &mut [u16]) -> StepAnswer
                 return StepAnswer::Refused(12);
             }
             let answer = step_model(file, h, so_far, work);
-            let end = work.len();
-            clear(work, 0, end);
+            let whole = work.len();
+            clear(work, 0, whole);
             answer
         }
     }
