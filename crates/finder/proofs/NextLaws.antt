@@ -22,7 +22,7 @@ use Rattle.model.specs.Rules.{Reason, firstBroken, Accepted}
 use Rattle.finder.specs.Outcomes.{Outcome, refused, answered, outcome, Followed, noMore}
 use Rattle.finder.specs.Tables.{commonRules, tooLong, noRoom, written}
 use Rattle.finder.specs.Search.{lengthDue, unlessRefused}
-use Rattle.finder.specs.Next.{notShortest, followed, nextReasons, nextOutcome, nextList, nextAnswer}
+use Rattle.finder.specs.Next.{notShortest, followed, dueReasons, nextReasons, nextOutcome, nextList, nextAnswer}
 use Rattle.finder.proofs.ReasonLaws.{broken-append, clear-append, common-clear}
 use Rattle.finder.proofs.SearchLaws.{never-too-long}
 use Rattle.finder.proofs.LoopTests.{lassoOf}
@@ -64,13 +64,6 @@ module _ (g : Graph) (wf : WellFormed g) (l : ℕ) (least : leastLength g ≡ so
           let h : T (lassoOf g xs l) = search join in
           rw e at h
 
--- the reasons that "next" has behind the common ones
-abbrev pub nextOwnReasons : Graph → List ℕ → ℕ → List Reason
-nextOwnReasons g earlier answer =
-    record { number = 13; holds = notShortest g earlier } ∷
-    record { number = 14; holds = tooLong (leastLength g) } ∷
-    record { number = 15; holds = noRoom (lengthDue (following earlier (roll g))) answer } ∷ []
-
 -- the outcome of "next", and the list that it writes
 pub record NextIs (f earlier : List ℕ) (answer work : ℕ) (o : Outcome Followed) (due : Option (List ℕ)) : Type 0 where
   pub outcome : nextOutcome f earlier answer work ≡ o
@@ -105,7 +98,7 @@ next-kept f earlier answer work due e q =
 pub next-refused : (f earlier : List ℕ) (answer work n : ℕ) → firstBroken (commonRules f work) ≡ some n
     → NextIs f earlier answer work (refused n) none
 next-refused f earlier answer work n e =
-    next-broken f earlier answer work n (broken-append (commonRules f work) (nextOwnReasons (graphOf f) earlier answer) n e)
+    next-broken f earlier answer work n (broken-append (commonRules f work) (dueReasons f earlier (following earlier (roll (graphOf f))) answer) n e)
 
 module _ (f : List ℕ) (accepted : Accepted f) (earlier : List ℕ) (answer work : ℕ) (room : 6 * states f ≤ work) where
   -- the graph of the file
@@ -116,7 +109,7 @@ module _ (f : List ℕ) (accepted : Accepted f) (earlier : List ℕ) (answer wor
   next-reasons : firstBroken (nextReasons f earlier answer work)
       ≡ someIf (notShortest g earlier) 13 (someIf (noRoom (lengthDue (following earlier (roll g))) answer) 15 none)
   next-reasons =
-      clear-append (commonRules f work) (nextOwnReasons g earlier answer) (common-clear f work accepted room)
+      clear-append (commonRules f work) (dueReasons f earlier (following earlier (roll g)) answer) (common-clear f work accepted room)
       ∙ ap (λ (b : Bool). someIf (notShortest g earlier) 13 (someIf b 14 (someIf (noRoom (lengthDue (following earlier (roll g))) answer) 15 none))) (never-too-long f accepted)
 
   -- the earlier list is no shortest accepting path: refused with 13

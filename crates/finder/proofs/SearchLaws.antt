@@ -20,14 +20,8 @@ use Rattle.model.specs.Rules.{Reason, firstBroken, Accepted}
 use Rattle.model.proofs.Laws.{accepted-facts}
 use Rattle.finder.specs.Outcomes.{Outcome, refused, answered, outcome, Searched, stopped, empty}
 use Rattle.finder.specs.Tables.{commonRules, tooLong, noRoom, written}
-use Rattle.finder.specs.Search.{stopsb, firstOf, searched, firstDue, lengthDue, searchReasons, searchOutcome, unlessRefused, searchList, searchAnswer}
+use Rattle.finder.specs.Search.{stopsb, firstOf, searched, firstDue, lengthDue, listReasons, searchReasons, searchOutcome, unlessRefused, searchList, searchAnswer}
 use Rattle.finder.proofs.ReasonLaws.{broken-append, clear-append, common-clear}
-
--- the reasons that a search has behind the common ones
-abbrev pub ownReasons : Graph → ℕ → ℕ → List Reason
-ownReasons g allowance answer =
-    record { number = 14; holds = tooLong (leastLength g) } ∷
-    record { number = 15; holds = noRoom (lengthDue (firstDue g allowance)) answer } ∷ []
 
 -- a search's outcome, and the list that it writes
 pub record SearchIs (f : List ℕ) (allowance answer work : ℕ) (o : Outcome Searched) (due : Option (List ℕ)) : Type 0 where
@@ -62,7 +56,7 @@ search-kept f allowance answer work s due e p q =
 pub search-refused : (f : List ℕ) (allowance answer work n : ℕ) → firstBroken (commonRules f work) ≡ some n
     → SearchIs f allowance answer work (refused n) none
 search-refused f allowance answer work n e =
-    search-broken f allowance answer work n (broken-append (commonRules f work) (ownReasons (graphOf f) allowance answer) n e)
+    search-broken f allowance answer work n (broken-append (commonRules f work) (listReasons f (firstDue (graphOf f) allowance) answer) n e)
 
 -- the shortest accepting path of an accepted file never has more than 4,096 transitions
 pub never-too-long : (f : List ℕ) → Accepted f → tooLong (leastLength (graphOf f)) ≡ false
@@ -110,7 +104,7 @@ module _ (f : List ℕ) (accepted : Accepted f) (allowance answer work : ℕ) (r
   -- only reason 15 is left to decide
   search-reasons : firstBroken (searchReasons f allowance answer work) ≡ someIf (noRoom (lengthDue (firstDue g allowance)) answer) 15 none
   search-reasons =
-      clear-append (commonRules f work) (ownReasons g allowance answer) (common-clear f work accepted room)
+      clear-append (commonRules f work) (listReasons f (firstDue g allowance) answer) (common-clear f work accepted room)
       ∙ ap (λ (b : Bool). someIf b 14 (someIf (noRoom (lengthDue (firstDue g allowance)) answer) 15 none)) (never-too-long f accepted)
 
   -- the list due has room or not

@@ -1,18 +1,18 @@
 -- "Next": the shortest accepting path that follows an earlier one.
 use Prim.Native.Nat.{ℕ}
 use mathlib.Core.Bool.{Bool, not}
-use mathlib.Core.List.{List, [], _∷_, _++_}
+use mathlib.Core.List.{List, _∷_, _++_}
 use mathlib.Core.Option.{Option, some, none}
 use lib.ListN.{length}
 use Rattle.lasso.specs.Lists.{anyb}
 use Rattle.lasso.specs.Graph.{Graph, edges, loopStart}
-use Rattle.lasso.specs.Roll.{leastLength, roll}
+use Rattle.lasso.specs.Roll.{roll}
 use Rattle.lasso.specs.Following.{sameb, following}
 use Rattle.model.specs.Model.{graphOf}
 use Rattle.model.specs.Rules.{Reason, firstBroken}
 use Rattle.finder.specs.Outcomes.{Outcome, outcome, Followed, noMore}
-use Rattle.finder.specs.Tables.{commonRules, tooLong, noRoom, written}
-use Rattle.finder.specs.Search.{lengthDue, unlessRefused}
+use Rattle.finder.specs.Tables.{commonRules, written}
+use Rattle.finder.specs.Search.{listReasons, unlessRefused}
 
 -- 13. the earlier list, with all its entries, is not a shortest accepting path of this model
 abbrev pub notShortest : Graph → List ℕ → Bool
@@ -26,9 +26,7 @@ followed (some xs) = Followed.found (edges xs) (loopStart xs)
 -- the reasons 13 to 15, where the list that is to be written is given
 abbrev pub dueReasons : List ℕ → List ℕ → Option (List ℕ) → ℕ → List Reason
 dueReasons f earlier due answer =
-    record { number = 13; holds = notShortest (graphOf f) earlier } ∷
-    record { number = 14; holds = tooLong (leastLength (graphOf f)) } ∷
-    record { number = 15; holds = noRoom (lengthDue due) answer } ∷ []
+    record { number = 13; holds = notShortest (graphOf f) earlier } ∷ listReasons f due answer
 
 -- the reasons that next applies, all of them: the list that is to be written is the one that follows the earlier one
 abbrev pub nextReasons : List ℕ → List ℕ → ℕ → ℕ → List Reason

@@ -37,12 +37,15 @@ abbrev pub lengthDue : Option (List ℕ) → Option ℕ
 lengthDue none = none
 lengthDue (some xs) = some (edges xs)
 
+-- the reasons 14 and 15, where the list that is to be written is given
+abbrev pub listReasons : List ℕ → Option (List ℕ) → ℕ → List Reason
+listReasons f due answer =
+    record { number = 14; holds = tooLong (leastLength (graphOf f)) } ∷
+    record { number = 15; holds = noRoom (lengthDue due) answer } ∷ []
+
 -- the reasons that a search applies: it skips 13
 abbrev pub searchReasons : List ℕ → ℕ → ℕ → ℕ → List Reason
-searchReasons f allowance answer work =
-    commonRules f work ++
-    record { number = 14; holds = tooLong (leastLength (graphOf f)) } ∷
-    record { number = 15; holds = noRoom (lengthDue (firstDue (graphOf f) allowance)) answer } ∷ []
+searchReasons f allowance answer work = commonRules f work ++ listReasons f (firstDue (graphOf f) allowance) answer
 
 -- what a search answers
 abbrev pub searchOutcome : List ℕ → ℕ → ℕ → ℕ → Outcome Searched
