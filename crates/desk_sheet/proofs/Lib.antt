@@ -1,0 +1,1 @@
+-- The program has no laws of its own.

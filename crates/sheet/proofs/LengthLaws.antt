@@ -1,0 +1,94 @@
+-- No sheet is longer than the room that is asked for its text.
+use Prim.Native.Nat.{ℕ, suc, _+_, _*_, _≤_, _<_, min}
+use mathlib.Core.Path.{_≡_, refl, sym, _∙_, ap, subst}
+use mathlib.Core.Bool.{Bool, true, false}
+use mathlib.Core.List.{List, [], _∷_, _++_}
+use mathlib.Core.Option.{Option, some, none}
+use native.Mathlib.Omega.{arith}
+use lib.ListN.{length, take, drop, length-append}
+use lib.Dec.{ltb}
+use Rattle.lasso.specs.Lists.{someIf, collect}
+use Rattle.lasso.specs.Graph.{Graph}
+use Rattle.lasso.specs.Roll.{leastLength, roll}
+use Rattle.lasso.specs.Rounds.{candidates}
+use Rattle.lasso.proofs.Sorted.{All}
+use Rattle.lasso.proofs.RollLaws.{roll-empty, leastLength-range}
+use Rattle.model.specs.Layout.{states, edgeCount}
+use Rattle.model.specs.Model.{graphOf}
+use Rattle.model.specs.Rules.{Reason, firstBroken, rules, Accepted}
+use Rattle.model.proofs.Laws.{accepted-facts, accepted-well-formed}
+use Rattle.finder.specs.Search.{searchReasons}
+use Rattle.finder.proofs.StepLaws.{candidates-length-le}
+use Rattle.finder.proofs.SearchLaws.{roll-first}
+use Rattle.sheet.specs.Words.{refusedWord, noneLine, shortestWord}
+use Rattle.sheet.specs.Sheet.{line, figure, mostLists, closing, listsText, rollText, textOf, allowance, refusal, sheetText, listsRoom, sheetRoom}
+use Rattle.sheet.proofs.RoomLaws.{lineRoom, roll-room, lines-room, closing-room, figure-room, head-room}
+use Rattle.sheet.proofs.SheetLaws.{headOf, rollText-some}
+
+-- the number of the first reason is one of the table's
+broken-number : (P : ℕ → Type 0) (rs : List Reason) → All (λ r. P (r .number)) rs → (n : ℕ) → firstBroken rs ≡ some n → P n
+broken-number P [] h n e = let z : _≡_ {A = ℕ} 0 1 = cc in absurd (omega arith)
+broken-number P (r ∷ rs) h n e = go (r .holds) e (λ q. broken-number P rs (h .1) n q)
+  where
+    go : (b : Bool) → someIf b (r .number) (firstBroken rs) ≡ some n → (firstBroken rs ≡ some n → P n) → P n
+    go true q later = let same : r .number ≡ n = cc in subst P same (h .0)
+    go false q later = later q
+
+-- if no reason of a table holds, none of its first part does
+clear-front : (rs ss : List Reason) → firstBroken (rs ++ ss) ≡ none → firstBroken rs ≡ none
+clear-front [] ss e = refl
+clear-front (r ∷ rs) ss e = go (r .holds) e (λ q. clear-front rs ss q)
+  where
+    go : (b : Bool) → someIf b (r .number) (firstBroken (rs ++ ss)) ≡ none → (firstBroken (rs ++ ss) ≡ none → firstBroken rs ≡ none)
+        → someIf b (r .number) (firstBroken rs) ≡ none
+    go true q later = let z : _≡_ {A = ℕ} 0 1 = cc in absurd (omega arith)
+    go false q later = later q
+
+-- a file that is not refused breaks none of 1 to 11
+refusal-accepted : (f : List ℕ) (answer work : ℕ) → refusal f answer work ≡ none → Accepted f
+refusal-accepted f answer work e = clear-front (rules f) (drop 11 (searchReasons f allowance answer work)) e
+
+-- the number of a refusal is at most 15
+refusal-number : (f : List ℕ) (answer work n : ℕ) → refusal f answer work ≡ some n → n ≤ 15
+refusal-number f answer work n e = broken-number (λ k. k ≤ 15) (searchReasons f allowance answer work) (omega arith) n e
+
+module _ (f : List ℕ) (accepted : Accepted f) where
+  -- the lines before the lists
+  headOf-room : length (headOf f) ≤ 28
+  headOf-room =
+      let facts = accepted-facts f accepted in
+      head-room (states f) (edgeCount f) (length (candidates (graphOf f))) (omega (arith, facts .states-range)) (omega (arith, facts .edges-range))
+      (omega (arith, facts .states-range, candidates-length-le (graphOf f)))
+
+  -- the lines of the lists and the closing line
+  listsText-room : (l : ℕ) → leastLength (graphOf f) ≡ some l → length (listsText (roll (graphOf f))) ≤ listsRoom
+  listsText-room l e =
+      let g : Graph = graphOf f in
+      let facts = accepted-facts f accepted in
+      let small = roll-room g (accepted-well-formed f accepted) l e (omega (arith, facts .states-range)) in
+      let n : ℕ = length (roll g) in
+      omega (arith, length-append (collect line (take mostLists (roll g))) (closing n), lines-room mostLists (roll g) small, closing-room (ltb mostLists n) (min n mostLists) (omega arith))
+
+  -- the text of a file that is not refused
+  text-room : length (textOf none f) ≤ sheetRoom
+  text-room = go (leastLength (graphOf f)) refl
+    where
+      go : (o : Option ℕ) → leastLength (graphOf f) ≡ o → length (textOf none f) ≤ sheetRoom
+      go none e =
+          let q : textOf none f ≡ headOf f ++ noneLine = ap (λ (rs : List (List ℕ)). headOf f ++ rollText rs) (roll-empty (graphOf f) .1 e) in
+          omega (arith, ap length q, length-append (headOf f) noneLine, headOf-room)
+      go (some l) e =
+          let facts = accepted-facts f accepted in
+          let (xs, first, long) = roll-first (graphOf f) l e in
+          let rest : List ℕ = figure shortestWord l ++ listsText (roll (graphOf f)) in
+          let q : textOf none f ≡ headOf f ++ rest = ap (λ (r : List ℕ). headOf f ++ r) (rollText-some (roll (graphOf f)) xs l first long) in
+          let range = leastLength-range (graphOf f) l e in
+          omega (arith, ap length q, length-append (headOf f) rest, length-append (figure shortestWord l) (listsText (roll (graphOf f))), headOf-room, listsText-room l e, figure-room shortestWord l (omega (arith, facts .states-range)))
+
+-- no sheet is longer than the room asked
+pub sheetText-length : (f : List ℕ) (answer work : ℕ) → length (sheetText f answer work) ≤ sheetRoom
+sheetText-length f answer work = go (refusal f answer work) refl
+  where
+    go : (o : Option ℕ) → refusal f answer work ≡ o → length (textOf o f) ≤ sheetRoom
+    go none e = text-room f (refusal-accepted f answer work e)
+    go (some n) e = omega (arith, figure-room refusedWord n (omega (arith, refusal-number f answer work n e)))

@@ -1,0 +1,18 @@
+-- Numbers in decimal.
+use Prim.Native.Nat.{ℕ, zero, suc, _+_, _/_, _%_}
+use mathlib.Core.List.{List, [], _∷_, _++_}
+use lib.Dec.{ltb}
+use Rattle.lasso.specs.Lists.{pick}
+
+-- the ASCII code of a digit
+abbrev pub digit : ℕ → ℕ
+digit d = 48 + d
+
+-- the digits of n, at most as many as told: those of n / 10, unless that is zero, and then the last one
+abbrev pub digitsWithin : ℕ → ℕ → List ℕ
+digitsWithin zero n = []
+digitsWithin (suc most) n = pick (ltb n 10) (digit n ∷ []) (digitsWithin most (n / 10) ++ digit (n % 10) ∷ [])
+
+-- n in decimal, with no leading zeros: n has no more than n + 1 digits
+unfoldable pub decimal : ℕ → List ℕ
+decimal n = digitsWithin (suc n) n

@@ -1,0 +1,113 @@
+-- The whole text of the sheet, and the tables afterwards.
+use Prim.Native.Nat.{ℕ, min}
+use mathlib.Core.Bool.{Bool, true, false}
+use mathlib.Core.List.{List, [], _∷_, _++_}
+use mathlib.Core.Option.{Option, some, none}
+use lib.ListN.{length, take}
+use lib.Dec.{ltb}
+use Rattle.lasso.specs.Lists.{pick, collect}
+use Rattle.lasso.specs.Graph.{Graph, edges, stem, loop}
+use Rattle.lasso.specs.Roll.{roll}
+use Rattle.lasso.specs.Rounds.{candidates}
+use Rattle.model.specs.Layout.{states, edgeCount}
+use Rattle.model.specs.Model.{graphOf}
+use Rattle.model.specs.Rules.{firstBroken}
+use Rattle.finder.specs.Tables.{workOf, written}
+use Rattle.finder.specs.Search.{searchReasons, unlessRefused}
+use Rattle.sheet.specs.Decimal.{decimal}
+use Rattle.sheet.specs.Words.{space, bar, lineFeed, refusedWord, modelWord, roundsWord, noneLine, shortestWord, endWord, moreWord}
+
+-- each state followed by a space
+abbrev pub spaceAfter : List ℕ → List ℕ
+spaceAfter ss = collect (λ s. decimal s ++ space ∷ []) ss
+
+-- each state preceded by a space
+abbrev pub spaceBefore : List ℕ → List ℕ
+spaceBefore ss = collect (λ s. space ∷ decimal s) ss
+
+-- the line with the states of a stem, a bar, and the states of a loop
+abbrev pub stemLoop : List ℕ → List ℕ → List ℕ
+stemLoop ss ls = spaceAfter ss ++ bar ∷ spaceBefore ls ++ lineFeed ∷ []
+
+-- the line of a list
+abbrev pub line : List ℕ → List ℕ
+line xs = stemLoop (stem xs) (loop xs)
+
+-- the line with a word and a number
+abbrev pub figure : List ℕ → ℕ → List ℕ
+figure word n = word ++ decimal n ++ lineFeed ∷ []
+
+-- the lines `model` with N and M, and `rounds` with the rounds
+abbrev pub head : (n m rounds : ℕ) → List ℕ
+head n m rounds = modelWord ++ decimal n ++ figure (space ∷ []) m ++ figure roundsWord rounds
+
+-- the most lists that are printed
+abbrev pub mostLists : ℕ
+mostLists = 20
+
+-- the closing line: the number of lists printed, headed `more` if there are more, else `end`
+abbrev pub closingLine : Bool → ℕ → List ℕ
+closingLine true count = figure moreWord count
+closingLine false count = figure endWord count
+
+-- the closing line for a roll of n lists
+abbrev pub closing : ℕ → List ℕ
+closing n = closingLine (ltb mostLists n) (min n mostLists)
+
+-- the lines of the lists that are printed, and the closing line
+abbrev pub listsText : List (List ℕ) → List ℕ
+listsText rs = collect line (take mostLists rs) ++ closing (length rs)
+
+-- the lines behind the rounds: `none`, or the length, the lists and the closing line
+abbrev pub rollText : List (List ℕ) → List ℕ
+rollText [] = noneLine
+rollText (xs ∷ rest) =
+    figure shortestWord (edges xs) ++ listsText (xs ∷ rest)
+
+-- the text for a file that is refused with a number, or is not refused
+abbrev pub textOf : Option ℕ → List ℕ → List ℕ
+textOf none f = head (states f) (edgeCount f) (length (candidates (graphOf f))) ++ rollText (roll (graphOf f))
+textOf (some n) f = figure refusedWord n
+
+-- the allowance of the search: there are never more than 4,096 candidates
+abbrev pub allowance : ℕ
+allowance = 65535
+
+-- the reason to refuse, if there is one; the tables have so many entries
+abbrev pub refusal : List ℕ → ℕ → ℕ → Option ℕ
+refusal f answer work = firstBroken (searchReasons f allowance answer work)
+
+-- the whole text of the sheet of a file
+abbrev pub sheetText : List ℕ → ℕ → ℕ → List ℕ
+sheetText f answer work = textOf (refusal f answer work) f
+
+-- the last of some lists, if there is one
+abbrev pub lastOf : List (List ℕ) → Option (List ℕ)
+lastOf [] = none
+lastOf (xs ∷ []) = some xs
+lastOf (xs ∷ ys ∷ rest) = lastOf (ys ∷ rest)
+
+-- the answer table after a sheet: the last list printed, if any
+abbrev pub sheetAnswer : List ℕ → List ℕ → ℕ → List ℕ
+sheetAnswer f a work =
+    written (unlessRefused (refusal f (length a) work) (lastOf (take mostLists (roll (graphOf f))))) a
+
+-- the room that is asked for a text: no sheet is longer
+abbrev pub sheetRoom : ℕ
+sheetRoom = 410000
+
+-- the room that the lists and the closing line may take of it
+abbrev pub listsRoom : ℕ
+listsRoom = 409748
+
+-- what a sheet writes to a text with so much room: nothing if that is too little
+abbrev pub textWritten : List ℕ → (answer work room : ℕ) → List ℕ
+textWritten f answer work room = pick (ltb room sheetRoom) [] (sheetText f answer work)
+
+-- the answer table after a sheet with so much room for its text: untouched if that is too little
+abbrev pub answerAfter : List ℕ → List ℕ → (work room : ℕ) → List ℕ
+answerAfter f a work room = pick (ltb room sheetRoom) a (sheetAnswer f a work)
+
+-- the working table after a sheet with so much room for its text: untouched if that is too little
+abbrev pub workAfterSheet : List ℕ → List ℕ → ℕ → List ℕ
+workAfterSheet f w room = pick (ltb room sheetRoom) w (workOf f w)
