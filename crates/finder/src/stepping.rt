@@ -9,9 +9,8 @@ ghost use Rattle.finder.specs.Step.{stepOutcome};
 use crate::StepAnswer;
 use lasso::RoundRecord;
 use model::Header;
-use rounds::after_round;
-use rounds::candidate_at;
 use rounds::count_candidates;
+use rounds::next_round;
 use rounds::start_distances;
 
 // The record after one more round, or the same if no candidate is left.
@@ -27,7 +26,6 @@ pub fn step_model(file: &[u8], h: Header, so_far: RoundRecord, work: &mut [u16])
     if count <= place {
         return StepAnswer::Finished(so_far);
     }
-    let r = candidate_at(file, h, work, place);
-    let after = after_round(file, h, work, r, so_far);
+    let after = next_round(file, h, work, so_far);
     StepAnswer::Advanced(after)
 }

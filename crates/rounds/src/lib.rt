@@ -3,8 +3,8 @@
 ghost use mathlib.Core.Path.{_≡_};
 ghost use mathlib.Core.Option.{some};
 ghost use Prim.Native.Nat.{ℕ, suc, _+_, _*_, _≤_, _<_, min};
-ghost use lib.ListN.{length, getD};
-ghost use Rattle.lasso.specs.Rounds.{candidateb, candidates, lesser, sum, roundLength, withRound, afterRounds};
+ghost use lib.ListN.{length};
+ghost use Rattle.lasso.specs.Rounds.{candidateb, candidates, lesser, sum, roundLength, withRound, afterRound, afterRounds};
 ghost use Rattle.lasso.specs.Values.{bestOf, recordOf};
 ghost use Rattle.model.specs.Values.{Valid};
 ghost use Rattle.model.specs.Model.{graphOf};
@@ -63,27 +63,6 @@ pub fn count_candidates(file: &[u8], h: Header, work: &[u16]) -> usize
         s += 1;
     }
     count
-}
-
-// The candidate at a place.
-pub fn candidate_at(file: &[u8], h: Header, work: &[u16], place: usize) -> usize
-    requires { ⌜ Ready (now file) h (now work) ⌝ }
-    requires { ⌜ place < length (candidates (graphOf (now file))) ⌝ }
-    ensures { λ r. ⌜ (r ≡ getD (candidates (graphOf (now (file .entry)))) place 0) × (r < h .states) ⌝ }
-{
-    let n = h.states;
-    let mut left = place;
-    let mut s = 0;
-    while s < n {
-        if is_candidate(file, h, work, s) {
-            if left == 0 {
-                return s;
-            }
-            left -= 1;
-        }
-        s += 1;
-    }
-    0
 }
 
 // The entry for the sum of what two entries stand for: nothing if one of them stands for nothing.
@@ -156,8 +135,45 @@ fn limit_of(best: Best, n: usize) -> usize
     }
 }
 
+// The round for candidate r, as far as the best so far needs it: a length above the best may be left out.
+fn round_within(file: &[u8], h: Header, work: &mut [u16], r: usize, best: Best) -> Best
+    requires { ⌜ Ready (now file) h (now work) ⌝ }
+    requires { ⌜ r < h .states ⌝ }
+    ensures { λ b. ⌜ lesser (bestOf best) (bestOf b) ≡ lesser (bestOf best) (roundLength (graphOf (now (file .entry))) r) ⌝ }
+    ensures same { λ _. ⌜ SameOutside (2 * h .states) (6 * h .states) (now (work .entry)) (now (work .exit)) ⌝ }
+{
+    let limit = limit_of(best, h.states);
+    round(file, h, work, r, limit)
+}
+
+// The record after one more round: the one for the candidate whose place is the count.
+pub fn next_round(file: &[u8], h: Header, work: &mut [u16], so_far: RoundRecord) -> RoundRecord
+    requires { ⌜ Ready (now file) h (now work) ⌝ }
+    requires { ⌜ «so_far» .done < length (candidates (graphOf (now file))) ⌝ }
+    ensures { λ a. ⌜ recordOf a ≡ afterRound (graphOf (now (file .entry))) (recordOf «so_far») ⌝ }
+    ensures same { λ _. ⌜ SameOutside (2 * h .states) (6 * h .states) (now (work .entry)) (now (work .exit)) ⌝ }
+{
+    let n = h.states;
+    let best = so_far.best;
+    let done = so_far.done as usize;
+    let mut found = Best::None;
+    let mut place: usize = 0;
+    let mut s = 0;
+    while s < n {
+        if is_candidate(file, h, work, s) {
+            if place == done {
+                let length = round_within(file, h, work, s, best);
+                found = lasso::lesser(found, length);
+            }
+            place += 1;
+        }
+        s += 1;
+    }
+    so_far.with_round(found)
+}
+
 // The record after one more round, the one for candidate r.
-pub fn after_round(
+fn after_round(
     file: &[u8],
     h: Header,
     work: &mut [u16],
@@ -171,8 +187,7 @@ pub fn after_round(
     ensures same { λ _. ⌜ SameOutside (2 * h .states) (6 * h .states) (now (work .entry)) (now (work .exit)) ⌝ }
 {
     let best = so_far.best;
-    let limit = limit_of(best, h.states);
-    let length = round(file, h, work, r, limit);
+    let length = round_within(file, h, work, r, best);
     so_far.with_round(length)
 }
 

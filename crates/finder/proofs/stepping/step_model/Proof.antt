@@ -47,23 +47,11 @@ returns c =
       started counted .start-distances .ensures .same-length,
     )
 
-candidate-at-requires : tie.Need-candidate-at-requires
-candidate-at-requires c κs =
+next-round-requires : tie.Need-next-round-requires
+next-round-requires c κs =
     let counted = c .before .before .before in
     let s = start counted in
     (ready-started (s .pre .0) (s .pre .1) (started counted .start-distances .ensures), left-over (c .before))
-
-after-round-requires : tie.Need-after-round-requires
-after-round-requires c κs =
-    let counted = c .before .before .before .before .before in
-    let s = start counted in
-    let sizes = valid-sizes (s .pre .0) in (
-      ready-started (s .pre .0) (s .pre .1) (started counted .start-distances .ensures),
-      (
-        c .before .candidate-at .ensures .1,
-        omega (arith, left-over (c .before .before .before), candidates-length-le (graphOf (s .args .file .now))),
-      ),
-    )
 
 same-length-2 : tie.Need-same-length-2
 same-length-2 c = search needs
@@ -71,15 +59,12 @@ same-length-2 c = search needs
 returns-2 : tie.Need-returns-2
 returns-2 c =
     let done = c .before .before in
-    let found = done .before .before in
-    let else = found .before .before in
+    let else = done .before .before in
     let counted = else .before .before in
-    let s = start counted in
-    let rec = recordOf (s .args .so-far) in
-    let g = graphOf (s .args .file .now) in (
-      step-advanced (s .args .file .now) rec _ (valid-clear (s .pre .0) _ (s .pre .1)) (left-over else) _
-          (done .after-round .ensures .0 ∙ ap (λ (r : ℕ). withRound rec (roundLength g r)) (found .candidate-at .ensures .0)),
-      done .after-round .ensures .1 .same-length ∙ started counted .start-distances .ensures .same-length,
+    let s = start counted in (
+      step-advanced (s .args .file .now) (recordOf (s .args .so-far)) _ (valid-clear (s .pre .0) _ (s .pre .1)) (left-over else) _
+          (done .next-round .ensures .0),
+      done .next-round .ensures .1 .same-length ∙ started counted .start-distances .ensures .same-length,
     )
 
 pub step-model-spec : {M : Type 1} → statement M
@@ -91,7 +76,6 @@ step-model-spec =
     cast-place
     same-length
     returns
-    candidate-at-requires
-    after-round-requires
+    next-round-requires
     same-length-2
     returns-2)
