@@ -6,5 +6,10 @@ fn main() {
     let mut answer = [0u16; 4097];
     let mut text = [0u8; 410000];
     let written = sheet::sheet(&input[..n], &mut answer, &mut work, &mut text);
-    io::write_all(libc::STDOUT_FILENO, &text[..written]);
+    if !io::write_all(libc::STDOUT_FILENO, &text[..written]) {
+        io::write_all(
+            libc::STDERR_FILENO,
+            b"desk_sheet: the sheet could not be written\n",
+        );
+    }
 }
