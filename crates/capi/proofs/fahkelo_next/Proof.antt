@@ -1,0 +1,89 @@
+-- `fahkelo_next` meets its contract: 7 if `out` is too short, else the report of what next answers.
+use mathlib.Core.List.{List}
+use Prim.Native.Nat.{ℕ, _≤_, _<_}
+use native.Mathlib.Omega.{arith}
+use borrow.Author.Needs.{needs}
+use lib.ListN.{length}
+use Rattle.finder.specs.Outcomes.{Outcome, Followed, nextOutcomeOf}
+use Rattle.finder.specs.Tables.{workOf}
+use Rattle.finder.specs.Next.{nextOutcome, nextAnswer}
+use Rattle.capi.specs.Kinds.{nextReport}
+use Rattle.capi.proofs.ReportLaws.{is-short, is-enough, reports-short, reports-enough}
+use Rattle.capi.proofs.fahkelo_next.Statement.{statement}
+use Rattle.capi.proofs.fahkelo_next.Tie as tie
+
+-- the function's start, from its test
+abbrev start : tie.After-slice-known3 → tie.Start
+start c = c .before .before .before .before .before
+
+-- what is due: the answer, and the tables afterwards
+abbrev due : tie.Start → Outcome Followed
+due s = let a = s .args in nextOutcome (a .file .now) (a .earlier .now) (length (a .answer .now)) (length (a .work .now))
+
+abbrev answer-due : tie.Start → List ℕ
+answer-due s = let a = s .args in nextAnswer (a .file .now) (a .earlier .now) (a .answer .now) (length (a .work .now))
+
+abbrev work-due : tie.Start → List ℕ
+work-due s = workOf (s .args .file .now) (s .args .work .now)
+
+returns : tie.Need-returns
+returns c =
+    let s = start (c .before) in
+    let out = s .args .out .now in
+    let few : length out < 4 = omega (arith, c .if1 .taken) in
+    let r = reports-short out (nextReport (due s)) few in (
+      r .0,
+      (
+        r .1,
+        (
+          is-short out (s .args .answer .now) (answer-due s) few,
+          is-short out (s .args .work .now) (work-due s) few,
+        ),
+      ),
+    )
+
+next-requires : tie.Need-next-requires
+next-requires c κs = search needs
+
+report-next-requires : tie.Need-report-next-requires
+report-next-requires c κs = search needs
+
+same-length : tie.Need-same-length
+same-length c = search needs
+
+same-length-2 : tie.Need-same-length-2
+same-length-2 c = search needs
+
+same-length-3 : tie.Need-same-length-3
+same-length-3 c = search needs
+
+returns-2 : tie.Need-returns-2
+returns-2 c =
+    let reported = c .before .before in
+    let done = reported .before .before .before .before .before .before in
+    let else = done .before .before .before in
+    let s = start (else .before) in
+    let out = s .args .out .now in
+    let enough : 4 ≤ length out = omega (arith, else .if1 .left) in
+    let r = reports-enough nextReport out (nextOutcomeOf (done .next .result)) (due s) enough (done .next .ensures .0) (reported .report-next .ensures .0) (reported .report-next .ensures .1) in (
+      r .0,
+      (
+        r .1,
+        (
+          is-enough out (s .args .answer .now) (answer-due s) enough (done .next .ensures .1 .0),
+          is-enough out (s .args .work .now) (work-due s) enough (done .next .ensures .1 .1),
+        ),
+      ),
+    )
+
+pub fahkelo-next-spec : {M : Type 1} → statement M
+fahkelo-next-spec =
+    tie.close
+    (tie.spec
+    returns
+    next-requires
+    report-next-requires
+    same-length
+    same-length-2
+    same-length-3
+    returns-2)

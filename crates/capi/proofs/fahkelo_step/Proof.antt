@@ -1,0 +1,74 @@
+-- `fahkelo_step` meets its contract: 7 if `out` is too short, else the report of what the step answers.
+use mathlib.Core.Path.{_∙_, ap}
+use mathlib.Core.List.{List}
+use Prim.Native.Nat.{ℕ, _≤_, _<_}
+use native.Mathlib.Omega.{arith}
+use borrow.Author.Needs.{needs}
+use lib.ListN.{length}
+use Rattle.lasso.specs.Rounds.{Record}
+use Rattle.finder.specs.Outcomes.{Outcome, Stepped, stepOutcomeOf}
+use Rattle.finder.specs.Tables.{workOf}
+use Rattle.finder.specs.Step.{stepOutcome}
+use Rattle.capi.specs.Kinds.{recordGiven, stepReport}
+use Rattle.capi.proofs.ReportLaws.{is-short, is-enough, reports-short, reports-enough}
+use Rattle.capi.proofs.fahkelo_step.Statement.{statement}
+use Rattle.capi.proofs.fahkelo_step.Tie as tie
+
+-- the function's start, from its test
+abbrev start : tie.After-slice-known2 → tie.Start
+start c = c .before .before .before
+
+-- what is due: the answer, and the table afterwards
+abbrev due : tie.Start → Outcome Stepped
+due s = let a = s .args in stepOutcome (a .file .now) (recordGiven (a .done) (a .has-best) (a .best)) (length (a .work .now))
+
+abbrev work-due : tie.Start → List ℕ
+work-due s = workOf (s .args .file .now) (s .args .work .now)
+
+returns : tie.Need-returns
+returns c =
+    let s = start (c .before) in
+    let out = s .args .out .now in
+    let few : length out < 4 = omega (arith, c .if1 .taken) in
+    let r = reports-short out (stepReport (due s)) few in
+    (r .0, (r .1, is-short out (s .args .work .now) (work-due s) few))
+
+record-given-requires : tie.Need-record-given-requires
+record-given-requires c κs = search needs
+
+step-requires : tie.Need-step-requires
+step-requires c κs = search needs
+
+report-step-requires : tie.Need-report-step-requires
+report-step-requires c κs = search needs
+
+same-length : tie.Need-same-length
+same-length c = search needs
+
+same-length-2 : tie.Need-same-length-2
+same-length-2 c = search needs
+
+returns-2 : tie.Need-returns-2
+returns-2 c =
+    let reported = c .before .before in
+    let done = reported .before .before .before .before in
+    let given = done .before .before in
+    let else = given .before in
+    let s = start (else .before) in
+    let out = s .args .out .now in
+    let enough : 4 ≤ length out = omega (arith, else .if1 .left) in
+    let same = ap (λ (rec : Record). stepOutcome (s .args .file .now) rec (length (s .args .work .now))) (given .record-given .ensures) in
+    let r = reports-enough stepReport out (stepOutcomeOf (done .step .result)) (due s) enough (done .step .ensures .0 ∙ same) (reported .report-step .ensures .0) (reported .report-step .ensures .1) in
+    (r .0, (r .1, is-enough out (s .args .work .now) (work-due s) enough (done .step .ensures .1)))
+
+pub fahkelo-step-spec : {M : Type 1} → statement M
+fahkelo-step-spec =
+    tie.close
+    (tie.spec
+    returns
+    record-given-requires
+    step-requires
+    report-step-requires
+    same-length
+    same-length-2
+    returns-2)

@@ -1,0 +1,74 @@
+-- `report::report_step` meets its contract, answer by answer.
+use borrow.Author.Needs.{needs}
+use Rattle.finder.specs.declared.StepAnswer.{StepAnswer}
+use Rattle.finder.specs.Outcomes.{stepOutcomeOf}
+use Rattle.capi.specs.Kinds.{Report, stepReport}
+use Rattle.capi.proofs.ReportLaws.{reports-known}
+use Rattle.capi.proofs.report.report_step.Statement.{statement}
+use Rattle.capi.proofs.report.report_step.Tie as tie
+
+-- the report of an answer of the code
+abbrev answerReport : StepAnswer → Report
+answerReport a = stepReport (stepOutcomeOf a)
+
+enum-known-answer : tie.Need-enum-known-answer
+enum-known-answer c = search needs
+
+put-one-requires : tie.Need-put-one-requires
+put-one-requires c κs = search needs
+
+enum-known-answer-2 : tie.Need-enum-known-answer-2
+enum-known-answer-2 c = search needs
+
+put-record-requires : tie.Need-put-record-requires
+put-record-requires c κs = search needs
+
+enum-known-answer-3 : tie.Need-enum-known-answer-3
+enum-known-answer-3 c = search needs
+
+put-record-requires-2 : tie.Need-put-record-requires-2
+put-record-requires-2 c κs = search needs
+
+same-length : tie.Need-same-length
+same-length c = search needs
+
+returns : tie.Need-returns
+returns c =
+    let done = c .before .before in
+    let told = done .before .before .before in
+    reports-known answerReport (told .before .before .before .args .out .now) (told .answer .given .1) (done .put-one .ensures)
+
+same-length-2 : tie.Need-same-length-2
+same-length-2 c = search needs
+
+returns-2 : tie.Need-returns-2
+returns-2 c =
+    let done = c .before .before in
+    let told = done .before .before .before in
+    reports-known answerReport (told .before .before .before .args .out .now) (told .answer2 .given .1) (done .put-record .ensures)
+
+same-length-3 : tie.Need-same-length-3
+same-length-3 c = search needs
+
+returns-3 : tie.Need-returns-3
+returns-3 c =
+    let done = c .before .before in
+    let told = done .before .before .before in
+    reports-known answerReport (told .before .before .before .args .out .now) (told .answer3 .given .1) (done .put-record2 .ensures)
+
+pub report-step-spec : {M : Type 1} → statement M
+report-step-spec =
+    tie.close
+    (tie.spec
+    enum-known-answer
+    put-one-requires
+    enum-known-answer-2
+    put-record-requires
+    enum-known-answer-3
+    put-record-requires-2
+    same-length
+    returns
+    same-length-2
+    returns-2
+    same-length-3
+    returns-3)

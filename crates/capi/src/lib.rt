@@ -1,0 +1,103 @@
+// The C interface: step, search and next under plain names, with answers as numbers. The kind of answer is returned, its
+// figures go to `out`; with fewer than 4 entries there the answer is 7 and nothing at all is done.
+ghost use mathlib.Core.Path.{_≡_};
+ghost use lib.ListN.{length};
+ghost use Rattle.lasso.specs.Values.{recordOf};
+ghost use Rattle.capi.specs.Kinds.{recordGiven, figuresIn, stepCall, searchCall, nextCall, answerAfterSearch, answerAfterNext, workAfterCall};
+
+mod report;
+
+use finder::next;
+use finder::search;
+use finder::step;
+use lasso::Best;
+use lasso::RoundRecord;
+use lasso::Transitions;
+pub use report::report_next;
+pub use report::report_search;
+pub use report::report_step;
+
+// The entries that `out` must have, and the kind of answer if it has fewer.
+const OUT_ENTRIES: usize = 4;
+
+const OUT_TOO_SHORT: u16 = 7;
+
+// The record that three figures stand for.
+fn record_given(done: u16, has_best: u8, best: u16) -> RoundRecord
+    ensures { λ r. ⌜ recordOf r ≡ recordGiven done «has_best» best ⌝ }
+{
+    if has_best == 0 {
+        return RoundRecord {
+            done: done,
+            best: Best::None,
+        };
+    }
+    RoundRecord {
+        done: done,
+        best: Best::Length(Transitions(best)),
+    }
+}
+
+// The record after one more round.
+#[no_mangle]
+pub extern "C" fn fahkelo_step(
+    file: &[u8],
+    done: u16,
+    has_best: u8,
+    best: u16,
+    work: &mut [u16],
+    out: &mut [u16],
+) -> u16
+    ensures kind { λ r. ⌜ r ≡ stepCall (now (file .entry)) (recordGiven done «has_best» best) (length (now (work .entry))) (now (out .entry)) .kind ⌝ }
+    ensures out { λ _. ⌜ now (out .exit) ≡ figuresIn (now (out .entry)) (stepCall (now (file .entry)) (recordGiven done «has_best» best) (length (now (work .entry))) (now (out .entry))) ⌝ }
+    ensures work { λ _. ⌜ now (work .exit) ≡ workAfterCall (now (file .entry)) (now (work .entry)) (now (out .entry)) ⌝ }
+{
+    if out.len() < OUT_ENTRIES {
+        return OUT_TOO_SHORT;
+    }
+    let so_far = record_given(done, has_best, best);
+    let stepped = step(file, so_far, work);
+    report_step(stepped, out)
+}
+
+// The first of the shortest accepting paths, written to the answer table.
+#[no_mangle]
+pub extern "C" fn fahkelo_search(
+    file: &[u8],
+    allowance: u16,
+    answer: &mut [u16],
+    work: &mut [u16],
+    out: &mut [u16],
+) -> u16
+    ensures kind { λ r. ⌜ r ≡ searchCall (now (file .entry)) allowance (length (now (answer .entry))) (length (now (work .entry))) (now (out .entry)) .kind ⌝ }
+    ensures out { λ _. ⌜ now (out .exit) ≡ figuresIn (now (out .entry)) (searchCall (now (file .entry)) allowance (length (now (answer .entry))) (length (now (work .entry))) (now (out .entry))) ⌝ }
+    ensures answer { λ _. ⌜ now (answer .exit) ≡ answerAfterSearch (now (file .entry)) allowance (now (answer .entry)) (length (now (work .entry))) (now (out .entry)) ⌝ }
+    ensures work { λ _. ⌜ now (work .exit) ≡ workAfterCall (now (file .entry)) (now (work .entry)) (now (out .entry)) ⌝ }
+{
+    if out.len() < OUT_ENTRIES {
+        return OUT_TOO_SHORT;
+    }
+    let searched = search(file, allowance, answer, work);
+    report_search(searched, out)
+}
+
+// The shortest accepting path that follows an earlier one, written to the answer table.
+#[no_mangle]
+pub extern "C" fn fahkelo_next(
+    file: &[u8],
+    earlier: &[u16],
+    answer: &mut [u16],
+    work: &mut [u16],
+    out: &mut [u16],
+) -> u16
+    ensures kind { λ r. ⌜ r ≡ nextCall (now (file .entry)) (now (earlier .entry)) (length (now (answer .entry))) (length (now (work .entry))) (now (out .entry)) .kind ⌝ }
+    ensures out { λ _. ⌜ now (out .exit) ≡ figuresIn (now (out .entry)) (nextCall (now (file .entry)) (now (earlier .entry)) (length (now (answer .entry))) (length (now (work .entry))) (now (out .entry))) ⌝ }
+    ensures answer { λ _. ⌜ now (answer .exit) ≡ answerAfterNext (now (file .entry)) (now (earlier .entry)) (now (answer .entry)) (length (now (work .entry))) (now (out .entry)) ⌝ }
+    ensures work { λ _. ⌜ now (work .exit) ≡ workAfterCall (now (file .entry)) (now (work .entry)) (now (out .entry)) ⌝ }
+{
+    if out.len() < OUT_ENTRIES {
+        return OUT_TOO_SHORT;
+    }
+    let followed = next(file, earlier, answer, work);
+    report_next(followed, out)
+}
