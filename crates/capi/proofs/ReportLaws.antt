@@ -3,12 +3,11 @@ use Prim.Native.Nat.{ℕ, _≤_, _<_}
 use mathlib.Core.Path.{_≡_, refl, sym, _∙_, ap}
 use mathlib.Core.Bool.{Bool}
 use mathlib.Core.List.{List, [], _∷_}
-use mathlib.Core.Option.{Option, some, none}
+use mathlib.Core.Option.{some, none}
 use native.Mathlib.Omega.{arith}
 use borrow.Author.Tests.{lt-ltb, le-ltb, eq-eqb, ne-eqb}
 use lib.ListN.{length, set}
 use Rattle.lasso.specs.Lists.{pick}
-use Rattle.lasso.specs.Rounds.{Record}
 use Rattle.lasso.specs.declared.Best.{Best}
 use Rattle.lasso.specs.Values.{bestOf}
 use Rattle.finder.specs.Tables.{written}

@@ -17,9 +17,10 @@ pub use report::report_next;
 pub use report::report_search;
 pub use report::report_step;
 
-// The entries that `out` must have, and the kind of answer if it has fewer.
+// The entries that `out` must have.
 const OUT_ENTRIES: usize = 4;
 
+// The kind of answer if it has fewer.
 const OUT_TOO_SHORT: u16 = 7;
 
 // The record that three figures stand for.
