@@ -1,0 +1,459 @@
+//! The differential run: many files, valid and damaged, and many calls on each, whose answers and tables are compared
+//! with what the reference says. The library is called by its C functions, the safe Rust version beside it.
+
+use crate::fahkelo::{
+    kind, next_into, search_into, step_into, NextAnswer, Record, SearchAnswer, StepAnswer,
+};
+use crate::families::FAMILIES;
+use crate::model::Model;
+use crate::oracle::{self, Verdict};
+use crate::random::Random;
+use crate::reference::{read, rounds_by_formula, Facts, SMALL};
+use crate::samples::{
+    answer_len, damage, dirty, random_model, random_record, walk, work_len, wrong_list,
+};
+use crate::textbook::Textbook;
+use crate::versions::{Finder, SAFE};
+
+/// Lists of a larger model's roll that are compared.
+const MOST_LISTS: usize = 60;
+
+/// Counts of a run.
+#[derive(Default)]
+struct Counts {
+    small: u64,
+    large: u64,
+    refused_files: [u64; 16],
+    damaged: u64,
+    steps: u64,
+    searches: u64,
+    nexts: u64,
+    kinds: [u64; 8],
+    reasons: [u64; 16],
+    lists: u64,
+    out_too_short: u64,
+    differences: u64,
+}
+
+impl Counts {
+    fn difference(&mut self, what: &str, file: &[u8]) {
+        self.differences += 1;
+        if self.differences <= 10 {
+            println!("difference: {what}\n  file {file:02x?}");
+        }
+    }
+}
+
+/// Runs the comparison; the number of differences.
+pub fn run(count: u64, seed: u64) -> u64 {
+    let mut lot = Random::new(seed);
+    let mut counts = Counts::default();
+    for round in 0..count {
+        let damaged = round % 2 == 1;
+        let large = round % 20 >= 18;
+        let model = if large {
+            random_model(&mut lot, SMALL + 1, 40)
+        } else {
+            random_model(&mut lot, 1, SMALL)
+        };
+        let mut file = model.to_bytes();
+        if damaged {
+            damage(&mut lot, &mut file);
+            counts.damaged += 1;
+        }
+        compare_file(&mut lot, &mut counts, &file, (!damaged).then_some(&model));
+    }
+    for family in FAMILIES {
+        let file = (family.make)(256).to_bytes();
+        compare_family(&mut lot, &mut counts, &file);
+    }
+    print(&counts);
+    counts.differences
+}
+
+/// A search and the lists behind the first, on a file of a measured family.
+fn compare_family(lot: &mut Random, counts: &mut Counts, file: &[u8]) {
+    let verdict = verdict_of(counts, file, None);
+    let Ok((model, facts)) = &verdict else {
+        counts.difference("a family's file is refused", file);
+        return;
+    };
+    let roll = &facts.roll[..facts.roll.len().min(20)];
+    compare_roll(lot, counts, file, &verdict, roll, model.states());
+}
+
+fn print(counts: &Counts) {
+    let of_list = |numbers: &[u64]| {
+        let shown = numbers.iter().enumerate().filter(|(_, &n)| n != 0);
+        let words: Vec<String> = shown.map(|(i, n)| format!("{i}: {n}")).collect();
+        words.join(", ")
+    };
+    println!(
+        "files accepted: {} of up to {SMALL} states (exhaustive), {} larger (textbook)",
+        counts.small, counts.large
+    );
+    println!(
+        "files damaged: {}; refused by rule: {}",
+        counts.damaged,
+        of_list(&counts.refused_files)
+    );
+    println!(
+        "calls: {} steps, {} searches, {} nexts; lists received: {}",
+        counts.steps, counts.searches, counts.nexts, counts.lists
+    );
+    println!(
+        "answers by kind: {}; of the calls in C, with too short a table for the figures: {}",
+        of_list(&counts.kinds),
+        counts.out_too_short
+    );
+    println!("refusals by reason: {}", of_list(&counts.reasons));
+    println!("differences {}", counts.differences);
+}
+
+/// The file's verdict by the reference. A model that was written must be read back.
+fn verdict_of(counts: &mut Counts, file: &[u8], written: Option<&Model>) -> Verdict {
+    let model = match read(file) {
+        Err(number) => {
+            if written.is_some() {
+                counts.difference("the reference refuses a file as written", file);
+            }
+            counts.refused_files[number as usize] += 1;
+            return Err(number);
+        }
+        Ok(model) => model,
+    };
+    if written.is_some_and(|written| *written != model) {
+        counts.difference("the reference reads another model than was written", file);
+    }
+    let by_textbook = textbook_facts(&model);
+    if model.states() > SMALL {
+        counts.large += 1;
+        return Ok((model, by_textbook));
+    }
+    counts.small += 1;
+    let facts = Facts::by_exhaustion(&model);
+    if facts.round_lengths != rounds_by_formula(&model, &facts.candidates) {
+        counts.difference("rounds: exhaustive search and formula", file);
+    }
+    let known = facts.roll.len().min(MOST_LISTS);
+    if by_textbook.candidates != facts.candidates
+        || by_textbook.round_lengths != facts.round_lengths
+        || by_textbook.roll[..] != facts.roll[..known]
+    {
+        counts.difference("exhaustive search and textbook", file);
+    }
+    Ok((model, facts))
+}
+
+/// The facts of a model by the textbook version.
+fn textbook_facts(model: &Model) -> Facts {
+    let textbook = Textbook::new(model);
+    let mut roll = Vec::new();
+    let mut cut_off = false;
+    if let Some(mut lister) = textbook.solve() {
+        roll.push(lister.list().to_vec());
+        while lister.advance() {
+            if roll.len() == MOST_LISTS {
+                cut_off = true;
+                break;
+            }
+            roll.push(lister.list().to_vec());
+        }
+    }
+    Facts {
+        candidates: textbook.candidates(),
+        round_lengths: textbook.round_lengths(),
+        roll,
+        cut_off,
+    }
+}
+
+/// All comparisons on one file.
+fn compare_file(lot: &mut Random, counts: &mut Counts, file: &[u8], written: Option<&Model>) {
+    let verdict = verdict_of(counts, file, written);
+    let (states, rounds, needed, roll) = match &verdict {
+        Err(_) => (4, 1, 3, Vec::new()),
+        Ok((model, facts)) => (
+            model.states(),
+            facts.candidates.len(),
+            facts.length().map_or(1, |length| length + 1),
+            facts.roll.clone(),
+        ),
+    };
+    for _ in 0..4 {
+        let record = random_record(lot, rounds, needed);
+        let length = work_len(lot, states);
+        compare_step(lot, counts, file, &verdict, record, length);
+    }
+    compare_all_steps(lot, counts, file, &verdict, states);
+    let enough = 65535.min(rounds + lot.below(3)) as u16;
+    for allowance in [enough, 65535, lot.below(rounds + 2) as u16, 0, lot.word()] {
+        let (answer, work) = (answer_len(lot, needed), work_len(lot, states));
+        compare_search(lot, counts, file, &verdict, allowance, answer, work);
+    }
+    compare_roll(lot, counts, file, &verdict, &roll, states);
+    for _ in 0..6 {
+        let earlier = match &verdict {
+            Ok((model, _)) if lot.once_in(3) => walk(lot, model, needed),
+            _ => wrong_list(lot, &roll, states, needed),
+        };
+        let (answer, work) = (answer_len(lot, needed), work_len(lot, states));
+        if may_ask(&verdict, &earlier) {
+            compare_next(lot, counts, file, &verdict, &earlier, answer, work);
+        }
+    }
+}
+
+/// The oracle knows what follows the list.
+fn may_ask(verdict: &Verdict, earlier: &[u16]) -> bool {
+    match verdict {
+        Ok((model, facts)) if facts.cut_off => {
+            !oracle::is_shortest(model, facts, earlier)
+                || facts
+                    .roll
+                    .last()
+                    .is_some_and(|last| earlier < last.as_slice())
+        }
+        _ => true,
+    }
+}
+
+/// Steps from the first record until the answer is "finished".
+fn compare_all_steps(
+    lot: &mut Random,
+    counts: &mut Counts,
+    file: &[u8],
+    verdict: &Verdict,
+    states: usize,
+) {
+    let mut record = Record {
+        done: 0,
+        best: None,
+    };
+    loop {
+        compare_step(lot, counts, file, verdict, record, 6 * states);
+        match oracle::step(verdict, record, 6 * states) {
+            StepAnswer::Advanced(after) => record = after,
+            _ => return,
+        }
+    }
+}
+
+/// Searches, then asks for the next list until there are no more.
+fn compare_roll(
+    lot: &mut Random,
+    counts: &mut Counts,
+    file: &[u8],
+    verdict: &Verdict,
+    roll: &[Vec<u16>],
+    states: usize,
+) {
+    let needed = roll.first().map_or(1, Vec::len);
+    compare_search(lot, counts, file, verdict, 65535, needed, 6 * states);
+    for list in roll {
+        if may_ask(verdict, list) {
+            let answer = answer_len(lot, needed);
+            compare_next(lot, counts, file, verdict, list, answer, 6 * states);
+        }
+    }
+}
+
+/// The kind and figures of an answer, as the C functions give them.
+trait Figures {
+    fn figures(&self) -> (u16, Vec<u16>);
+}
+
+fn record_figures(record: &Record) -> Vec<u16> {
+    match record.best {
+        None => vec![record.done, 0, 0],
+        Some(best) => vec![record.done, 1, best],
+    }
+}
+
+impl Figures for StepAnswer {
+    fn figures(&self) -> (u16, Vec<u16>) {
+        match self {
+            StepAnswer::Refused(number) => (kind::REFUSED, vec![*number]),
+            StepAnswer::Finished(record) => (kind::FINISHED, record_figures(record)),
+            StepAnswer::Advanced(record) => (kind::ADVANCED, record_figures(record)),
+        }
+    }
+}
+
+impl Figures for SearchAnswer {
+    fn figures(&self) -> (u16, Vec<u16>) {
+        match *self {
+            SearchAnswer::Refused(number) => (kind::REFUSED, vec![number]),
+            SearchAnswer::Stopped(record) => (kind::STOPPED, record_figures(&record)),
+            SearchAnswer::Found {
+                length,
+                loop_start,
+                rounds,
+            } => (kind::FOUND, vec![length, loop_start, rounds]),
+            SearchAnswer::Empty { rounds } => (kind::EMPTY, vec![rounds]),
+        }
+    }
+}
+
+impl Figures for NextAnswer {
+    fn figures(&self) -> (u16, Vec<u16>) {
+        match *self {
+            NextAnswer::Refused(number) => (kind::REFUSED, vec![number]),
+            NextAnswer::Found { length, loop_start } => (kind::FOUND, vec![length, loop_start]),
+            NextAnswer::NoMore => (kind::NO_MORE, vec![]),
+        }
+    }
+}
+
+/// The tables of one call before it, and what they must hold after it.
+struct Tables {
+    answer: Vec<u16>,
+    answer_after: Vec<u16>,
+    work: Vec<u16>,
+    work_after: Vec<u16>,
+}
+
+impl Tables {
+    fn new(
+        lot: &mut Random,
+        verdict: &Verdict,
+        answer_len: usize,
+        work_len: usize,
+        list: &[u16],
+    ) -> Tables {
+        let answer = dirty(lot, answer_len);
+        let work = dirty(lot, work_len);
+        Tables {
+            answer_after: oracle::answer_after(&answer, list),
+            work_after: oracle::work_after(verdict, &work),
+            answer,
+            work,
+        }
+    }
+
+    /// Calls a version with copies of the tables, and compares its answer and the tables afterwards.
+    fn agree<T: PartialEq>(
+        &self,
+        expected: &T,
+        call: impl FnOnce(&mut [u16], &mut [u16]) -> T,
+    ) -> bool {
+        let (mut answer, mut work) = (self.answer.clone(), self.work.clone());
+        let got = call(&mut answer, &mut work);
+        got == *expected && answer == self.answer_after && work == self.work_after
+    }
+
+    /// The same for a C function: its kind, and the table of figures, past which nothing changes.
+    fn agree_in_c(
+        &self,
+        lot: &mut Random,
+        counts: &mut Counts,
+        expected: &impl Figures,
+        call: impl FnOnce(&mut [u16], &mut [u16], &mut [u16]) -> u16,
+    ) -> bool {
+        let (mut answer, mut work) = (self.answer.clone(), self.work.clone());
+        let len = if lot.once_in(12) {
+            lot.below(4)
+        } else {
+            lot.between(4, 6)
+        };
+        let mut out = dirty(lot, len);
+        let mut out_after = out.clone();
+        if len < 4 {
+            counts.out_too_short += 1;
+            let got = call(&mut answer, &mut work, &mut out);
+            return got == kind::OUT_TOO_SHORT
+                && (out, answer, work) == (out_after, self.answer.clone(), self.work.clone());
+        }
+        let (expected_kind, figures) = expected.figures();
+        out_after[..figures.len()].copy_from_slice(&figures);
+        let got = call(&mut answer, &mut work, &mut out);
+        got == expected_kind
+            && out == out_after
+            && answer == self.answer_after
+            && work == self.work_after
+    }
+}
+
+/// Counts an answer by its kind and, if it is a refusal, by its reason.
+fn count_kind(counts: &mut Counts, expected: &impl Figures) {
+    let (kind, figures) = expected.figures();
+    counts.kinds[kind as usize] += 1;
+    if kind == kind::REFUSED {
+        counts.reasons[figures[0] as usize] += 1;
+    }
+    if kind == kind::FOUND {
+        counts.lists += 1;
+    }
+}
+
+fn compare_step(
+    lot: &mut Random,
+    counts: &mut Counts,
+    file: &[u8],
+    verdict: &Verdict,
+    so_far: Record,
+    work_len: usize,
+) {
+    counts.steps += 1;
+    let expected = oracle::step(verdict, so_far, work_len);
+    count_kind(counts, &expected);
+    let tables = Tables::new(lot, verdict, 0, work_len, &[]);
+    if !tables.agree_in_c(lot, counts, &expected, |_, work, out| {
+        step_into(file, so_far, work, out)
+    }) {
+        counts.difference(&format!("step {so_far:?}: proved"), file);
+    }
+    if !tables.agree(&expected, |_, work| SAFE.step(file, so_far, work)) {
+        counts.difference(&format!("step {so_far:?}: safe"), file);
+    }
+}
+
+fn compare_search(
+    lot: &mut Random,
+    counts: &mut Counts,
+    file: &[u8],
+    verdict: &Verdict,
+    allowance: u16,
+    answer_len: usize,
+    work_len: usize,
+) {
+    counts.searches += 1;
+    let (expected, list) = oracle::search(verdict, allowance, answer_len, work_len);
+    count_kind(counts, &expected);
+    let tables = Tables::new(lot, verdict, answer_len, work_len, list);
+    if !tables.agree_in_c(lot, counts, &expected, |answer, work, out| {
+        search_into(file, allowance, answer, work, out)
+    }) {
+        counts.difference(&format!("search {allowance}: proved"), file);
+    }
+    if !tables.agree(&expected, |answer, work| {
+        SAFE.search(file, allowance, answer, work)
+    }) {
+        counts.difference(&format!("search {allowance}: safe"), file);
+    }
+}
+
+fn compare_next(
+    lot: &mut Random,
+    counts: &mut Counts,
+    file: &[u8],
+    verdict: &Verdict,
+    earlier: &[u16],
+    answer_len: usize,
+    work_len: usize,
+) {
+    counts.nexts += 1;
+    let (expected, list) = oracle::next(verdict, earlier, answer_len, work_len);
+    count_kind(counts, &expected);
+    let tables = Tables::new(lot, verdict, answer_len, work_len, list);
+    if !tables.agree_in_c(lot, counts, &expected, |answer, work, out| {
+        next_into(file, earlier, answer, work, out)
+    }) {
+        counts.difference(&format!("next {earlier:?}: proved"), file);
+    }
+    if !tables.agree(&expected, |answer, work| {
+        SAFE.next(file, earlier, answer, work)
+    }) {
+        counts.difference(&format!("next {earlier:?}: safe"), file);
+    }
+}

@@ -1,0 +1,214 @@
+//! The proved library, as a Rust program uses it: slices go in, enums come out, and all unsafe code of the use is here.
+//!
+//! Any bytes may be lent as the file and tables of any length as the tables. The working table needs six entries a
+//! state, the answer table one entry more than the path has transitions; with less the call is refused with its number.
+
+/// The functions of the static library, as `include/fahkelo.h` declares them: a slice is a pointer and a length.
+mod c {
+    extern "C" {
+        pub fn fahkelo_step(
+            file: *const u8,
+            file_len: usize,
+            done: u16,
+            has_best: u8,
+            best: u16,
+            work: *mut u16,
+            work_len: usize,
+            out: *mut u16,
+            out_len: usize,
+        ) -> u16;
+        pub fn fahkelo_search(
+            file: *const u8,
+            file_len: usize,
+            allowance: u16,
+            answer: *mut u16,
+            answer_len: usize,
+            work: *mut u16,
+            work_len: usize,
+            out: *mut u16,
+            out_len: usize,
+        ) -> u16;
+        pub fn fahkelo_next(
+            file: *const u8,
+            file_len: usize,
+            earlier: *const u16,
+            earlier_len: usize,
+            answer: *mut u16,
+            answer_len: usize,
+            work: *mut u16,
+            work_len: usize,
+            out: *mut u16,
+            out_len: usize,
+        ) -> u16;
+    }
+}
+
+/// The number of rounds done, and the best length that they found.
+#[derive(Clone, Copy, Debug, PartialEq, Eq)]
+pub struct Record {
+    pub done: u16,
+    pub best: Option<u16>,
+}
+
+/// The answer of a step.
+#[derive(Clone, Copy, Debug, PartialEq, Eq)]
+pub enum StepAnswer {
+    Refused(u16),
+    Finished(Record),
+    Advanced(Record),
+}
+
+/// The answer of a search. On `Found` the list stands in the answer table, in `length + 1` entries.
+#[derive(Clone, Copy, Debug, PartialEq, Eq)]
+pub enum SearchAnswer {
+    Refused(u16),
+    Stopped(Record),
+    Found {
+        length: u16,
+        loop_start: u16,
+        rounds: u16,
+    },
+    Empty {
+        rounds: u16,
+    },
+}
+
+/// The answer of next. On `Found` the list stands in the answer table, in `length + 1` entries.
+#[derive(Clone, Copy, Debug, PartialEq, Eq)]
+pub enum NextAnswer {
+    Refused(u16),
+    Found { length: u16, loop_start: u16 },
+    NoMore,
+}
+
+/// The kinds of answer, the return values of the C functions.
+pub mod kind {
+    pub const REFUSED: u16 = 0;
+    pub const STOPPED: u16 = 1;
+    pub const FOUND: u16 = 2;
+    pub const EMPTY: u16 = 3;
+    pub const NO_MORE: u16 = 4;
+    pub const FINISHED: u16 = 5;
+    pub const ADVANCED: u16 = 6;
+    pub const OUT_TOO_SHORT: u16 = 7;
+}
+
+/// `fahkelo_step` over slices: the kind, with its figures in `out`.
+pub fn step_into(file: &[u8], so_far: Record, work: &mut [u16], out: &mut [u16]) -> u16 {
+    let (has_best, best) = match so_far.best {
+        None => (0, 0),
+        Some(best) => (1, best),
+    };
+    // SAFETY: each pointer and length is that of one slice, valid for the call, and the mutable ones overlap nothing.
+    unsafe {
+        c::fahkelo_step(
+            file.as_ptr(),
+            file.len(),
+            so_far.done,
+            has_best,
+            best,
+            work.as_mut_ptr(),
+            work.len(),
+            out.as_mut_ptr(),
+            out.len(),
+        )
+    }
+}
+
+/// `fahkelo_search` over slices: the kind, with its figures in `out`.
+pub fn search_into(
+    file: &[u8],
+    allowance: u16,
+    answer: &mut [u16],
+    work: &mut [u16],
+    out: &mut [u16],
+) -> u16 {
+    // SAFETY: as in `step_into`.
+    unsafe {
+        c::fahkelo_search(
+            file.as_ptr(),
+            file.len(),
+            allowance,
+            answer.as_mut_ptr(),
+            answer.len(),
+            work.as_mut_ptr(),
+            work.len(),
+            out.as_mut_ptr(),
+            out.len(),
+        )
+    }
+}
+
+/// `fahkelo_next` over slices: the kind, with its figures in `out`.
+pub fn next_into(
+    file: &[u8],
+    earlier: &[u16],
+    answer: &mut [u16],
+    work: &mut [u16],
+    out: &mut [u16],
+) -> u16 {
+    // SAFETY: as in `step_into`.
+    unsafe {
+        c::fahkelo_next(
+            file.as_ptr(),
+            file.len(),
+            earlier.as_ptr(),
+            earlier.len(),
+            answer.as_mut_ptr(),
+            answer.len(),
+            work.as_mut_ptr(),
+            work.len(),
+            out.as_mut_ptr(),
+            out.len(),
+        )
+    }
+}
+
+/// The record that three figures stand for.
+fn record_of(figures: &[u16; 4]) -> Record {
+    Record {
+        done: figures[0],
+        best: (figures[1] != 0).then_some(figures[2]),
+    }
+}
+
+/// The record after one more round; any record may be given.
+pub fn step(file: &[u8], so_far: Record, work: &mut [u16]) -> StepAnswer {
+    let mut out = [0; 4];
+    match step_into(file, so_far, work, &mut out) {
+        kind::REFUSED => StepAnswer::Refused(out[0]),
+        kind::FINISHED => StepAnswer::Finished(record_of(&out)),
+        kind::ADVANCED => StepAnswer::Advanced(record_of(&out)),
+        other => unreachable!("a step has no answer of kind {other}"),
+    }
+}
+
+/// The first of the shortest accepting paths, after at most `allowance` rounds.
+pub fn search(file: &[u8], allowance: u16, answer: &mut [u16], work: &mut [u16]) -> SearchAnswer {
+    let mut out = [0; 4];
+    match search_into(file, allowance, answer, work, &mut out) {
+        kind::REFUSED => SearchAnswer::Refused(out[0]),
+        kind::STOPPED => SearchAnswer::Stopped(record_of(&out)),
+        kind::FOUND => SearchAnswer::Found {
+            length: out[0],
+            loop_start: out[1],
+            rounds: out[2],
+        },
+        kind::EMPTY => SearchAnswer::Empty { rounds: out[0] },
+        other => unreachable!("a search has no answer of kind {other}"),
+    }
+}
+
+/// The shortest accepting path that follows an earlier one, in dictionary order.
+pub fn next(file: &[u8], earlier: &[u16], answer: &mut [u16], work: &mut [u16]) -> NextAnswer {
+    let mut out = [0; 4];
+    match next_into(file, earlier, answer, work, &mut out) {
+        kind::REFUSED => NextAnswer::Refused(out[0]),
+        kind::FOUND => NextAnswer::Found {
+            length: out[0],
+            loop_start: out[1],
+        },
+        kind::NO_MORE => NextAnswer::NoMore,
+        other => unreachable!("next has no answer of kind {other}"),
+    }
+}

@@ -1,0 +1,315 @@
+//! The measurement: each family at each size through every version in one run, and the tables of the results.
+
+use std::fs::File;
+use std::path::{Path, PathBuf};
+use std::process::Command;
+use std::time::{Duration, Instant};
+
+use crate::clock::{children_time, process_time};
+use crate::fahkelo::SearchAnswer;
+use crate::families::{Family, FAMILIES};
+use crate::model::Model;
+use crate::ported::access::{Counting, Work};
+use crate::ported::finder;
+use crate::reference::{accepting, read};
+use crate::textbook::Textbook;
+use crate::versions::{Finder, Proved, SAFE, UNCHECKED};
+
+pub const SIZES: [usize; 3] = [256, 1024, 4096];
+const ANSWER_ENTRIES: usize = 4097;
+
+/// The lists of a sheet.
+const MOST_LISTS: usize = 20;
+
+/// A batch has so many calls that it takes about this long, and at least one.
+const BATCH: Duration = Duration::from_millis(5);
+
+/// The least time of a version is taken over batches that take about this long together, and at least `BATCHES`.
+const ALL_BATCHES: Duration = Duration::from_millis(800);
+const BATCHES: u32 = 8;
+
+/// One search by one version, with fresh tables.
+#[inline(never)]
+pub fn search_once(version: &dyn Finder, file: &[u8], states: usize) -> (SearchAnswer, Vec<u16>) {
+    let mut answer = vec![0; ANSWER_ENTRIES];
+    let mut work = vec![0; 6 * states];
+    let result = version.search(file, 65535, &mut answer, &mut work);
+    (result, answer)
+}
+
+/// One search by the textbook version, from the file's bytes to the first list.
+#[inline(never)]
+pub fn textbook_once(file: &[u8]) -> Option<Vec<u16>> {
+    let model = read(file).expect("the families are valid files");
+    let textbook = Textbook::new(&model);
+    textbook.solve().map(|lister| lister.list().to_vec())
+}
+
+/// The processor time of one call, from a batch of them.
+fn batch_time(calls: u32, mut call: impl FnMut()) -> Duration {
+    let start = process_time();
+    for _ in 0..calls {
+        call();
+    }
+    (process_time() - start) / calls
+}
+
+/// The results of one family at one size.
+struct Row {
+    name: &'static str,
+    states: usize,
+    edges: usize,
+    rounds: u16,
+    length: Option<(u16, u16)>,
+    times: [Duration; 4],
+    sheet: Option<(Duration, Duration)>,
+    spreads: u64,
+}
+
+/// Measures the versions in turn, so that what disturbs one disturbs all, and keeps the least time of each.
+fn times(file: &[u8], states: usize) -> [Duration; 4] {
+    let versions: [&dyn Finder; 3] = [&Proved, &SAFE, &UNCHECKED];
+    let once = batch_time(1, || drop(search_once(&Proved, file, states)));
+    let calls = (BATCH.as_nanos() / once.as_nanos().max(1)).clamp(1, 10_000) as u32;
+    let batches = ALL_BATCHES.as_nanos() / (once * calls).as_nanos().max(1);
+    let mut least = [Duration::MAX; 4];
+    for _ in 0..batches.max(BATCHES.into()) {
+        for (version, least) in versions.iter().zip(&mut least) {
+            let time = batch_time(calls, || drop(search_once(*version, file, states)));
+            *least = time.min(*least);
+        }
+        let time = batch_time(calls, || drop(textbook_once(file)));
+        least[3] = time.min(least[3]);
+    }
+    least
+}
+
+/// All versions must give the same first list.
+fn agreed_answer(file: &[u8], states: usize) -> SearchAnswer {
+    let (proved, list) = search_once(&Proved, file, states);
+    for version in [&SAFE as &dyn Finder, &UNCHECKED] {
+        let other = search_once(version, file, states);
+        assert!(
+            other == (proved, list.clone()),
+            "the {} version differs",
+            version.name()
+        );
+    }
+    let textbook = textbook_once(file);
+    let found = match proved {
+        SearchAnswer::Found { length, .. } => Some(list[..=length as usize].to_vec()),
+        _ => None,
+    };
+    assert!(textbook == found, "the textbook version differs");
+    proved
+}
+
+/// The sheet of a file, by the textbook version.
+fn sheet_text(file: &[u8]) -> String {
+    let model = read(file).expect("the families are valid files");
+    let textbook = Textbook::new(&model);
+    let rounds = textbook.candidates().len();
+    let head = format!(
+        "model {} {}\nrounds {rounds}\n",
+        model.states(),
+        model.edges()
+    );
+    let Some(mut lister) = textbook.solve() else {
+        return head + "none\n";
+    };
+    let mut text = format!("{head}shortest {}\n", lister.list().len() - 1);
+    for count in 1.. {
+        let list = lister.list();
+        let k = accepting(&model, list).expect("the lister gives accepting paths");
+        let words = |part: &[u16]| part.iter().map(u16::to_string).collect::<Vec<_>>();
+        let line = [
+            words(&list[..k]),
+            vec!["|".into()],
+            words(&list[k..list.len() - 1]),
+        ];
+        text += &(line.concat().join(" ") + "\n");
+        let more = lister.advance();
+        if !more || count == MOST_LISTS {
+            text += &format!("{} {count}\n", if more { "more" } else { "end" });
+            break;
+        }
+    }
+    text
+}
+
+/// The time of day and the processor time of the desk sheet program on a file, the least of three runs; nothing if the
+/// program is not there. It must print the sheet of the textbook version.
+fn sheet_time(program: &Path, file: &Path) -> Option<(Duration, Duration)> {
+    let expected = sheet_text(&std::fs::read(file).expect("the file was written"));
+    let mut least: Option<(Duration, Duration)> = None;
+    for _ in 0..3 {
+        let input = File::open(file).ok()?;
+        let (start, start_cpu) = (Instant::now(), children_time());
+        let output = Command::new(program).stdin(input).output().ok()?;
+        let (wall, cpu) = (start.elapsed(), children_time() - start_cpu);
+        assert!(
+            output.status.success() && output.stdout == expected.as_bytes(),
+            "the sheet of {} differs",
+            file.display()
+        );
+        least = Some(least.map_or((wall, cpu), |(w, c)| (wall.min(w), cpu.min(c))));
+    }
+    least
+}
+
+fn measure(family: &Family, states: usize, folder: &Path, program: &Path) -> Row {
+    let model = (family.make)(states);
+    let file = model.to_bytes();
+    let path = write_file(folder, family.name, &model);
+    let (length, rounds) = match agreed_answer(&file, states) {
+        SearchAnswer::Found {
+            length,
+            loop_start,
+            rounds,
+        } => (Some((length, loop_start)), rounds),
+        SearchAnswer::Empty { rounds } => (None, rounds),
+        other => panic!("{}: {other:?}", family.name),
+    };
+    Row {
+        name: family.name,
+        states,
+        edges: model.edges(),
+        rounds,
+        length,
+        times: times(&file, states),
+        sheet: sheet_time(program, &path),
+        spreads: count_work(&file, states).spreads.iter().sum(),
+    }
+}
+
+/// The desk sheet program of the repository.
+fn desk_sheet() -> PathBuf {
+    Path::new(env!("CARGO_MANIFEST_DIR")).join("../target/bin/desk_sheet")
+}
+
+/// Writes a member of a family to a folder; its path.
+fn write_file(folder: &Path, name: &str, model: &Model) -> PathBuf {
+    let path = folder.join(format!("{name}-{}", model.states()));
+    std::fs::write(&path, model.to_bytes()).expect("the folder can be written");
+    path
+}
+
+/// Writes all members of all families to a folder.
+pub fn write_all(folder: &Path) {
+    std::fs::create_dir_all(folder).expect("the folder can be made");
+    for family in FAMILIES {
+        for states in SIZES {
+            write_file(folder, family.name, &(family.make)(states));
+        }
+    }
+}
+
+fn millis(time: Duration) -> f64 {
+    time.as_secs_f64() * 1000.0
+}
+
+fn ratio(a: Duration, b: Duration) -> f64 {
+    a.as_secs_f64() / b.as_secs_f64()
+}
+
+/// Measures the families whose names hold a word, and prints the tables.
+pub fn run(word: &str) {
+    let folder = std::env::temp_dir().join(format!("fahkelo-bench-{}", std::process::id()));
+    std::fs::create_dir_all(&folder).expect("a temporary folder can be made");
+    let program = desk_sheet();
+    let mut rows = Vec::new();
+    println!("search, milliseconds of processor time; sheet, milliseconds of the whole program\n");
+    println!("| family | N | M | rounds | L k | proved | safe | unchecked | textbook | proved/safe | proved/unchecked | proved/textbook | sheet | its cpu |");
+    println!("|---|---|---|---|---|---|---|---|---|---|---|---|---|---|");
+    for family in FAMILIES.iter().filter(|family| family.name.contains(word)) {
+        for states in SIZES {
+            let row = measure(family, states, &folder, &program);
+            print_row(&row);
+            rows.push(row);
+        }
+    }
+    print_growth(&rows);
+    std::fs::remove_dir_all(&folder).expect("the temporary folder can be removed");
+}
+
+fn print_row(row: &Row) {
+    let [proved, safe, unchecked, textbook] = row.times;
+    let figures = match row.length {
+        None => "none".to_string(),
+        Some((length, k)) => format!("{length} {k}"),
+    };
+    let sheet = match row.sheet {
+        None => "– | –".to_string(),
+        Some((wall, cpu)) => format!("{:.0} | {:.0}", millis(wall), millis(cpu)),
+    };
+    println!(
+        "| {} | {} | {} | {} | {figures} | {:.3} | {:.3} | {:.3} | {:.3} | {:.2} | {:.2} | {:.2} | {sheet} |",
+        row.name,
+        row.states,
+        row.edges,
+        row.rounds,
+        millis(proved),
+        millis(safe),
+        millis(unchecked),
+        millis(textbook),
+        ratio(proved, safe),
+        ratio(proved, unchecked),
+        ratio(proved, textbook)
+    );
+}
+
+/// The growth from size to size: times, their quotients, and those of two measures of the work.
+fn print_growth(rows: &[Row]) {
+    println!("\ngrowth of the proved search, in milliseconds; beside each quotient of times that of rounds × (N + M),");
+    println!(
+        "and that of spreads × (N + M), the searches over the model that the algorithm does\n"
+    );
+    println!("| family | 256 | 1024 | 4096 | 1024 / 256 | rounds | spreads | 4096 / 1024 | rounds | spreads |");
+    println!("|---|---|---|---|---|---|---|---|---|---|");
+    for three in rows.chunks(SIZES.len()) {
+        let time = |i: usize| millis(three[i].times[0]);
+        let size = |i: usize| (three[i].states + three[i].edges) as f64;
+        let rounds = |i: usize| f64::from(three[i].rounds.max(1)) * size(i);
+        let spreads = |i: usize| three[i].spreads as f64 * size(i);
+        let quotients = |i: usize| {
+            format!(
+                "{:.1} | {:.1} | {:.1}",
+                time(i) / time(i - 1),
+                rounds(i) / rounds(i - 1),
+                spreads(i) / spreads(i - 1)
+            )
+        };
+        println!(
+            "| {} | {:.3} | {:.3} | {:.3} | {} | {} |",
+            three[0].name,
+            time(0),
+            time(1),
+            time(2),
+            quotients(1),
+            quotients(2)
+        );
+    }
+}
+
+/// The work of a search on a file.
+fn count_work(file: &[u8], states: usize) -> Work {
+    let mut answer = vec![0; ANSWER_ENTRIES];
+    let mut work = vec![0; 6 * states];
+    Counting::take();
+    finder::search::<Counting>(file, 65535, &mut answer, &mut work);
+    Counting::take()
+}
+
+/// Prints the work of a search on each family at one size: spreads done and edges looked at, by phase.
+pub fn print_counts(states: usize) {
+    println!("| family | spreads: rounds | prepare | list | edges: rounds | prepare | list |");
+    println!("|---|---|---|---|---|---|---|");
+    for family in FAMILIES {
+        let file = (family.make)(states).to_bytes();
+        let Work { spreads, edges } = count_work(&file, states);
+        println!(
+            "| {} | {} | {} | {} | {} | {} | {} |",
+            family.name, spreads[0], spreads[1], spreads[2], edges[0], edges[1], edges[2]
+        );
+    }
+}

@@ -1,0 +1,71 @@
+//! A model in memory, and the file that holds it.
+
+/// A model: its initial state, the successors of each state, the marks.
+#[derive(Clone, Debug, PartialEq, Eq)]
+pub struct Model {
+    pub start: u16,
+    pub succs: Vec<Vec<u16>>,
+    pub marks: Vec<bool>,
+}
+
+impl Model {
+    /// A model with no edge and no mark.
+    pub fn new(states: usize) -> Model {
+        Model {
+            start: 0,
+            succs: vec![Vec::new(); states],
+            marks: vec![false; states],
+        }
+    }
+
+    pub fn states(&self) -> usize {
+        self.succs.len()
+    }
+
+    pub fn edges(&self) -> usize {
+        self.succs.iter().map(Vec::len).sum()
+    }
+
+    /// There is an edge from s to t.
+    pub fn has_edge(&self, s: u16, t: u16) -> bool {
+        self.succs[s as usize].binary_search(&t).is_ok()
+    }
+
+    /// Adds an edge, unless it is there; the successors stay in ascending order.
+    pub fn edge(&mut self, from: usize, to: usize) {
+        let row = &mut self.succs[from];
+        if let Err(at) = row.binary_search(&(to as u16)) {
+            row.insert(at, to as u16);
+        }
+    }
+
+    /// The model file.
+    pub fn to_bytes(&self) -> Vec<u8> {
+        let n = self.states();
+        let m = self.edges();
+        let edge_table = 24 + 2 * (n + 1);
+        let mark_table = edge_table + 2 * m;
+        let total = mark_table + n.div_ceil(8);
+        let mut file = Vec::with_capacity(total);
+        for number in [n as u16, m as u16, self.start, 0] {
+            file.extend(number.to_le_bytes());
+        }
+        for number in [24, edge_table, mark_table, total] {
+            file.extend((number as u32).to_le_bytes());
+        }
+        let mut place = 0u16;
+        file.extend(place.to_le_bytes());
+        for row in &self.succs {
+            place += row.len() as u16;
+            file.extend(place.to_le_bytes());
+        }
+        for target in self.succs.iter().flatten() {
+            file.extend(target.to_le_bytes());
+        }
+        for eight in self.marks.chunks(8) {
+            let bits = eight.iter().enumerate();
+            file.push(bits.map(|(i, &marked)| (marked as u8) << i).sum());
+        }
+        file
+    }
+}

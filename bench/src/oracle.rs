@@ -1,0 +1,149 @@
+//! What each call must answer and leave in its tables, from the facts of a file: the reasons to refuse in order, the
+//! round record, the roll.
+
+use crate::fahkelo::{NextAnswer, Record, SearchAnswer, StepAnswer};
+use crate::model::Model;
+use crate::reference::{accepting, Facts};
+
+/// A file's verdict: the number of the rule it breaks, or its model and facts.
+pub type Verdict = Result<(Model, Facts), u16>;
+
+/// The lesser of two lengths, none counting as more than every length.
+fn lesser(a: Option<u16>, b: Option<u16>) -> Option<u16> {
+    a.into_iter().chain(b).min()
+}
+
+/// The record after one more round, if a candidate is left.
+fn after_round(facts: &Facts, so_far: Record) -> Option<Record> {
+    let length = facts.round_lengths.get(so_far.done as usize)?;
+    Some(Record {
+        done: so_far.done + 1,
+        best: lesser(so_far.best, *length),
+    })
+}
+
+/// Reason 12, or the reasons 1 to 11 of the file.
+fn admitted(verdict: &Verdict, work_len: usize) -> Result<&(Model, Facts), u16> {
+    let admitted = verdict.as_ref().map_err(|&number| number)?;
+    if work_len < 6 * admitted.0.states() {
+        return Err(12);
+    }
+    Ok(admitted)
+}
+
+pub fn step(verdict: &Verdict, so_far: Record, work_len: usize) -> StepAnswer {
+    match admitted(verdict, work_len) {
+        Err(number) => StepAnswer::Refused(number),
+        Ok((_, facts)) => match after_round(facts, so_far) {
+            None => StepAnswer::Finished(so_far),
+            Some(after) => StepAnswer::Advanced(after),
+        },
+    }
+}
+
+/// The reasons 14 and 15 against writing a list.
+fn written(list: &[u16], answer_len: usize) -> Result<&[u16], u16> {
+    if list.len() - 1 > 4096 {
+        return Err(14);
+    }
+    if answer_len < list.len() {
+        return Err(15);
+    }
+    Ok(list)
+}
+
+fn loop_start(model: &Model, list: &[u16]) -> u16 {
+    accepting(model, list).expect("the roll holds accepting paths") as u16
+}
+
+/// The answer of a search, and the list that it writes.
+pub fn search(
+    verdict: &Verdict,
+    allowance: u16,
+    answer_len: usize,
+    work_len: usize,
+) -> (SearchAnswer, &[u16]) {
+    let (model, facts) = match admitted(verdict, work_len) {
+        Err(number) => return (SearchAnswer::Refused(number), &[]),
+        Ok(admitted) => admitted,
+    };
+    let rounds = facts.candidates.len();
+    if (allowance as usize) < rounds {
+        let mut record = Record {
+            done: 0,
+            best: None,
+        };
+        for _ in 0..allowance {
+            record = after_round(facts, record).expect("the allowance is below the rounds");
+        }
+        return (SearchAnswer::Stopped(record), &[]);
+    }
+    let rounds = rounds as u16;
+    match facts.roll.first() {
+        None => (SearchAnswer::Empty { rounds }, &[]),
+        Some(first) => match written(first, answer_len) {
+            Err(number) => (SearchAnswer::Refused(number), &[]),
+            Ok(list) => (
+                SearchAnswer::Found {
+                    length: (list.len() - 1) as u16,
+                    loop_start: loop_start(model, list),
+                    rounds,
+                },
+                list,
+            ),
+        },
+    }
+}
+
+/// The answer of next, and the list that it writes. An earlier list of a roll that is cut off must not be its last.
+pub fn next<'a>(
+    verdict: &'a Verdict,
+    earlier: &[u16],
+    answer_len: usize,
+    work_len: usize,
+) -> (NextAnswer, &'a [u16]) {
+    let (model, facts) = match admitted(verdict, work_len) {
+        Err(number) => return (NextAnswer::Refused(number), &[]),
+        Ok(admitted) => admitted,
+    };
+    if !is_shortest(model, facts, earlier) {
+        return (NextAnswer::Refused(13), &[]);
+    }
+    let follower = facts.roll.iter().find(|list| earlier < list.as_slice());
+    match follower {
+        None => {
+            assert!(!facts.cut_off, "the roll is known behind the earlier list");
+            (NextAnswer::NoMore, &[])
+        }
+        Some(list) => match written(list, answer_len) {
+            Err(number) => (NextAnswer::Refused(number), &[]),
+            Ok(list) => (
+                NextAnswer::Found {
+                    length: (list.len() - 1) as u16,
+                    loop_start: loop_start(model, list),
+                },
+                list,
+            ),
+        },
+    }
+}
+
+/// The list is an accepting path of least length.
+pub fn is_shortest(model: &Model, facts: &Facts, list: &[u16]) -> bool {
+    accepting(model, list).is_some() && Some(list.len() - 1) == facts.length()
+}
+
+/// The working table afterwards: untouched after the refusals 1 to 12, otherwise all zero.
+pub fn work_after(verdict: &Verdict, before: &[u16]) -> Vec<u16> {
+    match admitted(verdict, before.len()) {
+        Err(_) => before.to_vec(),
+        Ok(_) => vec![0; before.len()],
+    }
+}
+
+/// The answer table afterwards: a list written to its front, the rest unchanged.
+pub fn answer_after(before: &[u16], list: &[u16]) -> Vec<u16> {
+    let mut after = before.to_vec();
+    after[..list.len()].copy_from_slice(list);
+    after
+}

@@ -1,0 +1,149 @@
+//! How the ported algorithm reaches an entry: with bounds checks, without them, or with them and counting its work.
+
+use std::cell::Cell;
+
+/// The phases of a call, by which work is counted.
+#[derive(Clone, Copy, Debug, PartialEq, Eq)]
+pub enum Phase {
+    Rounds,
+    Prepare,
+    List,
+}
+
+/// A way of access to tables and files.
+pub trait Access {
+    fn get<T: Copy>(table: &[T], at: usize) -> T;
+    fn put<T>(table: &mut [T], at: usize, value: T);
+    fn part<T>(table: &[T], from: usize, to: usize) -> &[T];
+    fn part_mut<T>(table: &mut [T], from: usize, to: usize) -> &mut [T];
+
+    /// A phase begins.
+    #[inline(always)]
+    fn phase(_: Phase) {}
+
+    /// A spread is done.
+    #[inline(always)]
+    fn spread() {}
+
+    /// An edge is looked at by a spread.
+    #[inline(always)]
+    fn edge() {}
+}
+
+/// With bounds checks.
+pub struct Checked;
+
+impl Access for Checked {
+    #[inline(always)]
+    fn get<T: Copy>(table: &[T], at: usize) -> T {
+        table[at]
+    }
+
+    #[inline(always)]
+    fn put<T>(table: &mut [T], at: usize, value: T) {
+        table[at] = value;
+    }
+
+    #[inline(always)]
+    fn part<T>(table: &[T], from: usize, to: usize) -> &[T] {
+        &table[from..to]
+    }
+
+    #[inline(always)]
+    fn part_mut<T>(table: &mut [T], from: usize, to: usize) -> &mut [T] {
+        &mut table[from..to]
+    }
+}
+
+/// Without bounds checks. It is for the ported algorithm only, whose places are within the tables: the proofs show it of
+/// the same text, and the differential run compares the version with checks on the same calls.
+pub struct Unchecked;
+
+impl Access for Unchecked {
+    #[inline(always)]
+    fn get<T: Copy>(table: &[T], at: usize) -> T {
+        debug_assert!(at < table.len());
+        // SAFETY: the algorithm reads within the table.
+        unsafe { *table.get_unchecked(at) }
+    }
+
+    #[inline(always)]
+    fn put<T>(table: &mut [T], at: usize, value: T) {
+        debug_assert!(at < table.len());
+        // SAFETY: the algorithm writes within the table.
+        unsafe { *table.get_unchecked_mut(at) = value }
+    }
+
+    #[inline(always)]
+    fn part<T>(table: &[T], from: usize, to: usize) -> &[T] {
+        debug_assert!(from <= to && to <= table.len());
+        // SAFETY: the ends are in order and within the table.
+        unsafe { table.get_unchecked(from..to) }
+    }
+
+    #[inline(always)]
+    fn part_mut<T>(table: &mut [T], from: usize, to: usize) -> &mut [T] {
+        debug_assert!(from <= to && to <= table.len());
+        // SAFETY: the ends are in order and within the table.
+        unsafe { table.get_unchecked_mut(from..to) }
+    }
+}
+
+/// The work of one call, for each phase: spreads done, and edges looked at by them.
+#[derive(Clone, Copy, Debug, Default, PartialEq, Eq)]
+pub struct Work {
+    pub spreads: [u64; 3],
+    pub edges: [u64; 3],
+}
+
+thread_local! {
+    static PHASE: Cell<usize> = const { Cell::new(0) };
+    static WORK: Cell<Work> = const { Cell::new(Work { spreads: [0; 3], edges: [0; 3] }) };
+}
+
+/// With bounds checks, counting.
+pub struct Counting;
+
+impl Counting {
+    /// What was counted since the last call of this function.
+    pub fn take() -> Work {
+        PHASE.set(0);
+        WORK.take()
+    }
+
+    fn add(change: impl FnOnce(&mut Work, usize)) {
+        let mut work = WORK.get();
+        change(&mut work, PHASE.get());
+        WORK.set(work);
+    }
+}
+
+impl Access for Counting {
+    fn get<T: Copy>(table: &[T], at: usize) -> T {
+        table[at]
+    }
+
+    fn put<T>(table: &mut [T], at: usize, value: T) {
+        table[at] = value;
+    }
+
+    fn part<T>(table: &[T], from: usize, to: usize) -> &[T] {
+        &table[from..to]
+    }
+
+    fn part_mut<T>(table: &mut [T], from: usize, to: usize) -> &mut [T] {
+        &mut table[from..to]
+    }
+
+    fn phase(phase: Phase) {
+        PHASE.set(phase as usize);
+    }
+
+    fn spread() {
+        Self::add(|work, phase| work.spreads[phase] += 1);
+    }
+
+    fn edge() {
+        Self::add(|work, phase| work.edges[phase] += 1);
+    }
+}

@@ -1,0 +1,203 @@
+//! The three operations, with every refusal in order.
+
+use super::access::{Access, Phase};
+use super::model::{check, degree, is_marked, row_part, successor, Header};
+use super::places::{advance, first, write_list};
+use super::rounds::{after_round, candidate_at, count_candidates, run_rounds, start_distances};
+use super::spread::{get, put};
+use super::starts::prepare;
+use crate::fahkelo::{NextAnswer, Record, SearchAnswer, StepAnswer};
+
+/// The record after one more round.
+pub fn step<A: Access>(file: &[u8], so_far: Record, work: &mut [u16]) -> StepAnswer {
+    let h = match check::<A>(file) {
+        Err(number) => return StepAnswer::Refused(number),
+        Ok(h) => h,
+    };
+    if work.len() < 6 * h.states {
+        return StepAnswer::Refused(12);
+    }
+    let answer = step_model::<A>(file, h, so_far, work);
+    work.fill(0);
+    answer
+}
+
+fn step_model<A: Access>(file: &[u8], h: Header, so_far: Record, work: &mut [u16]) -> StepAnswer {
+    start_distances::<A>(file, h, work);
+    let place = so_far.done as usize;
+    if count_candidates::<A>(file, h, work) <= place {
+        return StepAnswer::Finished(so_far);
+    }
+    let r = candidate_at::<A>(file, h, work, place);
+    StepAnswer::Advanced(after_round::<A>(file, h, work, r, so_far))
+}
+
+/// The first of the shortest accepting paths, written to the answer table.
+pub fn search<A: Access>(
+    file: &[u8],
+    allowance: u16,
+    answer: &mut [u16],
+    work: &mut [u16],
+) -> SearchAnswer {
+    let h = match check::<A>(file) {
+        Err(number) => return SearchAnswer::Refused(number),
+        Ok(h) => h,
+    };
+    if work.len() < 6 * h.states {
+        return SearchAnswer::Refused(12);
+    }
+    let result = search_model::<A>(file, h, allowance, answer, work);
+    work.fill(0);
+    result
+}
+
+fn search_model<A: Access>(
+    file: &[u8],
+    h: Header,
+    allowance: u16,
+    answer: &mut [u16],
+    work: &mut [u16],
+) -> SearchAnswer {
+    A::phase(Phase::Rounds);
+    start_distances::<A>(file, h, work);
+    let count = count_candidates::<A>(file, h, work);
+    let record = run_rounds::<A>(file, h, work, allowance as usize);
+    if (allowance as usize) < count {
+        return SearchAnswer::Stopped(record);
+    }
+    match record.best {
+        None => SearchAnswer::Empty {
+            rounds: record.done,
+        },
+        Some(length) => first_list::<A>(file, h, length, record.done, answer, work),
+    }
+}
+
+fn first_list<A: Access>(
+    file: &[u8],
+    h: Header,
+    length: u16,
+    rounds: u16,
+    answer: &mut [u16],
+    work: &mut [u16],
+) -> SearchAnswer {
+    if 4096 < length {
+        return SearchAnswer::Refused(14);
+    }
+    let l = length as usize;
+    if answer.len() < l + 1 {
+        return SearchAnswer::Refused(15);
+    }
+    A::phase(Phase::Prepare);
+    prepare::<A>(file, h, work, l);
+    A::phase(Phase::List);
+    first::<A>(file, h, work, l);
+    let k = write_list::<A>(h, work, l, answer);
+    SearchAnswer::Found {
+        length,
+        loop_start: k as u16,
+        rounds,
+    }
+}
+
+/// The shortest accepting path that follows an earlier one, written to the answer table.
+pub fn next<A: Access>(
+    file: &[u8],
+    earlier: &[u16],
+    answer: &mut [u16],
+    work: &mut [u16],
+) -> NextAnswer {
+    let h = match check::<A>(file) {
+        Err(number) => return NextAnswer::Refused(number),
+        Ok(h) => h,
+    };
+    if work.len() < 6 * h.states {
+        return NextAnswer::Refused(12);
+    }
+    let result = next_of_model::<A>(file, h, earlier, answer, work);
+    work.fill(0);
+    result
+}
+
+fn next_of_model<A: Access>(
+    file: &[u8],
+    h: Header,
+    earlier: &[u16],
+    answer: &mut [u16],
+    work: &mut [u16],
+) -> NextAnswer {
+    A::phase(Phase::Rounds);
+    start_distances::<A>(file, h, work);
+    match run_rounds::<A>(file, h, work, h.states).best {
+        None => NextAnswer::Refused(13),
+        Some(length) => next_list::<A>(file, h, length, earlier, answer, work),
+    }
+}
+
+fn next_list<A: Access>(
+    file: &[u8],
+    h: Header,
+    length: u16,
+    earlier: &[u16],
+    answer: &mut [u16],
+    work: &mut [u16],
+) -> NextAnswer {
+    let l = length as usize;
+    if !is_lasso::<A>(file, h, earlier, l) {
+        return NextAnswer::Refused(13);
+    }
+    if 4096 < length {
+        return NextAnswer::Refused(14);
+    }
+    A::phase(Phase::Prepare);
+    prepare::<A>(file, h, work, l);
+    A::phase(Phase::List);
+    load::<A>(earlier, work);
+    if !advance::<A>(file, h, work, l) {
+        return NextAnswer::NoMore;
+    }
+    if answer.len() < l + 1 {
+        return NextAnswer::Refused(15);
+    }
+    let k = write_list::<A>(h, work, l, answer);
+    NextAnswer::Found {
+        length,
+        loop_start: k as u16,
+    }
+}
+
+fn load<A: Access>(list: &[u16], work: &mut [u16]) {
+    for j in 1..list.len() {
+        put::<A>(work, j - 1, get::<A>(list, j));
+    }
+}
+
+fn is_lasso<A: Access>(file: &[u8], h: Header, list: &[u16], transitions: usize) -> bool {
+    list.len() == transitions + 1 && is_path::<A>(file, h, list) && closes::<A>(file, h, list)
+}
+
+fn has_edge<A: Access>(file: &[u8], h: Header, s: usize, t: usize) -> bool {
+    let part = row_part::<A>(file, h, s);
+    (0..degree(part)).any(|k| successor::<A>(part, k) == t)
+}
+
+fn is_path<A: Access>(file: &[u8], h: Header, list: &[u16]) -> bool {
+    get::<A>(list, 0) == h.start
+        && (1..list.len()).all(|j| has_edge::<A>(file, h, get::<A>(list, j - 1), get::<A>(list, j)))
+}
+
+fn closes<A: Access>(file: &[u8], h: Header, list: &[u16]) -> bool {
+    let end = list.len() - 1;
+    let last = get::<A>(list, end);
+    let mut marked = false;
+    for k in (0..end).rev() {
+        let s = get::<A>(list, k);
+        if is_marked::<A>(file, h, s) {
+            marked = true;
+        }
+        if marked && s == last {
+            return true;
+        }
+    }
+    false
+}

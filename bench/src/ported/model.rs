@@ -1,0 +1,153 @@
+//! The model file: its check by the rules 1 to 11, and the leaves that read it.
+
+use super::access::Access;
+
+/// The fields of an accepted file.
+#[derive(Clone, Copy)]
+pub struct Header {
+    pub states: usize,
+    pub edges: usize,
+    pub start: usize,
+}
+
+fn word<A: Access>(file: &[u8], at: usize) -> usize {
+    A::get(file, at) as usize + 256 * A::get(file, at + 1) as usize
+}
+
+fn entry<A: Access>(file: &[u8], table: usize, k: usize) -> usize {
+    word::<A>(file, table + 2 * k)
+}
+
+fn long<A: Access>(file: &[u8], at: usize) -> usize {
+    word::<A>(file, at) + 65536 * word::<A>(file, at + 2)
+}
+
+fn bit<A: Access>(file: &[u8], at: usize, s: usize) -> bool {
+    (A::get(file, at + s / 8) >> (s % 8)) % 2 == 1
+}
+
+/// The header, or the number of the first broken rule.
+pub fn check<A: Access>(file: &[u8]) -> Result<Header, u16> {
+    if file.len() < 24 {
+        return Err(1);
+    }
+    let states = word::<A>(file, 0);
+    let edges = word::<A>(file, 2);
+    let start = word::<A>(file, 4);
+    if states == 0 || 4096 < states {
+        return Err(2);
+    }
+    if 8192 < edges {
+        return Err(3);
+    }
+    if states <= start {
+        return Err(4);
+    }
+    if word::<A>(file, 6) != 0 {
+        return Err(5);
+    }
+    check_tables::<A>(
+        file,
+        Header {
+            states,
+            edges,
+            start,
+        },
+    )
+}
+
+fn check_tables<A: Access>(file: &[u8], h: Header) -> Result<Header, u16> {
+    let n = h.states;
+    let m = h.edges;
+    if offsets_broken::<A>(file, n, m) {
+        return Err(6);
+    }
+    if file.len() != long::<A>(file, 20) {
+        return Err(7);
+    }
+    if rows_broken::<A>(file, n, m) {
+        return Err(8);
+    }
+    if targets_broken::<A>(file, n, m) {
+        return Err(9);
+    }
+    if order_broken::<A>(file, n) {
+        return Err(10);
+    }
+    if spare_set::<A>(file, n, m) {
+        return Err(11);
+    }
+    Ok(h)
+}
+
+fn offsets_broken<A: Access>(file: &[u8], n: usize, m: usize) -> bool {
+    let edges = 24 + 2 * (n + 1);
+    let marks = edges + 2 * m;
+    let total = marks + n.div_ceil(8);
+    long::<A>(file, 8) != 24
+        || long::<A>(file, 12) != edges
+        || long::<A>(file, 16) != marks
+        || long::<A>(file, 20) != total
+}
+
+fn rows_broken<A: Access>(file: &[u8], n: usize, m: usize) -> bool {
+    if entry::<A>(file, 24, 0) != 0 {
+        return true;
+    }
+    for s in 0..n {
+        if entry::<A>(file, 24, s + 1) < entry::<A>(file, 24, s) {
+            return true;
+        }
+    }
+    entry::<A>(file, 24, n) != m
+}
+
+fn targets_broken<A: Access>(file: &[u8], n: usize, m: usize) -> bool {
+    let base = 24 + 2 * (n + 1);
+    (0..m).any(|e| n <= entry::<A>(file, base, e))
+}
+
+fn ascends<A: Access>(part: &[u8]) -> bool {
+    (1..part.len() / 2).all(|k| word::<A>(part, 2 * (k - 1)) < word::<A>(part, 2 * k))
+}
+
+fn order_broken<A: Access>(file: &[u8], n: usize) -> bool {
+    (0..n).any(|s| !ascends::<A>(row::<A>(file, n, s)))
+}
+
+fn spare_set<A: Access>(file: &[u8], n: usize, m: usize) -> bool {
+    let marks = 24 + 2 * (n + 1) + 2 * m;
+    (n..8 * n.div_ceil(8)).any(|s| bit::<A>(file, marks, s))
+}
+
+#[inline]
+fn row<A: Access>(file: &[u8], n: usize, s: usize) -> &[u8] {
+    let base = 24 + 2 * (n + 1);
+    let from = base + 2 * entry::<A>(file, 24, s);
+    let to = base + 2 * entry::<A>(file, 24, s + 1);
+    A::part(file, from, to)
+}
+
+/// The part of the file that holds the targets of one state's row.
+#[inline]
+pub fn row_part<A: Access>(file: &[u8], h: Header, s: usize) -> &[u8] {
+    row::<A>(file, h.states, s)
+}
+
+/// The number of successors that a row's part holds.
+#[inline]
+pub fn degree(part: &[u8]) -> usize {
+    part.len() / 2
+}
+
+/// The successor at place k of a row's part.
+#[inline]
+pub fn successor<A: Access>(part: &[u8], k: usize) -> usize {
+    word::<A>(part, 2 * k)
+}
+
+/// State s is marked.
+#[inline]
+pub fn is_marked<A: Access>(file: &[u8], h: Header, s: usize) -> bool {
+    bit::<A>(file, 24 + 2 * (h.states + 1) + 2 * h.edges, s)
+}

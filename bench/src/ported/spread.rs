@@ -1,0 +1,140 @@
+//! The one search there is: breadth-first by levels, from sources that start at levels of their own. The working table
+//! is six regions of n entries: 0 distances from the start, 1 loop lengths, 2 levels, 3 queue, 4 first source of a
+//! level, 5 next source. An entry 0 stands for nothing; a level l stands as l + 1, a source s as s + 1.
+
+use super::access::Access;
+use super::model::{degree, is_marked, row_part, successor, Header};
+
+/// The entry at a place.
+#[inline]
+pub fn get<A: Access>(table: &[u16], at: usize) -> usize {
+    A::get(table, at) as usize
+}
+
+/// Stores a value at a place.
+#[inline]
+pub fn put<A: Access>(table: &mut [u16], at: usize, value: usize) {
+    A::put(table, at, value as u16);
+}
+
+/// Makes the entries from one place up to another zero.
+#[inline]
+pub fn clear<A: Access>(table: &mut [u16], from: usize, to: usize) {
+    A::part_mut(table, from, to).fill(0);
+}
+
+fn list_source<A: Access>(work: &mut [u16], n: usize, level: usize, s: usize) {
+    let first = get::<A>(work, 4 * n + level);
+    put::<A>(work, 5 * n + s, first);
+    put::<A>(work, 4 * n + level, s + 1);
+}
+
+fn plan<A: Access>(work: &mut [u16], n: usize, limit: usize) {
+    clear::<A>(work, 4 * n, 4 * n + limit);
+    for s in 0..n {
+        let start = get::<A>(work, 2 * n + s);
+        put::<A>(work, 2 * n + s, 0);
+        if 0 < start && start <= limit {
+            list_source::<A>(work, n, start - 1, s);
+        }
+    }
+}
+
+fn reach<A: Access>(work: &mut [u16], n: usize, t: usize, level: usize, count: usize) -> usize {
+    if get::<A>(work, 2 * n + t) != 0 {
+        return count;
+    }
+    put::<A>(work, 2 * n + t, level + 1);
+    put::<A>(work, 3 * n + count, t);
+    count + 1
+}
+
+fn admit<A: Access>(work: &mut [u16], n: usize, level: usize, count: usize) -> usize {
+    let mut cursor = get::<A>(work, 4 * n + level);
+    let mut reached = count;
+    while 0 < cursor {
+        let s = cursor - 1;
+        reached = reach::<A>(work, n, s, level, reached);
+        cursor = get::<A>(work, 5 * n + s);
+    }
+    reached
+}
+
+/// Searches from the sources whose start levels stand in region 2, below the limit; the length at which an edge into the
+/// target was found, if there is one.
+pub fn spread<A: Access>(
+    file: &[u8],
+    h: Header,
+    work: &mut [u16],
+    limit: usize,
+    target: usize,
+) -> Option<usize> {
+    A::spread();
+    let n = h.states;
+    plan::<A>(work, n, limit);
+    let mut at = 0;
+    let mut count = 0;
+    for level in 0..limit {
+        count = admit::<A>(work, n, level, count);
+        let end = count;
+        while at < end {
+            let s = get::<A>(work, 3 * n + at);
+            let part = row_part::<A>(file, h, s);
+            for k in 0..degree(part) {
+                A::edge();
+                let t = successor::<A>(part, k);
+                if t == target {
+                    return Some(level + 1);
+                }
+                count = reach::<A>(work, n, t, level + 1, count);
+            }
+            at += 1;
+        }
+    }
+    None
+}
+
+fn start_at<A: Access>(work: &mut [u16], n: usize, x: usize) {
+    clear::<A>(work, 2 * n, 3 * n);
+    put::<A>(work, 2 * n + x, 1);
+}
+
+fn keep_marked<A: Access>(file: &[u8], h: Header, work: &mut [u16]) {
+    let n = h.states;
+    for s in 0..n {
+        if !is_marked::<A>(file, h, s) {
+            put::<A>(work, 2 * n + s, 0);
+        }
+    }
+}
+
+/// Puts the distances from x, up to the limit, into region 2.
+pub fn distances<A: Access>(file: &[u8], h: Header, work: &mut [u16], x: usize, limit: usize) {
+    let n = h.states;
+    start_at::<A>(work, n, x);
+    spread::<A>(file, h, work, limit, n);
+}
+
+/// Searches on from the marked states, at the levels that region 2 holds for them.
+pub fn from_marks<A: Access>(
+    file: &[u8],
+    h: Header,
+    work: &mut [u16],
+    limit: usize,
+    target: usize,
+) -> Option<usize> {
+    keep_marked::<A>(file, h, work);
+    spread::<A>(file, h, work, limit, target)
+}
+
+/// The least length of a closed walk from x through a mark, if it is at most the limit.
+pub fn loop_length<A: Access>(
+    file: &[u8],
+    h: Header,
+    work: &mut [u16],
+    x: usize,
+    limit: usize,
+) -> Option<usize> {
+    distances::<A>(file, h, work, x, limit);
+    from_marks::<A>(file, h, work, limit, x)
+}

@@ -1,0 +1,208 @@
+//! The reference, straight from the definitions: the rules of the model file in order, and all accepting paths of a
+//! small model by trying every path.
+
+use crate::model::Model;
+
+/// Models of up to this many states are tried exhaustively.
+pub const SMALL: usize = 7;
+
+fn word(file: &[u8], at: usize) -> u16 {
+    u16::from_le_bytes([file[at], file[at + 1]])
+}
+
+fn long(file: &[u8], at: usize) -> u64 {
+    u64::from(word(file, at)) + (u64::from(word(file, at + 2)) << 16)
+}
+
+/// The model that a file holds, or the number of the first rule from 1 to 11 that it breaks.
+pub fn read(file: &[u8]) -> Result<Model, u16> {
+    if file.len() < 24 {
+        return Err(1);
+    }
+    let (n, m, start) = (
+        word(file, 0) as usize,
+        word(file, 2) as usize,
+        word(file, 4),
+    );
+    if !(1..=4096).contains(&n) {
+        return Err(2);
+    }
+    if m > 8192 {
+        return Err(3);
+    }
+    if start as usize >= n {
+        return Err(4);
+    }
+    if file[6] != 0 || file[7] != 0 {
+        return Err(5);
+    }
+    let rows_at = 24;
+    let edges_at = rows_at + 2 * (n + 1);
+    let marks_at = edges_at + 2 * m;
+    let total = marks_at + n / 8 + usize::from(n % 8 != 0);
+    let given = [8, 12, 16, 20].map(|at| long(file, at));
+    if given != [rows_at, edges_at, marks_at, total].map(|number| number as u64) {
+        return Err(6);
+    }
+    if file.len() != total {
+        return Err(7);
+    }
+    let table = |from: usize, to: usize| -> Vec<u16> {
+        (from..to).step_by(2).map(|at| word(file, at)).collect()
+    };
+    let rows = table(rows_at, edges_at);
+    let targets = table(edges_at, marks_at);
+    if rows[0] != 0 || rows.windows(2).any(|two| two[1] < two[0]) || rows[n] as usize != m {
+        return Err(8);
+    }
+    if targets.iter().any(|&t| t as usize >= n) {
+        return Err(9);
+    }
+    let succs: Vec<Vec<u16>> = rows
+        .windows(2)
+        .map(|ends| targets[ends[0] as usize..ends[1] as usize].to_vec())
+        .collect();
+    if succs
+        .iter()
+        .any(|row| row.windows(2).any(|two| two[0] >= two[1]))
+    {
+        return Err(10);
+    }
+    let bit = |s: usize| file[marks_at + s / 8] & (1 << (s % 8)) != 0;
+    if (n..8 * (total - marks_at)).any(bit) {
+        return Err(11);
+    }
+    let marks = (0..n).map(bit).collect();
+    Ok(Model {
+        start,
+        succs,
+        marks,
+    })
+}
+
+/// The place where the loop of a list starts, if the list is an accepting path.
+pub fn accepting(model: &Model, list: &[u16]) -> Option<usize> {
+    let (&last, states) = list.split_last()?;
+    if states.first() != Some(&model.start) {
+        return None;
+    }
+    if !list
+        .windows(2)
+        .all(|two| (two[0] as usize) < model.states() && model.has_edge(two[0], two[1]))
+    {
+        return None;
+    }
+    if (1..states.len()).any(|j| states[..j].contains(&states[j])) {
+        return None;
+    }
+    let k = states.iter().position(|&s| s == last)?;
+    let marked = states[k..].iter().any(|&s| model.marks[s as usize]);
+    marked.then_some(k)
+}
+
+/// All accepting paths of a model, by trying every path whose states are all different.
+fn all_accepting(model: &Model, path: &mut Vec<u16>, found: &mut Vec<Vec<u16>>) {
+    let last = *path.last().expect("a path has a state");
+    for t in 0..model.states() as u16 {
+        if !model.has_edge(last, t) {
+            continue;
+        }
+        path.push(t);
+        if path[..path.len() - 1].contains(&t) {
+            if accepting(model, path).is_some() {
+                found.push(path.clone());
+            }
+        } else {
+            all_accepting(model, path, found);
+        }
+        path.pop();
+    }
+}
+
+/// What the definitions say of a model: its candidates, the length of each one's round, and the roll. Of a large model
+/// the roll may be cut off after some lists.
+pub struct Facts {
+    pub candidates: Vec<u16>,
+    pub round_lengths: Vec<Option<u16>>,
+    pub roll: Vec<Vec<u16>>,
+    pub cut_off: bool,
+}
+
+impl Facts {
+    /// The facts of a small model, by trying everything.
+    pub fn by_exhaustion(model: &Model) -> Facts {
+        let mut lists = Vec::new();
+        all_accepting(model, &mut vec![model.start], &mut lists);
+        let candidates = reached_marks(model);
+        let round_lengths = candidates.iter().map(|&r| {
+            let holding = lists.iter().filter(|list| {
+                let k = accepting(model, list).expect("the lists are accepting");
+                list[k..].contains(&r)
+            });
+            holding.map(|list| (list.len() - 1) as u16).min()
+        });
+        let round_lengths: Vec<Option<u16>> = round_lengths.collect();
+        let least = lists.iter().map(Vec::len).min();
+        lists.retain(|list| Some(list.len()) == least);
+        lists.sort();
+        Facts {
+            candidates,
+            round_lengths,
+            roll: lists,
+            cut_off: false,
+        }
+    }
+
+    /// The length of the shortest accepting paths.
+    pub fn length(&self) -> Option<usize> {
+        self.roll.first().map(|list| list.len() - 1)
+    }
+}
+
+/// The marked states that can be reached from the start.
+fn reached_marks(model: &Model) -> Vec<u16> {
+    let n = model.states();
+    let mut reached = vec![false; n];
+    reached[model.start as usize] = true;
+    for _ in 0..n {
+        for s in 0..n {
+            if reached[s] {
+                for &t in &model.succs[s] {
+                    reached[t as usize] = true;
+                }
+            }
+        }
+    }
+    let states = (0..n).filter(|&s| reached[s] && model.marks[s]);
+    states.map(|s| s as u16).collect()
+}
+
+/// The round of each candidate by its formula: the minimum, over states s, of d(i, s) + d(r, s) plus the least length of
+/// a path with at least one edge from s to r.
+pub fn rounds_by_formula(model: &Model, candidates: &[u16]) -> Vec<Option<u16>> {
+    const FAR: u32 = 1 << 20;
+    let n = model.states();
+    let mut plus = vec![vec![FAR; n]; n];
+    for (row, targets) in plus.iter_mut().zip(&model.succs) {
+        for &t in targets {
+            row[t as usize] = 1;
+        }
+    }
+    for via in 0..n {
+        let onward = plus[via].clone();
+        for row in &mut plus {
+            let there = row[via];
+            for (length, on) in row.iter_mut().zip(&onward) {
+                *length = (there + on).min(*length);
+            }
+        }
+    }
+    let d = |r: usize, s: usize| if r == s { 0 } else { plus[r][s] };
+    let start = model.start as usize;
+    let lengths = candidates.iter().map(|&r| {
+        let r = r as usize;
+        let sums = (0..n).map(|s| d(start, s) + d(r, s) + plus[s][r]);
+        sums.min().filter(|&sum| sum < FAR).map(|sum| sum as u16)
+    });
+    lengths.collect()
+}

@@ -1,0 +1,99 @@
+//! The versions compared, behind one trait: each is handed the same file and tables.
+
+use std::marker::PhantomData;
+
+use crate::fahkelo::{self, NextAnswer, Record, SearchAnswer, StepAnswer};
+use crate::ported::access::{Access, Checked, Unchecked};
+use crate::ported::finder;
+
+/// A finder with the three operations.
+pub trait Finder {
+    fn name(&self) -> &'static str;
+    fn step(&self, file: &[u8], so_far: Record, work: &mut [u16]) -> StepAnswer;
+    fn search(
+        &self,
+        file: &[u8],
+        allowance: u16,
+        answer: &mut [u16],
+        work: &mut [u16],
+    ) -> SearchAnswer;
+    fn next(
+        &self,
+        file: &[u8],
+        earlier: &[u16],
+        answer: &mut [u16],
+        work: &mut [u16],
+    ) -> NextAnswer;
+}
+
+/// The proved library.
+pub struct Proved;
+
+impl Finder for Proved {
+    fn name(&self) -> &'static str {
+        "proved"
+    }
+
+    fn step(&self, file: &[u8], so_far: Record, work: &mut [u16]) -> StepAnswer {
+        fahkelo::step(file, so_far, work)
+    }
+
+    fn search(
+        &self,
+        file: &[u8],
+        allowance: u16,
+        answer: &mut [u16],
+        work: &mut [u16],
+    ) -> SearchAnswer {
+        fahkelo::search(file, allowance, answer, work)
+    }
+
+    fn next(
+        &self,
+        file: &[u8],
+        earlier: &[u16],
+        answer: &mut [u16],
+        work: &mut [u16],
+    ) -> NextAnswer {
+        fahkelo::next(file, earlier, answer, work)
+    }
+}
+
+/// The same algorithm in Rust, with one way of access to the tables.
+pub struct Ported<A>(&'static str, PhantomData<A>);
+
+/// With bounds checks.
+pub const SAFE: Ported<Checked> = Ported("safe", PhantomData);
+
+/// Without bounds checks.
+pub const UNCHECKED: Ported<Unchecked> = Ported("unchecked", PhantomData);
+
+impl<A: Access> Finder for Ported<A> {
+    fn name(&self) -> &'static str {
+        self.0
+    }
+
+    fn step(&self, file: &[u8], so_far: Record, work: &mut [u16]) -> StepAnswer {
+        finder::step::<A>(file, so_far, work)
+    }
+
+    fn search(
+        &self,
+        file: &[u8],
+        allowance: u16,
+        answer: &mut [u16],
+        work: &mut [u16],
+    ) -> SearchAnswer {
+        finder::search::<A>(file, allowance, answer, work)
+    }
+
+    fn next(
+        &self,
+        file: &[u8],
+        earlier: &[u16],
+        answer: &mut [u16],
+        work: &mut [u16],
+    ) -> NextAnswer {
+        finder::next::<A>(file, earlier, answer, work)
+    }
+}
