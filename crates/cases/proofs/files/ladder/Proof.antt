@@ -1,0 +1,145 @@
+-- `cases::files::ladder` meets its contract. The loop's invariant: s states have their targets.
+use borrow.Author.Needs.{needs}
+use native.Mathlib.Omega.{arith}
+use Prim.Native.Nat.{_+_, _*_, _-_, _≤_, _<_}
+use mathlib.Core.Path.{_≡_}
+use lib.ListN.{length}
+use Rattle.cases.proofs.files.ladder.Statement.{statement}
+use Rattle.cases.proofs.files.ladder.Tie as tie
+
+abbrev Inv-loop : tie.InvT-loop
+Inv-loop file₀ rungs n s₀ file s = (s ≤ n) × (length file ≡ length file₀)
+
+abbrev μ-loop : tie.MeasureT-loop
+μ-loop file₀ rungs n s₀ file s = n - s
+
+mul-n : tie.Need-mul-n Inv-loop μ-loop
+mul-n c = search needs
+
+wipe-requires : tie.Need-wipe-requires Inv-loop μ-loop
+wipe-requires c κs = search needs
+
+put-rows-requires : tie.Need-put-rows-requires Inv-loop μ-loop
+put-rows-requires c κs = search needs
+
+loop-holds : tie.Need-loop-holds Inv-loop μ-loop
+loop-holds c = search needs
+
+after-requires : tie.Need-after-requires Inv-loop μ-loop
+after-requires c κs = search needs
+
+mul-set16 : tie.Need-mul-set16 Inv-loop μ-loop
+mul-set16 c = search needs
+
+add-set16 : tie.Need-add-set16 Inv-loop μ-loop
+add-set16 c = search needs
+
+mul-set16-2 : tie.Need-mul-set16-2 Inv-loop μ-loop
+mul-set16-2 c = search needs
+
+add-set16-2 : tie.Need-add-set16-2 Inv-loop μ-loop
+add-set16-2 c = search needs
+
+mul-set16-3 : tie.Need-mul-set16-3 Inv-loop μ-loop
+mul-set16-3 c = search needs
+
+set16-requires : tie.Need-set16-requires Inv-loop μ-loop
+set16-requires c κs = search needs
+
+mul-set16-4 : tie.Need-mul-set16-4 Inv-loop μ-loop
+mul-set16-4 c = search needs
+
+add-set16-3 : tie.Need-add-set16-3 Inv-loop μ-loop
+add-set16-3 c = search needs
+
+mul-set16-5 : tie.Need-mul-set16-5 Inv-loop μ-loop
+mul-set16-5 c = search needs
+
+add-set16-4 : tie.Need-add-set16-4 Inv-loop μ-loop
+add-set16-4 c = search needs
+
+mul-set16-6 : tie.Need-mul-set16-6 Inv-loop μ-loop
+mul-set16-6 c = search needs
+
+add-set16-5 : tie.Need-add-set16-5 Inv-loop μ-loop
+add-set16-5 c = search needs
+
+set16-requires-2 : tie.Need-set16-requires-2 Inv-loop μ-loop
+set16-requires-2 c κs = search needs
+
+add-s : tie.Need-add-s Inv-loop μ-loop
+add-s c = search needs
+
+loop-less : tie.Need-loop-less Inv-loop μ-loop
+loop-less c = search needs
+
+loop-again : tie.Need-loop-again Inv-loop μ-loop
+loop-again c = search needs
+
+sub-last : tie.Need-sub-last Inv-loop μ-loop
+sub-last c = search needs
+
+mul-set8 : tie.Need-mul-set8 Inv-loop μ-loop
+mul-set8 c = search needs
+
+add-set8 : tie.Need-add-set8 Inv-loop μ-loop
+add-set8 c = search needs
+
+add-set8-2 : tie.Need-add-set8-2 Inv-loop μ-loop
+add-set8-2 c = search needs
+
+mark-bit-requires : tie.Need-mark-bit-requires Inv-loop μ-loop
+mark-bit-requires c κs = search needs
+
+set8-requires : tie.Need-set8-requires Inv-loop μ-loop
+set8-requires c κs = search needs
+
+mul-put-header : tie.Need-mul-put-header Inv-loop μ-loop
+mul-put-header c = search needs
+
+put-header-requires : tie.Need-put-header-requires Inv-loop μ-loop
+put-header-requires c κs = search needs
+
+same-length : tie.Need-same-length Inv-loop μ-loop
+same-length c = search needs
+
+returns : tie.Need-returns Inv-loop μ-loop
+returns c = search needs
+
+pub ladder-spec : {M : Type 1} → statement M
+ladder-spec =
+    tie.close
+    (tie.spec
+    Inv-loop
+    μ-loop
+    mul-n
+    wipe-requires
+    put-rows-requires
+    loop-holds
+    after-requires
+    mul-set16
+    add-set16
+    mul-set16-2
+    add-set16-2
+    mul-set16-3
+    set16-requires
+    mul-set16-4
+    add-set16-3
+    mul-set16-5
+    add-set16-4
+    mul-set16-6
+    add-set16-5
+    set16-requires-2
+    add-s
+    loop-less
+    loop-again
+    sub-last
+    mul-set8
+    add-set8
+    add-set8-2
+    mark-bit-requires
+    set8-requires
+    mul-put-header
+    put-header-requires
+    same-length
+    returns)

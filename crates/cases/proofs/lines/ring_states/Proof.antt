@@ -1,0 +1,37 @@
+-- `cases::lines::ring_states` meets its contract. The loop goes up to the number of states.
+use borrow.Author.Needs.{needs}
+use native.Mathlib.Omega.{arith}
+use Prim.Native.Nat.{_+_, _*_, _-_, _≤_, _<_}
+use mathlib.Core.Path.{_≡_}
+use lib.ListN.{length}
+use Rattle.cases.proofs.lines.ring_states.Statement.{statement}
+use Rattle.cases.proofs.lines.ring_states.Tie as tie
+
+abbrev Inv-loop : tie.InvT-loop
+Inv-loop count list₀ i₀ list i = i ≤ count
+
+abbrev μ-loop : tie.MeasureT-loop
+μ-loop count list₀ i₀ list i = count - i
+
+loop-holds : tie.Need-loop-holds Inv-loop μ-loop
+loop-holds c = search needs
+
+enter-requires : tie.Need-enter-requires Inv-loop μ-loop
+enter-requires c κs = search needs
+
+add-i : tie.Need-add-i Inv-loop μ-loop
+add-i c = search needs
+
+loop-less : tie.Need-loop-less Inv-loop μ-loop
+loop-less c = search needs
+
+loop-again : tie.Need-loop-again Inv-loop μ-loop
+loop-again c = search needs
+
+returns : tie.Need-returns Inv-loop μ-loop
+returns c = search needs
+
+pub ring-states-spec : {M : Type 1} → statement M
+ring-states-spec =
+    tie.close
+    (tie.spec Inv-loop μ-loop loop-holds enter-requires add-i loop-less loop-again returns)
