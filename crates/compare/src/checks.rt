@@ -1,0 +1,261 @@
+// The calls on one model: steps from many records, searches with every allowance, and next after right and wrong lists.
+ghost use Prim.Native.Nat.{_≤_};
+use crate::calls;
+use crate::calls::NEXT_NO_MORE;
+use crate::calls::SEARCH_EMPTY;
+use crate::calls::Seen;
+use crate::calls::brings_list;
+use crate::calls::first_of;
+use crate::calls::kind_of;
+use crate::exhaustive::Truth;
+use crate::expected;
+use crate::lists::Earlier;
+use crate::lists::near;
+use crate::lists::random_list;
+use crate::lists::seed_of;
+use crate::lists::tables_for;
+use crate::models::Model;
+use crate::models::drawn;
+use crate::tally::DIFFERENCES;
+use crate::tally::ENTRIES;
+use crate::tally::LISTS;
+use crate::tally::NEXTS;
+use crate::tally::SEARCHES;
+use crate::tally::STEPS;
+use crate::tally::add;
+use crate::tally::add_if;
+use crate::tally::compare;
+
+// A working table's length for so many states: one entry too short, or with up to five entries more than needed.
+fn room(states: usize, short: bool, more: usize) -> usize
+    ensures { λ r. ⌜ r ≤ 48 ⌝ }
+{
+    if 7 < states {
+        return 0;
+    }
+    if states == 0 {
+        return 0;
+    }
+    if short {
+        return 6 * states - 1;
+    }
+    6 * states + more % 6
+}
+
+// The count that stands for a place of a loop: itself, or 65,535 for the last place.
+fn count_for(place: usize, end: usize) -> u16 {
+    if place < end {
+        if place < 65535 {
+            return place as u16;
+        }
+    }
+    65535
+}
+
+// The best lengths that steps start from: none, 0, 1, the round's own length, one more, and 65,535.
+fn best_for(own: u64, which: usize) -> u64
+    requires { ⌜ own ≤ 65536 ⌝ }
+{
+    match which {
+        0 => 65536,
+        1 => 0,
+        2 => 1,
+        3 => own,
+        4 => own % 65535 + 1,
+        _ => 65535,
+    }
+}
+
+// One step; the seventh is the one with a working table that is too short.
+fn check_step(t: Truth, file: &[u8], done: u16, which: usize, tally: &mut [u64]) {
+    let short = which == 6;
+    let best = best_for(expected::round_at(t, done as usize), which);
+    let seen = calls::step(file, done, best, room(t.states, short, which));
+    compare(tally, STEPS, seen, expected::of_step(t, done, best, short));
+}
+
+// Steps from every count up to one more than the candidates, and from 65,535.
+pub fn check_steps(t: Truth, file: &[u8], tally: &mut [u64]) {
+    let end = expected::rounds(t) + 2;
+    let mut turn = 0;
+    while turn < 7 * (end + 1) {
+        check_step(t, file, count_for(turn / 7, end), turn % 7, tally);
+        turn += 1;
+    }
+}
+
+// The answer tables' lengths: 12 entries, as many as the list needs, one fewer, none.
+fn space(least: usize, which: usize) -> usize
+    ensures { λ r. ⌜ r ≤ 16 ⌝ }
+{
+    if 15 < least {
+        return 0;
+    }
+    match which {
+        1 => least + 1,
+        2 => least,
+        3 => 0,
+        _ => 12,
+    }
+}
+
+// One search; the fifth is the one with a working table that is too short.
+fn check_search(
+    t: Truth,
+    roll: &[u64],
+    file: &[u8],
+    allowance: u16,
+    which: usize,
+    tally: &mut [u64],
+) -> Seen {
+    let short = which == 4;
+    let entries = space(t.least, which);
+    let seen = calls::search(file, allowance, entries, room(t.states, short, which));
+    compare(
+        tally,
+        SEARCHES,
+        seen,
+        expected::of_search(t, roll, allowance, entries, short),
+    );
+    seen
+}
+
+// Searches with every allowance up to one more than the candidates, and with 65,535.
+pub fn check_searches(t: Truth, roll: &[u64], file: &[u8], tally: &mut [u64]) {
+    let end = expected::rounds(t) + 2;
+    let mut turn = 0;
+    while turn < 5 * (end + 1) {
+        check_search(t, roll, file, count_for(turn / 5, end), turn % 5, tally);
+        turn += 1;
+    }
+}
+
+// One next; the fifth is the one with a working table that is too short.
+fn check_next(
+    t: Truth,
+    roll: &[u64],
+    file: &[u8],
+    e: Earlier,
+    which: usize,
+    tally: &mut [u64],
+) -> Seen
+    requires { ⌜ e .entries ≤ 16 ⌝ }
+{
+    let short = which == 4;
+    let entries = space(t.least, which);
+    let seen = calls::next(
+        file,
+        e.list,
+        e.entries,
+        entries,
+        room(t.states, short, which),
+    );
+    compare(
+        tally,
+        NEXTS,
+        seen,
+        expected::of_next(t, roll, e.list, e.entries, entries, short),
+    );
+    seen
+}
+
+// Next after one right list with each of the tables, and after the wrong ones near it.
+fn check_list(t: Truth, roll: &[u64], file: &[u8], list: u64, entries: usize, tally: &mut [u64])
+    requires { ⌜ entries ≤ 15 ⌝ }
+{
+    let mut turn = 0;
+    while turn < 9 * entries + 15 {
+        check_next(
+            t,
+            roll,
+            file,
+            near(list, entries, turn),
+            tables_for(entries, turn),
+            tally,
+        );
+        turn += 1;
+    }
+}
+
+// Next after each list of the roll, and after the wrong ones near it.
+pub fn check_lists(t: Truth, roll: &[u64], file: &[u8], tally: &mut [u64]) {
+    let mut place = 0;
+    while place < roll.len() {
+        if t.lists <= place {
+            return;
+        }
+        if 14 < t.least {
+            return;
+        }
+        check_list(t, roll, file, roll[place], t.least + 1, tally);
+        place += 1;
+    }
+}
+
+// Next after the empty list and after pseudo-random ones.
+pub fn check_random(m: Model, t: Truth, roll: &[u64], file: &[u8], tally: &mut [u64]) {
+    let none = Earlier {
+        list: 0,
+        entries: 0,
+    };
+    check_next(t, roll, file, none, 0, tally);
+    let mut x = seed_of(m);
+    let mut turn = 0;
+    while turn < 6 {
+        check_next(t, roll, file, random_list(x, m.initial, turn), 0, tally);
+        x = drawn(x);
+        turn += 1;
+    }
+}
+
+// The list that an answer brought, as a copy, if a table of 16 entries can hold it.
+fn copy_of(s: Seen) -> Earlier
+    ensures { λ r. ⌜ r .entries ≤ 16 ⌝ }
+{
+    let least = first_of(s.code);
+    if 15 < least {
+        return Earlier {
+            list: 0,
+            entries: 0,
+        };
+    }
+    Earlier {
+        list: s.list,
+        entries: least + 1,
+    }
+}
+
+// Whether an answer says that there are no more lists, or none.
+fn ends(code: u64) -> bool {
+    let kind = kind_of(code);
+    kind == NEXT_NO_MORE || kind == SEARCH_EMPTY
+}
+
+// Counts a list that was received, and a difference if it is not the one at its place of the roll.
+fn received(copy: Earlier, right: u64, tally: &mut [u64]) {
+    add(tally, LISTS, 1);
+    add(tally, ENTRIES, copy.entries);
+    add_if(tally, DIFFERENCES, copy.list != right);
+}
+
+// Counts a difference if the lists ended at another place than the roll, or with another answer than no more or empty.
+fn ended(lists: usize, code: u64, got: usize, tally: &mut [u64]) {
+    add_if(tally, DIFFERENCES, got != lists);
+    add_if(tally, DIFFERENCES, !ends(code));
+}
+
+// A search and then next with the copy last received, until there are no more lists: the whole roll in order, each once.
+pub fn check_sequence(t: Truth, roll: &[u64], file: &[u8], tally: &mut [u64]) {
+    let mut s = check_search(t, roll, file, 65535, 0, tally);
+    let mut got = 0;
+    while got < 1000 {
+        if !brings_list(s.code) {
+            ended(t.lists, s.code, got, tally);
+            return;
+        }
+        received(copy_of(s), expected::list_at(roll, got), tally);
+        s = check_next(t, roll, file, copy_of(s), 0, tally);
+        got += 1;
+    }
+    add(tally, DIFFERENCES, 1);
+}

@@ -1,0 +1,86 @@
+// Compares step, search and next with an exhaustive search written apart, on all models of up to three states and on
+// many pseudo-random ones of four to seven, and prints how many answers of each kind were compared.
+mod calls;
+mod checks;
+mod digits;
+mod exhaustive;
+mod expected;
+mod files;
+mod lists;
+mod models;
+mod report;
+mod tables;
+mod tally;
+
+ghost use Prim.Native.Nat.{_<_, _≤_};
+use exhaustive::Truth;
+use models::Model;
+use tally::DIFFERENCES;
+use tally::LENGTHS;
+use tally::MODELS;
+use tally::SEVERAL;
+use tally::add;
+use tally::add_if;
+
+// The lists that there is room for.
+const ROLL: usize = 64;
+
+// All comparisons on the file of a model.
+fn compare_file(m: Model, t: Truth, roll: &[u64], file: &[u8], tally: &mut [u64]) {
+    checks::check_steps(t, file, tally);
+    checks::check_searches(t, roll, file, tally);
+    checks::check_sequence(t, roll, file, tally);
+    checks::check_lists(t, roll, file, tally);
+    checks::check_random(m, t, roll, file, tally);
+}
+
+// Counts a model, and a difference if there was not room for all its lists.
+fn counted(states: usize, t: Truth, tally: &mut [u64])
+    requires { ⌜ 0 < states ⌝ }
+{
+    add(tally, MODELS + (states - 1), 1);
+    add(tally, LENGTHS + t.least % 8, 1);
+    add_if(tally, SEVERAL, 1 < t.lists);
+    add_if(tally, DIFFERENCES, ROLL < t.lists);
+}
+
+// All comparisons on a model.
+fn compare_model(m: Model, states: usize, tally: &mut [u64])
+    requires { ⌜ 0 < states ⌝ }
+    requires { ⌜ states ≤ 7 ⌝ }
+{
+    let mut file = [0u8; 169];
+    let mut roll = [0u64; ROLL];
+    let length = files::write(&mut file, m, states);
+    let t = exhaustive::explore(m, &mut roll);
+    counted(states, t, tally);
+    compare_file(m, t, &roll, &file[..length], tally);
+}
+
+// All comparisons on the models of so many states.
+fn compare_states(states: usize, tally: &mut [u64])
+    requires { ⌜ 0 < states ⌝ }
+    requires { ⌜ states ≤ 7 ⌝ }
+{
+    let end = models::how_many(states);
+    let mut number = 0;
+    while number < end {
+        compare_model(models::numbered(states, number), states, tally);
+        number += 1;
+    }
+}
+
+// All comparisons.
+fn compare_all(tally: &mut [u64]) {
+    let mut states = 1;
+    while states < 8 {
+        compare_states(states, tally);
+        states += 1;
+    }
+}
+
+fn main() {
+    let mut tally = [0u64; 36];
+    compare_all(&mut tally);
+    report::print(&tally);
+}

@@ -1,0 +1,69 @@
+// The counts that are printed, and the comparison that counts differences.
+use crate::calls::Seen;
+use crate::calls::first_of;
+use crate::calls::is_refusal;
+use crate::calls::kind_of;
+
+// Places in the tally, in the order in which they are printed: models by their number of states, models by the least
+// length, models with several lists, steps, searches and nexts with the kinds of their answers after each, refusals with
+// 12 to 15, lists and entries received, differences.
+pub const MODELS: usize = 0;
+
+pub const LENGTHS: usize = 7;
+
+pub const SEVERAL: usize = 15;
+
+pub const STEPS: usize = 16;
+
+pub const SEARCHES: usize = 20;
+
+pub const NEXTS: usize = 25;
+
+pub const REFUSED: usize = 29;
+
+pub const LISTS: usize = 33;
+
+pub const ENTRIES: usize = 34;
+
+pub const DIFFERENCES: usize = 35;
+
+// Adds a small number at a place.
+pub fn add(tally: &mut [u64], at: usize, more: usize) {
+    if at < tally.len() {
+        let old = tally[at];
+        if old < 1000000000000 {
+            if more < 1000000 {
+                tally[at] = old + (more as u64);
+            }
+        }
+    }
+}
+
+// Adds one at a place if something holds.
+pub fn add_if(tally: &mut [u64], at: usize, holds: bool) {
+    if holds {
+        add(tally, at, 1);
+    }
+}
+
+// The count at a place.
+pub fn count(tally: &[u64], at: usize) -> u64 {
+    if at < tally.len() {
+        return tally[at];
+    }
+    0
+}
+
+// Whether two answers are the same.
+fn same(a: Seen, b: Seen) -> bool {
+    a.code == b.code && a.list == b.list
+}
+
+// Counts a call's answer, and a difference if it is not the one that it must be.
+pub fn compare(tally: &mut [u64], calls: usize, seen: Seen, expected: Seen) {
+    let code = seen.code;
+    add(tally, calls, 1);
+    add(tally, kind_of(code) as usize, 1);
+    add_if(tally, REFUSED + first_of(code) % 4, is_refusal(code));
+    add_if(tally, DIFFERENCES, !same(seen, expected));
+}

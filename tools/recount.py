@@ -1,0 +1,218 @@
+#!/usr/bin/env python3
+"""Recomputes the counts that the program crates/compare prints, and prints the same text.
+
+A convenience outside the proofs: no promise rests on it. It makes the same models by the same rules and answers every
+call from the definitions (paths without repeated states, closed in every way), with a search of its own and with no
+part of the library. usage: tools/recount.py | diff - crates/compare/stdout
+"""
+from itertools import islice
+
+SMALL = [(1, 4), (2, 128), (3, 12288)]
+RANDOM = [(4, 20000), (5, 20000), (6, 20000), (7, 20000)]
+WORD = (1 << 64) - 1
+NONE = 65536  # the figure of "none", more than every length
+
+
+def drawn(x):
+    """The next number of the generator, a 64-bit xorshift."""
+    x ^= (x << 13) & WORD
+    x ^= x >> 7
+    return x ^ ((x << 17) & WORD)
+
+
+def draws(x):
+    """The number x and all that the generator gives after it."""
+    while True:
+        yield x
+        x = drawn(x)
+
+
+class Model:
+    """States 0 to n - 1, the initial state, and the successors and the mark of each state."""
+
+    def __init__(self, n, initial, edges, marks):
+        """edges(s, t) and marks(s) say what there is."""
+        self.n, self.initial = n, initial
+        self.successors = [[t for t in range(n) if edges(s, t)] for s in range(n)]
+        self.marks = [bool(marks(s)) for s in range(n)]
+
+
+def small(n, number):
+    """The model with a number: the initial state, then the marks, then the edges row by row."""
+    number, initial = divmod(number, n)
+    edges, marks = divmod(number, 2 ** n)
+    return Model(n, initial, lambda s, t: edges >> (n * s + t) & 1, lambda s: marks >> s & 1)
+
+
+def random(n, number):
+    """The pseudo-random model with a number: density and marks go by the number, the rest by six draws."""
+    seed = drawn(drawn(number ^ n << 32 ^ 0x9E3779B97F4A7C15))
+    a, b, c, d, e, f = islice(draws(seed), 6)
+    ring = sum(1 << 8 * s + (s + 1) % n for s in range(n))
+    edges = [a & b & c, a & b, a & (b | c), a, a | b, a & b & c | ring][number % 6]
+    d, e = d >> 16, e >> 16
+    marks = [1 << d % n, d & e, d, d | e][number // 6 % 4]
+    return Model(n, (f >> 8) % n, lambda s, t: edges >> (8 * s + t) & 1, lambda s: marks >> s & 1)
+
+
+def accepting(m, path):
+    """All accepting paths that begin with a path without repeated states, in dictionary order, as (list, loop)."""
+    for t in m.successors[path[-1]]:
+        if t in path:
+            loop = path[path.index(t):]
+            if any(m.marks[s] for s in loop):
+                yield path + [t], loop
+        else:
+            yield from accepting(m, path + [t])
+
+
+def reached(m):
+    """The states that can be reached from the initial state."""
+    known, todo = {m.initial}, [m.initial]
+    while todo:
+        for t in m.successors[todo.pop()]:
+            if t not in known:
+                known.add(t)
+                todo.append(t)
+    return known
+
+
+class Truth:
+    """The candidates, the length of each round, the least length and all lists that have it."""
+
+    def __init__(self, m):
+        candidates = sorted(s for s in reached(m) if m.marks[s])
+        lengths = {}
+        self.least, self.roll = NONE, []
+        for path, loop in accepting(m, [m.initial]):
+            transitions = len(path) - 1
+            for s in loop:
+                lengths[s] = min(transitions, lengths.get(s, NONE))
+            if transitions < self.least:
+                self.least, self.roll = transitions, []
+            if transitions == self.least:
+                self.roll.append(tuple(path))
+        self.rounds = [lengths.get(s, NONE) for s in candidates]
+        self.place = {path: j for j, path in enumerate(self.roll)}
+
+    def step(self, done):
+        return "finished" if done >= len(self.rounds) else "advanced"
+
+    def search(self, allowance, room):
+        if allowance < len(self.rounds):
+            return "stopped"
+        if not self.roll:
+            return "empty"
+        return "refused 15" if room <= self.least else "found"
+
+    def next(self, earlier, room):
+        if earlier not in self.place:
+            return "refused 13"
+        if self.place[earlier] + 1 == len(self.roll):
+            return "no more"
+        return "refused 15" if room <= self.least else "found"
+
+
+def rooms(t):
+    """The answer tables' lengths: ample, as many entries as the list needs, one fewer, none."""
+    needed = t.least + 1 if t.roll else 1
+    return [12, needed, needed - 1, 0]
+
+
+def near(path):
+    """The wrong lists near a list: without its last entry, with one entry changed, with one entry more."""
+    values = [0, 1, 2, 3, 4, 5, 6, 7, 65535]
+    yield path[:-1]
+    for place in range(len(path)):
+        for v in values:
+            yield path[:place] + (v,) + path[place + 1:]
+    for v in values:
+        yield path + (v,)
+
+
+def random_lists(m):
+    """The empty list and six pseudo-random ones; every second starts at the initial state."""
+    yield ()
+    edges = sum(1 << 8 * s + t for s in range(m.n) for t in m.successors[s])
+    marks = sum(1 << s for s in range(m.n) if m.marks[s])
+    seed = drawn(drawn((edges ^ marks << 56 ^ m.initial << 61 ^ 0x2545F4914F6CDD1D) & WORD))
+    for turn, x in enumerate(islice(draws(seed), 6)):
+        count = (x >> 60) % 9
+        path = [x >> 4 * place & 7 for place in reversed(range(count))]
+        if turn % 2 == 0 and count:
+            path[0] = m.initial
+        yield tuple(path)
+
+
+def compared(m, count):
+    """Counts the answers of all calls on a model; count(call, answer) is told each of them."""
+    t = Truth(m)
+    count("model", f"least {t.least}" if t.roll else "none")
+    if len(t.roll) > 1:
+        count("several", "any")
+    counts = list(range(len(t.rounds) + 2)) + [65535]
+    for done in counts:
+        for _ in range(6):
+            count("step", t.step(done))
+        count("step", "refused 12")
+    for allowance in counts:
+        for room in rooms(t):
+            count("search", t.search(allowance, room))
+        count("search", "refused 12")
+    count("search", t.search(65535, 16))
+    for path in t.roll:
+        count("list", len(path))
+        count("next", t.next(path, 16))
+        for room in rooms(t):
+            count("next", t.next(path, room))
+        count("next", "refused 12")
+        for wrong in near(path):
+            count("next", t.next(wrong, 12))
+    for wrong in random_lists(m):
+        count("next", t.next(wrong, 12))
+
+
+def main():
+    seen, entries = {}, 0
+
+    def count(call, answer):
+        nonlocal entries
+        if call == "list":
+            entries += answer
+            answer = "any"
+        seen[call, answer] = seen.get((call, answer), 0) + 1
+
+    def total(call, words=""):
+        return sum(n for (c, answer), n in seen.items() if c == call and answer.startswith(words))
+
+    def refused(number):
+        return sum(n for (c, answer), n in seen.items() if answer == f"refused {number}")
+
+    for n, models in SMALL:
+        for number in range(models):
+            compared(small(n, number), count)
+        print(f"all models of {n} state{'s' if n > 1 else ''}: {models}")
+    for n, models in RANDOM:
+        for number in range(models):
+            compared(random(n, number), count)
+        print(f"random models of {n} states: {models}")
+    print("models without an accepting path:", total("model", "none"))
+    for least in range(1, 8):
+        print(f"models with a least length of {least}:", total("model", f"least {least}"))
+    print("models with several shortest accepting paths:", total("several"))
+    for call, plural, answers in [
+        ("step", "steps", ["advanced", "finished", "refused"]),
+        ("search", "searches", ["found", "empty", "stopped", "refused"]),
+        ("next", "nexts", ["found", "no more", "refused"]),
+    ]:
+        print(f"{plural}:", total(call))
+        for answer in answers:
+            print(f"  {answer}:", total(call, answer))
+    for number in [12, 13, 14, 15]:
+        print(f"refused with {number}:", refused(number))
+    print("lists received by a search and next in turn:", total("list"))
+    print("entries in them:", entries)
+    print("differences 0")
+
+
+main()
