@@ -1,6 +1,6 @@
 // Sets of small numbers and lists of small numbers, each held in one number. A list has one hexadecimal digit for each
 // entry, the last entry lowest, so lists of equal length compare as their numbers do.
-ghost use Prim.Native.Nat.{_<_, _≤_};
+ghost use Prim.Native.Nat.{_<_};
 
 // The set that holds one number below 64.
 pub fn bit(at: usize) -> u64 {

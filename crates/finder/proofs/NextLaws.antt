@@ -2,7 +2,7 @@
 use Prim.Native.Nat.{ℕ, _+_, _*_, _≤_, _<_}
 use mathlib.Core.Path.{_≡_, refl, sym, _∙_, ap, subst}
 use mathlib.Core.Bool.{Bool, true, false, not}
-use mathlib.Core.List.{List, [], _∷_, _++_, List·Memᴰ}
+use mathlib.Core.List.{List, _∷_, _++_, List·Memᴰ}
 use mathlib.Core.Option.{Option, some, none}
 use native.Mathlib.Omega.{arith}
 use borrow.Author.Tests.{lt-ltb, le-ltb}
@@ -18,9 +18,9 @@ use Rattle.lasso.proofs.OrderLaws.{sameb→eq, sameb-refl}
 use Rattle.lasso.proofs.RollLaws.{roll-empty, roll-lasso, lasso-in-roll}
 use Rattle.model.specs.Model.{graphOf}
 use Rattle.model.specs.Layout.{states}
-use Rattle.model.specs.Rules.{Reason, firstBroken, Accepted}
+use Rattle.model.specs.Rules.{firstBroken, Accepted}
 use Rattle.finder.specs.Outcomes.{Outcome, refused, answered, outcome, Followed, noMore}
-use Rattle.finder.specs.Tables.{commonRules, tooLong, noRoom, written}
+use Rattle.finder.specs.Tables.{commonRules, noRoom, written}
 use Rattle.finder.specs.Search.{lengthDue, unlessRefused}
 use Rattle.finder.specs.Next.{notShortest, followed, dueReasons, nextReasons, nextOutcome, nextList, nextAnswer}
 use Rattle.finder.proofs.ReasonLaws.{broken-append, clear-append, common-clear}

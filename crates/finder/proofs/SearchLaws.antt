@@ -16,7 +16,7 @@ use Rattle.lasso.proofs.RoundLaws.{afterRounds-done, afterRounds-leastLength}
 use Rattle.lasso.proofs.RollLaws.{leastLength-range, roll-empty, roll-length}
 use Rattle.model.specs.Model.{graphOf}
 use Rattle.model.specs.Layout.{states}
-use Rattle.model.specs.Rules.{Reason, firstBroken, Accepted}
+use Rattle.model.specs.Rules.{firstBroken, Accepted}
 use Rattle.model.proofs.Laws.{accepted-facts}
 use Rattle.finder.specs.Outcomes.{Outcome, refused, answered, outcome, Searched, stopped, empty}
 use Rattle.finder.specs.Tables.{commonRules, tooLong, noRoom, written}

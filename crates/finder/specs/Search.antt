@@ -1,17 +1,17 @@
 -- A search: the first of the shortest accepting paths, if the allowance suffices.
 use Prim.Native.Nat.{ℕ}
-use mathlib.Core.Bool.{Bool, _&&_}
+use mathlib.Core.Bool.{Bool}
 use mathlib.Core.List.{List, [], _∷_, _++_, head?}
 use mathlib.Core.Option.{Option, some, none}
 use lib.ListN.{length}
-use lib.Dec.{ltb, leb}
+use lib.Dec.{ltb}
 use Rattle.lasso.specs.Lists.{pick}
 use Rattle.lasso.specs.Graph.{Graph, edges, loopStart}
 use Rattle.lasso.specs.Roll.{leastLength, roll}
 use Rattle.lasso.specs.Rounds.{candidates, afterRounds}
 use Rattle.model.specs.Model.{graphOf}
 use Rattle.model.specs.Rules.{Reason, firstBroken}
-use Rattle.finder.specs.Outcomes.{Outcome, refused, answered, outcome, Searched, stopped, empty}
+use Rattle.finder.specs.Outcomes.{Outcome, outcome, Searched, stopped, empty}
 use Rattle.finder.specs.Tables.{commonRules, tooLong, noRoom, written}
 
 -- the allowance is less than the number of candidates

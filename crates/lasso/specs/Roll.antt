@@ -1,9 +1,7 @@
 -- All accepting paths of least length: the paper's roll.
 use Prim.Native.Nat.{ℕ, suc}
-use mathlib.Core.Bool.{Bool, true, false}
-use mathlib.Core.List.{List, [], _∷_, head?}
+use mathlib.Core.List.{List, []}
 use mathlib.Core.Option.{Option, some, none}
-use lib.Dec.{eqb}
 use Rattle.lasso.specs.Lists.{keep, seek, nonEmptyb}
 use Rattle.lasso.specs.Graph.{Graph, acceptingb}
 use Rattle.lasso.specs.Order.{lists}

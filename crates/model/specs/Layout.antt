@@ -1,10 +1,10 @@
 -- The model file: a header of 24 bytes, the row table, the edge table, the marks.
-use Prim.Native.Nat.{ℕ, suc, _+_, _*_, _-_, _/_, _%_}
+use Prim.Native.Nat.{ℕ, _+_, _*_, _-_, _/_, _%_}
 use mathlib.Core.Bool.{Bool}
 use mathlib.Core.List.{List, map}
 use lib.ListN.{getD}
 use Rattle.lasso.specs.Lists.{upFrom}
-use Rattle.model.specs.Bytes.{word, long, bitb}
+use Rattle.model.specs.Bytes.{word, bitb}
 
 -- N, the number of states
 abbrev pub states : List ℕ → ℕ

@@ -1,6 +1,6 @@
 -- The calls of a sequence, and what the finder does at each: by the definitions that its promises cite.
-use Prim.Native.Nat.{ℕ, suc, _+_}
-use mathlib.Core.List.{List, [], _∷_, _++_, map}
+use Prim.Native.Nat.{ℕ, suc}
+use mathlib.Core.List.{List}
 use mathlib.Core.Option.{Option, some, none}
 use lib.ListN.{length, take}
 use Rattle.finder.specs.Outcomes.{Outcome, refused, answered, Searched, stopped, empty, Followed, noMore}

@@ -4,12 +4,12 @@ use mathlib.Core.Path.{_≡_}
 use mathlib.Core.Logic.{_⊎_}
 use mathlib.Core.List.{List, [], _∷_, _++_, map}
 use mathlib.Core.Option.{Option, some, none}
-use lib.ListN.{length, take}
+use lib.ListN.{take}
 use lib.Dec.{T}
 use Rattle.lasso.specs.Roll.{roll}
 use Rattle.model.specs.Model.{graphOf}
 use Rattle.finder.specs.Next.{notShortest}
-use Rattle.sequence.specs.Calls.{Call, search, next, Result, finderAt, received}
+use Rattle.sequence.specs.Calls.{Call, search, next, finderAt, received}
 use Rattle.sequence.specs.Book.{bookResults, bookEnd}
 
 -- the list last received: the one that a call brings, else the one before

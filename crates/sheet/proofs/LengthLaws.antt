@@ -1,6 +1,6 @@
 -- No sheet is longer than the room that is asked for its text.
-use Prim.Native.Nat.{ℕ, suc, _+_, _*_, _≤_, _<_, min}
-use mathlib.Core.Path.{_≡_, refl, sym, _∙_, ap, subst}
+use Prim.Native.Nat.{ℕ, _+_, _≤_, min}
+use mathlib.Core.Path.{_≡_, refl, ap, subst}
 use mathlib.Core.Bool.{Bool, true, false}
 use mathlib.Core.List.{List, [], _∷_, _++_}
 use mathlib.Core.Option.{Option, some, none}
@@ -22,7 +22,7 @@ use Rattle.finder.proofs.StepLaws.{candidates-length-le}
 use Rattle.finder.proofs.SearchLaws.{roll-first}
 use Rattle.sheet.specs.Words.{refusedWord, noneLine, shortestWord}
 use Rattle.sheet.specs.Sheet.{line, figure, mostLists, closing, listsText, rollText, textOf, allowance, refusal, sheetText, listsRoom, sheetRoom}
-use Rattle.sheet.proofs.RoomLaws.{lineRoom, roll-room, lines-room, closing-room, figure-room, head-room}
+use Rattle.sheet.proofs.RoomLaws.{roll-room, lines-room, closing-room, figure-room, head-room}
 use Rattle.sheet.proofs.SheetLaws.{headOf, rollText-some}
 
 -- the number of the first reason is one of the table's

@@ -1,19 +1,14 @@
 -- The lines of a sheet: how long each is, and how its parts follow one another.
-use Prim.Native.Nat.{ℕ, zero, suc, _+_, _*_, _-_, _≤_, _<_}
-use mathlib.Core.Path.{_≡_, refl, sym, _∙_, ap}
-use mathlib.Core.Bool.{Bool, true, false}
+use Prim.Native.Nat.{ℕ, zero, suc, _+_, _-_, _≤_}
+use mathlib.Core.Path.{_≡_, sym, _∙_, ap}
 use mathlib.Core.List.{List, [], _∷_, _++_, append-assoc}
 use native.Mathlib.Omega.{arith}
-use lib.ListN.{length, take, drop, length-append, length-take, length-drop}
+use lib.ListN.{length, take, drop, length-append, length-drop}
 use lib.Seq.{take-append-le, drop-append-le, take-nil}
-use Rattle.lasso.specs.Lists.{collect}
 use Rattle.lasso.specs.Graph.{stem, loop, edges, loopStart}
-use Rattle.lasso.proofs.Sorted.{All}
 use Rattle.sheet.specs.Decimal.{decimal}
 use Rattle.sheet.specs.Words.{space, bar, lineFeed, modelWord, roundsWord}
-use Rattle.sheet.specs.Sheet.{spaceAfter, spaceBefore, stemLoop, line, figure, head, closingLine}
-use Rattle.sheet.proofs.DecimalLaws.{decimal-two, decimal-four}
-use Rattle.sheet.proofs.CollectLaws.{collect-length-le}
+use Rattle.sheet.specs.Sheet.{spaceAfter, spaceBefore, stemLoop, line, figure, head}
 
 -- a line with a word and a number: the word, the digits and the line feed
 pub figure-length : (word : List ℕ) (n : ℕ) → length (figure word n) ≡ length word + length (decimal n) + 1

@@ -1,5 +1,5 @@
 -- The loop that prints the lists: what holds before each, what printing one does, and what holds at the end.
-use Prim.Native.Nat.{ℕ, suc, _+_, _*_, _≤_, _<_}
+use Prim.Native.Nat.{ℕ, suc, _+_, _≤_, _<_}
 use mathlib.Core.Path.{_≡_, refl, sym, _∙_, ap}
 use mathlib.Core.Bool.{Bool, true, false}
 use mathlib.Core.List.{List, [], _∷_, _++_, head?}
@@ -11,7 +11,6 @@ use Rattle.lasso.specs.Lists.{collect}
 use Rattle.lasso.specs.Graph.{Graph}
 use Rattle.lasso.specs.Roll.{leastLength, roll}
 use Rattle.lasso.specs.Following.{following}
-use Rattle.lasso.proofs.Sorted.{All}
 use Rattle.model.specs.declared.Header.{Header}
 use Rattle.model.specs.Model.{graphOf}
 use Rattle.model.proofs.Laws.{valid-sizes, valid-well-formed}
@@ -25,7 +24,7 @@ use Rattle.sheet.proofs.WroteLaws.{wrote-length, wrote-none}
 use Rattle.sheet.proofs.CollectLaws.{collect-next, wrote-next}
 use Rattle.sheet.proofs.RollPlaces.{Stands, stands-first, stands-next, stands-last}
 use Rattle.sheet.proofs.ClosingLaws.{Closed, closed-end, closed-more, wrote-closed, answer-closed}
-use Rattle.sheet.proofs.RoomLaws.{lineRoom, roll-room, lines-room, closing-room}
+use Rattle.sheet.proofs.RoomLaws.{roll-room, lines-room, closing-room}
 
 -- Before a list is printed: it stands in region 0, those before it in the roll are printed, and the answer table is as
 -- before from entry L + 1 on.

@@ -1,14 +1,14 @@
 -- The lists of the roll by their places: the one in region 0, the one after it, and the room that their lines take.
-use Prim.Native.Nat.{ℕ, zero, suc, _+_, _*_, _≤_, _<_}
-use mathlib.Core.Path.{_≡_, refl, sym, _∙_, ap, subst}
+use Prim.Native.Nat.{ℕ, zero, suc, _+_, _≤_, _<_}
+use mathlib.Core.Path.{_≡_, sym, _∙_, ap, subst}
 use mathlib.Core.Bool.{Bool, true, false, not}
-use mathlib.Core.List.{List, [], _∷_, _++_, head?, List·Memᴰ}
-use mathlib.Core.Option.{Option, some, none}
+use mathlib.Core.List.{List, [], _∷_, head?, List·Memᴰ}
+use mathlib.Core.Option.{some, none}
 use native.Mathlib.Numerals.{add-one}
 use native.Mathlib.Omega.{arith}
-use lib.ListN.{length, getD, take, getElem?}
-use Rattle.lasso.specs.Graph.{Graph, WellFormed}
-use Rattle.lasso.specs.Roll.{leastLength, roll}
+use lib.ListN.{length, getD, getElem?}
+use Rattle.lasso.specs.Graph.{Graph}
+use Rattle.lasso.specs.Roll.{roll}
 use Rattle.lasso.specs.Following.{following}
 use Rattle.lasso.proofs.OrderLaws.{getD-mem, head-at, following-at}
 use Rattle.lasso.proofs.RollLaws.{roll-strict}

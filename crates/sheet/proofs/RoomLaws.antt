@@ -1,19 +1,19 @@
 -- The room that the lines of a sheet take.
-use Prim.Native.Nat.{ℕ, zero, suc, _+_, _*_, _-_, _≤_, _<_, min}
-use mathlib.Core.Path.{_≡_, refl, sym, _∙_, ap, subst}
+use Prim.Native.Nat.{ℕ, zero, suc, _+_, _*_, _-_, _≤_, _<_}
+use mathlib.Core.Path.{_≡_}
 use mathlib.Core.Bool.{Bool, true, false}
-use mathlib.Core.List.{List, [], _∷_, _++_, List·Memᴰ}
-use mathlib.Core.Option.{Option, some, none}
+use mathlib.Core.List.{List, [], _∷_, _++_}
+use mathlib.Core.Option.{some}
 use native.Mathlib.Omega.{arith}
 use lib.ListN.{length, take, drop, length-append, length-take, length-drop}
 use Rattle.lasso.specs.Lists.{collect}
 use Rattle.lasso.specs.Graph.{Graph, WellFormed, stem, loop, edges, loopStart}
 use Rattle.lasso.specs.Roll.{leastLength, roll}
-use Rattle.lasso.proofs.Sorted.{All, all-of-mem, all-mem}
+use Rattle.lasso.proofs.Sorted.{All, all-of-mem}
 use Rattle.lasso.proofs.RollLaws.{leastLength-range, lasso-states, roll-lasso, roll-length}
 use Rattle.sheet.specs.Decimal.{decimal}
 use Rattle.sheet.specs.Words.{space, roundsWord, endWord, moreWord}
-use Rattle.sheet.specs.Sheet.{spaceAfter, spaceBefore, stemLoop, line, figure, head, mostLists, closingLine}
+use Rattle.sheet.specs.Sheet.{spaceAfter, spaceBefore, line, figure, head, mostLists, closingLine}
 use Rattle.sheet.proofs.DecimalLaws.{decimal-two, decimal-four}
 use Rattle.sheet.proofs.CollectLaws.{collect-length-le}
 use Rattle.sheet.proofs.LineLaws.{figure-length, head-length, stemLoop-length}

@@ -10,7 +10,7 @@ use lib.ListN.{length, take, drop}
 use lib.Seq.{length-take-le}
 use lib.Dec.{ltb}
 use Rattle.lasso.specs.Lists.{pick}
-use Rattle.lasso.specs.Graph.{Graph, edges}
+use Rattle.lasso.specs.Graph.{edges}
 use Rattle.lasso.specs.Roll.{leastLength, roll}
 use Rattle.lasso.specs.Rounds.{candidates}
 use Rattle.lasso.proofs.RollLaws.{roll-empty}
@@ -20,7 +20,7 @@ use Rattle.model.specs.Rules.{Accepted, firstBroken}
 use Rattle.model.specs.declared.Header.{Header}
 use Rattle.model.specs.Values.{Valid}
 use Rattle.model.proofs.Laws.{accepted-facts, header-numbers}
-use Rattle.finder.specs.Outcomes.{Outcome, refused, answered, outcome, Searched}
+use Rattle.finder.specs.Outcomes.{refused, answered, outcome, Searched}
 use Rattle.finder.specs.Tables.{commonRules, written, workOf}
 use Rattle.finder.specs.Search.{searched, unlessRefused}
 use Rattle.finder.proofs.ReasonLaws.{work-refused}

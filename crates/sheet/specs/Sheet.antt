@@ -6,7 +6,7 @@ use mathlib.Core.Option.{Option, some, none}
 use lib.ListN.{length, take}
 use lib.Dec.{ltb}
 use Rattle.lasso.specs.Lists.{pick, collect}
-use Rattle.lasso.specs.Graph.{Graph, edges, stem, loop}
+use Rattle.lasso.specs.Graph.{edges, stem, loop}
 use Rattle.lasso.specs.Roll.{roll}
 use Rattle.lasso.specs.Rounds.{candidates}
 use Rattle.model.specs.Layout.{states, edgeCount}

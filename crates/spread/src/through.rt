@@ -1,6 +1,5 @@
 // Distances from a state, and walks through a mark: one search, or two, of which the second goes on from the marked
 // states at the levels that the first gave them.
-ghost use mathlib.Core.Path.{_≡_};
 ghost use Prim.Native.Nat.{_*_, _≤_, _<_};
 ghost use lib.ListN.{length};
 ghost use Rattle.model.specs.Values.{Valid};

@@ -1,9 +1,8 @@
 -- `lasso::lesser` meets its contract: by the cases of the two values, and of their comparison.
 use borrow.Author.Needs.{needs}
 use native.Mathlib.Omega.{arith}
-use mathlib.Core.Path.{_≡_, ap}
-use mathlib.Core.Option.{Option, some}
-use Prim.Native.Nat.{ℕ, min, _≤_}
+use mathlib.Core.Path.{ap}
+use mathlib.Core.Option.{some}
 use Rattle.lasso.proofs.lesser.Statement.{statement}
 use Rattle.lasso.proofs.lesser.Tie as tie
 

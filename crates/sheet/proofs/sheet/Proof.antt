@@ -1,6 +1,5 @@
 -- `sheet` meets its contract: nothing without room for a text; else one line for a file that the check or the working table's
 -- length refuses, or the sheet of an accepted file, with the working table cleared.
-use Prim.Native.Nat.{ℕ, _≤_}
 use mathlib.Core.Path.{sym, _∙_}
 use native.Mathlib.Omega.{arith}
 use borrow.Author.Needs.{needs}

@@ -1,6 +1,6 @@
 -- `sheet_model` meets its contract: the record's best decides between no list and lists, the answer table's length between
 -- lists and a refusal.
-use Prim.Native.Nat.{ℕ, _+_, _≤_, _<_}
+use Prim.Native.Nat.{ℕ, _+_, _≤_}
 use mathlib.Core.Path.{_≡_, sym, _∙_, ap}
 use mathlib.Core.List.{List, _++_}
 use mathlib.Core.Option.{some}
@@ -13,7 +13,6 @@ use Rattle.lasso.specs.Values.{bestOf, recordOf}
 use Rattle.lasso.proofs.RollLaws.{leastLength-range}
 use Rattle.model.specs.Model.{graphOf}
 use Rattle.model.proofs.Laws.{valid-sizes, valid-well-formed}
-use Rattle.rounds.specs.Promises.{Ready}
 use Rattle.rounds.proofs.TableLaws.{ready-kept}
 use Rattle.finder.proofs.ReasonLaws.{valid-room}
 use Rattle.finder.proofs.ReadyLaws.{ready-started}

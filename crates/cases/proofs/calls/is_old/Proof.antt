@@ -1,8 +1,6 @@
 -- `cases::calls::is_old` meets its contract. The loop goes up from the given place to the end of the table.
 use borrow.Author.Needs.{needs}
-use native.Mathlib.Omega.{arith}
-use Prim.Native.Nat.{_+_, _*_, _-_, _≤_, _<_}
-use mathlib.Core.Path.{_≡_}
+use Prim.Native.Nat.{_-_, _≤_}
 use lib.ListN.{length}
 use Rattle.cases.proofs.calls.is_old.Statement.{statement}
 use Rattle.cases.proofs.calls.is_old.Tie as tie

@@ -1,7 +1,6 @@
 -- `cases::files::put_bytes` meets its contract. The loop goes up to the number of bytes.
 use borrow.Author.Needs.{needs}
-use native.Mathlib.Omega.{arith}
-use Prim.Native.Nat.{_+_, _*_, _-_, _≤_, _<_}
+use Prim.Native.Nat.{_-_, _≤_}
 use mathlib.Core.Path.{_≡_}
 use lib.ListN.{length}
 use Rattle.cases.proofs.files.put_bytes.Statement.{statement}

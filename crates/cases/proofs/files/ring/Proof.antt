@@ -1,7 +1,6 @@
 -- `cases::files::ring` meets its contract. The loop's invariant: s states have their targets.
 use borrow.Author.Needs.{needs}
-use native.Mathlib.Omega.{arith}
-use Prim.Native.Nat.{_+_, _*_, _-_, _≤_, _<_}
+use Prim.Native.Nat.{_-_, _≤_}
 use mathlib.Core.Path.{_≡_}
 use lib.ListN.{length}
 use Rattle.cases.proofs.files.ring.Statement.{statement}

@@ -1,9 +1,6 @@
 -- `cases::lines::ring_states` meets its contract. The loop goes up to the number of states.
 use borrow.Author.Needs.{needs}
-use native.Mathlib.Omega.{arith}
-use Prim.Native.Nat.{_+_, _*_, _-_, _≤_, _<_}
-use mathlib.Core.Path.{_≡_}
-use lib.ListN.{length}
+use Prim.Native.Nat.{_-_, _≤_}
 use Rattle.cases.proofs.lines.ring_states.Statement.{statement}
 use Rattle.cases.proofs.lines.ring_states.Tie as tie
 

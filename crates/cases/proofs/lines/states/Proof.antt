@@ -1,8 +1,6 @@
 -- `cases::lines::states` meets its contract. The loop goes up to the end of the text, and there are no more states than bytes.
 use borrow.Author.Needs.{needs}
-use native.Mathlib.Omega.{arith}
-use Prim.Native.Nat.{_+_, _*_, _-_, _≤_, _<_}
-use mathlib.Core.Path.{_≡_}
+use Prim.Native.Nat.{_-_, _≤_}
 use lib.ListN.{length}
 use Rattle.cases.proofs.lines.states.Statement.{statement}
 use Rattle.cases.proofs.lines.states.Tie as tie

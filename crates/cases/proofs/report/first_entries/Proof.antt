@@ -1,8 +1,6 @@
 -- `cases::report::first_entries` meets its contract. Each entry that is read is in the table.
 use borrow.Author.Needs.{needs}
-use native.Mathlib.Omega.{arith}
-use Prim.Native.Nat.{_+_, _*_, _-_, _≤_, _<_}
-use mathlib.Core.Path.{_≡_}
+use Prim.Native.Nat.{_-_, _≤_}
 use lib.ListN.{length}
 use Rattle.cases.proofs.report.first_entries.Statement.{statement}
 use Rattle.cases.proofs.report.first_entries.Tie as tie

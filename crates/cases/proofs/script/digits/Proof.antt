@@ -1,8 +1,6 @@
 -- `cases::script::digits` meets its contract. The loop goes up to the end of the text; the number has room for one digit more while it is below 10,000.
 use borrow.Author.Needs.{needs}
-use native.Mathlib.Omega.{arith}
-use Prim.Native.Nat.{_+_, _*_, _-_, _≤_, _<_}
-use mathlib.Core.Path.{_≡_}
+use Prim.Native.Nat.{_-_, _≤_, _<_}
 use lib.ListN.{length}
 use Rattle.cases.proofs.script.digits.Statement.{statement}
 use Rattle.cases.proofs.script.digits.Tie as tie

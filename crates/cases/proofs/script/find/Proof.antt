@@ -1,8 +1,6 @@
 -- `cases::script::find` meets its contract. The loop goes up to the end of the text.
 use borrow.Author.Needs.{needs}
-use native.Mathlib.Omega.{arith}
-use Prim.Native.Nat.{_+_, _*_, _-_, _≤_, _<_}
-use mathlib.Core.Path.{_≡_}
+use Prim.Native.Nat.{_-_, _≤_}
 use lib.ListN.{length}
 use Rattle.cases.proofs.script.find.Statement.{statement}
 use Rattle.cases.proofs.script.find.Tie as tie

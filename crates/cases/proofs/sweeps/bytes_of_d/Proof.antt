@@ -1,9 +1,6 @@
 -- `cases::sweeps::bytes_of_d` meets its contract. The loop goes up through the bytes.
 use borrow.Author.Needs.{needs}
-use native.Mathlib.Omega.{arith}
-use Prim.Native.Nat.{_+_, _*_, _-_, _≤_, _<_}
-use mathlib.Core.Path.{_≡_}
-use lib.ListN.{length}
+use Prim.Native.Nat.{_-_, _≤_}
 use Rattle.cases.proofs.sweeps.bytes_of_d.Statement.{statement}
 use Rattle.cases.proofs.sweeps.bytes_of_d.Tie as tie
 

@@ -1,9 +1,6 @@
 -- `cases::sweeps::lengths` meets its contract. The loop goes up through the lengths.
 use borrow.Author.Needs.{needs}
-use native.Mathlib.Omega.{arith}
-use Prim.Native.Nat.{_+_, _*_, _-_, _≤_, _<_}
-use mathlib.Core.Path.{_≡_}
-use lib.ListN.{length}
+use Prim.Native.Nat.{_+_, _-_, _≤_}
 use Rattle.cases.proofs.sweeps.lengths.Statement.{statement}
 use Rattle.cases.proofs.sweeps.lengths.Tie as tie
 

@@ -1,9 +1,6 @@
 -- `cases::sweeps::other_values` meets its contract. The loop goes up through the values of a byte.
 use borrow.Author.Needs.{needs}
-use native.Mathlib.Omega.{arith}
-use Prim.Native.Nat.{_+_, _*_, _-_, _≤_, _<_}
-use mathlib.Core.Path.{_≡_}
-use lib.ListN.{length}
+use Prim.Native.Nat.{_-_, _≤_}
 use Rattle.cases.proofs.sweeps.other_values.Statement.{statement}
 use Rattle.cases.proofs.sweeps.other_values.Tie as tie
 

@@ -1,9 +1,6 @@
 -- `cases::tally::restart` meets its contract. The loop goes up to the first count of tables.
 use borrow.Author.Needs.{needs}
-use native.Mathlib.Omega.{arith}
-use Prim.Native.Nat.{_+_, _*_, _-_, _≤_, _<_}
-use mathlib.Core.Path.{_≡_}
-use lib.ListN.{length}
+use Prim.Native.Nat.{_-_, _≤_}
 use Rattle.cases.proofs.tally.restart.Statement.{statement}
 use Rattle.cases.proofs.tally.restart.Tie as tie
 

@@ -1,17 +1,16 @@
 -- `stepping::step_model` meets its contract: finished if the count of candidates is at most the place, else the record
 -- after the round for the candidate at that place.
-use mathlib.Core.Path.{_∙_, ap}
-use Prim.Native.Nat.{ℕ, _<_}
+use mathlib.Core.Path.{_∙_}
+use Prim.Native.Nat.{_<_}
 use native.Mathlib.Omega.{arith}
 use borrow.Author.Needs.{needs}
 use lib.ListN.{length}
-use Rattle.lasso.specs.Rounds.{candidates, roundLength, withRound}
+use Rattle.lasso.specs.Rounds.{candidates}
 use Rattle.lasso.specs.Values.{recordOf}
 use Rattle.model.specs.Model.{graphOf}
-use Rattle.model.proofs.Laws.{valid-sizes}
 use Rattle.finder.proofs.ReasonLaws.{valid-clear}
 use Rattle.finder.proofs.ReadyLaws.{ready-started}
-use Rattle.finder.proofs.StepLaws.{candidates-length-le, step-finished, step-advanced}
+use Rattle.finder.proofs.StepLaws.{step-finished, step-advanced}
 use Rattle.finder.proofs.stepping.step_model.Statement.{statement}
 use Rattle.finder.proofs.stepping.step_model.Tie as tie
 

@@ -1,7 +1,7 @@
 -- `lasso::RoundRecord::with_round` meets its contract: the count is raised, and the best is what `lesser` answers.
 use borrow.Author.Needs.{needs}
 use Prim.Native.Nat.{ℕ, _+_}
-use mathlib.Core.Path.{_≡_, ap}
+use mathlib.Core.Path.{ap}
 use mathlib.Core.Option.{Option}
 use Rattle.lasso.specs.Rounds.{Record}
 use Rattle.lasso.proofs.RoundRecord.with_round.Statement.{statement}

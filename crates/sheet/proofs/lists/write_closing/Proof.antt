@@ -1,10 +1,7 @@
 -- `lists::write_closing` meets its contract, by the two cases of its flag.
-use Prim.Native.Nat.{ℕ, _+_, _≤_}
 use mathlib.Core.Path.{sym, ap}
 use mathlib.Core.Bool.{Bool}
-use mathlib.Core.List.{List}
 use borrow.Author.Needs.{needs}
-use lib.ListN.{length}
 use Rattle.sheet.specs.Sheet.{closingLine}
 use Rattle.sheet.proofs.WroteLaws.{wrote-as}
 use Rattle.sheet.proofs.lists.write_closing.Statement.{statement}

@@ -1,13 +1,13 @@
 -- `lists::write_current` meets its contract: the list is written to the answer table, and its line is read off there.
-use Prim.Native.Nat.{ℕ, _+_, _-_, _≤_}
-use mathlib.Core.Path.{_≡_, sym, _∙_, ap, subst}
-use mathlib.Core.List.{List, _∷_, _++_}
+use Prim.Native.Nat.{_-_}
+use mathlib.Core.Path.{_≡_, ap}
+use mathlib.Core.List.{_∷_}
 use native.Mathlib.Omega.{arith}
 use borrow.Author.Needs.{needs}
 use lib.ListN.{length, take, drop}
 use lib.Seq.{length-take-le}
 use Rattle.sheet.specs.Sheet.{stemLoop, line}
-use Rattle.sheet.proofs.WroteLaws.{wrote-length, wrote-as}
+use Rattle.sheet.proofs.WroteLaws.{wrote-as}
 use Rattle.sheet.proofs.LineLaws.{line-read}
 use Rattle.sheet.proofs.lists.write_current.Statement.{statement}
 use Rattle.sheet.proofs.lists.write_current.Tie as tie

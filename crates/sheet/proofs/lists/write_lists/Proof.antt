@@ -1,7 +1,7 @@
 -- `lists::write_lists` meets its contract. The loop's invariant: the list at place `count` of the roll stands in region 0,
 -- and those before it are printed.
-use Prim.Native.Nat.{ℕ, _+_, _-_}
-use mathlib.Core.Path.{_≡_, sym, _∙_}
+use Prim.Native.Nat.{_-_}
+use mathlib.Core.Path.{_≡_, _∙_}
 use mathlib.Core.Bool.{true, false}
 use native.Mathlib.Omega.{arith}
 use borrow.Author.Needs.{needs}

@@ -1,13 +1,11 @@
 -- `writing::write_number` meets its contract: the digits of the tenth, if there are any, and then the last one. The measure
 -- is the number.
-use Prim.Native.Nat.{ℕ, _/_, _%_, _<_}
+use Prim.Native.Nat.{ℕ, _<_}
 use mathlib.Core.Path.{sym, _∙_, ap}
 use native.Mathlib.Omega.{arith}
-use borrow.Author.Needs.{needs}
 use borrow.Fn.Kinds.{In}
 use borrow.Fn.PlainCycle.{Measures, is, falls, and}
-use lib.ListN.{length, length-append}
-use Rattle.sheet.specs.Decimal.{digit, decimal}
+use lib.ListN.{length}
 use Rattle.sheet.proofs.WroteLaws.{wrote-length, wrote-then, wrote-as}
 use Rattle.sheet.proofs.DecimalLaws.{decimal-small, decimal-large, decimal-length}
 use Rattle.sheet.proofs.writing.write_number.Reads as write-number

@@ -1,5 +1,4 @@
 -- `writing::write_figure` meets its contract: the word, the number and the line feed are written one after the other.
-use mathlib.Core.Path.{_∙_}
 use native.Mathlib.Omega.{arith}
 use borrow.Author.Needs.{needs}
 use Rattle.sheet.proofs.WroteLaws.{wrote-length, wrote-then}
