@@ -1,0 +1,94 @@
+-- A script that lends no list of its own asks for a sequence as the book takes it, whatever the file answers: before a list
+-- was received the copy is empty, and the empty list is no shortest accepting path.
+use Prim.Native.Nat.{ℕ, zero, suc, _/_}
+use mathlib.Core.Path.{_≡_, refl, sym, subst}
+use mathlib.Core.Logic.{⊎-elim, inl, inr}
+use mathlib.Core.Bool.{Bool, true, false, not, _&&_}
+use mathlib.Core.List.{List, [], map}
+use mathlib.Core.Option.{Option, some, none}
+use native.Mathlib.Omega.{arith}
+use borrow.Author.Tests.{eqb-false}
+use lib.ListN.{drop}
+use lib.Dec.{T, eqb}
+use Rattle.lasso.specs.Lists.{pick}
+use Rattle.lasso.specs.Graph.{Graph}
+use Rattle.lasso.proofs.Tests.{fst, snd, T-false, eq-or-apart}
+use Rattle.model.specs.Model.{graphOf}
+use Rattle.model.specs.Rules.{Accepted}
+use Rattle.finder.specs.Next.{notShortest}
+use Rattle.finder.proofs.NextLaws.{notShortest-apart}
+use Rattle.sequence.specs.Calls.{Call, next, Result, finderAt, received}
+use Rattle.sequence.specs.Book.{bookResults}
+use Rattle.sequence.specs.Claim.{lastReceived, Lent, Proper}
+use Rattle.sequence.proofs.Places.{roll-entries}
+use Rattle.sequence.proofs.Sequence.{condition-3}
+use Rattle.player.specs.Script.{action, commandLength, overb, callOf, keepCopy, callsOf, played, copiesb}
+use Rattle.player.proofs.ScriptLaws.{action-known, call-search, call-copy, calls-over, calls-more}
+
+-- the empty list is no shortest accepting path
+empty-refused : (g : Graph) → T (notShortest g [])
+empty-refused g = rw (notShortest-apart g [] (λ m. omega (arith, roll-entries g [] m))) tt
+
+-- the copy that the player lends is the copy last received, or empty
+abbrev lentCopy : Option (List ℕ) → List ℕ
+lentCopy o = keepCopy o []
+
+-- a next with that copy is proper
+copy-lent : (f : List ℕ) (o : Option (List ℕ)) (a w : List ℕ) → Lent f o (next (lentCopy o) a w)
+copy-lent f none a w = inr (empty-refused (graphOf f))
+copy-lent f (some xs) a w = inl refl
+
+-- the copy after a call is the list last received then
+copy-after : (got o : Option (List ℕ)) → keepCopy got (lentCopy o) ≡ lentCopy (lastReceived got o)
+copy-after none o = refl
+copy-after (some xs) o = refl
+
+-- a command that lends no list of its own asks for a proper call
+call-lent : (f s : List ℕ) (o : Option (List ℕ)) (a w : List ℕ) → overb s ≡ false → T (not (eqb (action s) 2))
+    → Lent f o (callOf s (lentCopy o) a w)
+call-lent f s o a w e t =
+    let apart : action s ≡ 2 → ⊥ = eqb-false (action s) 2 (T-false (eqb (action s) 2) t) in
+    elim (eq-or-apart (action s) 0) [
+      | inl z ↦ subst (λ (c : Call). Lent f o c) (call-search s (lentCopy o) a w z) tt
+      | inr d ↦
+          let some-action : action s ≡ 0 → ⊥ = λ z. ⊎-elim (λ l. omega arith) (λ l. omega arith) d in
+          let one : action s ≡ 1 = elim (eq-or-apart (action s) 1) [
+            | inl q ↦ q
+            | inr q ↦ absurd (⊎-elim (λ l. some-action (omega arith)) (λ l. apart (omega (arith, action-known s e))) q)
+          ] in
+          subst (λ (c : Call). Lent f o c) (call-copy s (lentCopy o) a w some-action one) (copy-lent f o a w)
+    ]
+
+-- one command, where what is left of the script asks for a proper sequence
+command-proper : (f : List ℕ) (room : ℕ) (s : List ℕ) (o : Option (List ℕ)) (a w : List ℕ)
+    → ((s' : List ℕ) (o' : Option (List ℕ)) (a' w' : List ℕ) → T (copiesb room s') → Proper f o' (callsOf f room s' (lentCopy o') a' w'))
+    → T (copiesb (suc room) s) → (b : Bool) → overb s ≡ b → Proper f o (callsOf f (suc room) s (lentCopy o) a w)
+command-proper f room s o a w later t true e =
+    subst (λ (cs : List Call). Proper f o cs) (sym (calls-over f s (lentCopy o) a w (suc room) e)) tt
+command-proper f room s o a w later t false e =
+    let r : Result = finderAt f (callOf s (lentCopy o) a w) in
+    let rest : List ℕ = drop (commandLength s) s in
+    let both : T (not (eqb (action s) 2) && copiesb room rest)
+    = subst (λ (b : Bool). T (pick b true (not (eqb (action s) 2) && copiesb room rest))) e t in
+    let last : Option (List ℕ) = lastReceived (received r) o in
+    let others : Proper f last (callsOf f room rest (keepCopy (received r) (lentCopy o)) (r .table) (r .work))
+    = subst (λ (copy : List ℕ). Proper f last (callsOf f room rest copy (r .table) (r .work))) (sym (copy-after (received r) o))
+    (later rest last (r .table) (r .work) (snd (not (eqb (action s) 2)) (copiesb room rest) both)) in
+    subst (λ (cs : List Call). Proper f o cs) (sym (calls-more f s (lentCopy o) a w room e))
+    (call-lent f s o a w e (fst (not (eqb (action s) 2)) (copiesb room rest) both), others)
+
+-- a script that lends no list of its own asks for a proper sequence
+copies-proper : (f : List ℕ) (room : ℕ) (s : List ℕ) (o : Option (List ℕ)) (a w : List ℕ) → T (copiesb room s)
+    → Proper f o (callsOf f room s (lentCopy o) a w)
+copies-proper f zero s o a w t = tt
+copies-proper f (suc room) s o a w t =
+    command-proper f room s o a w (λ s' o' a' w' t'. copies-proper f room s' o' a' w' t') t (overb s) refl
+
+-- what is played of such a script is a sequence as the book takes it
+pub played-proper : (f s a w : List ℕ) (log : ℕ) → T (copiesb (log / 4) s) → Proper f none (played f s a w log)
+played-proper f s a w log t = copies-proper f (log / 4) s none a w t
+
+-- so its results on an accepted file are the book's
+pub played-book : (f s a w : List ℕ) (log : ℕ) → Accepted f → T (copiesb (log / 4) s)
+    → map (finderAt f) (played f s a w log) ≡ bookResults f 0 (played f s a w log)
+played-book f s a w log accepted t = condition-3 f accepted (played f s a w log) (played-proper f s a w log t) .results

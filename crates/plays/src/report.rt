@@ -1,0 +1,205 @@
+// Prints the calls of a script: each with its answer, and with the list that it brings.
+ghost use Prim.Native.Nat.{_+_, _≤_, _<_};
+ghost use lib.ListN.{length};
+use libc::STDOUT_FILENO;
+use player::command_size;
+use player::play;
+use table::get;
+use table::put;
+
+// Prints some text.
+pub fn text(words: &[u8]) {
+    io::write_all(STDOUT_FILENO, words);
+}
+
+// Prints a space and a number.
+fn number(value: usize) {
+    text(b" ");
+    io::print_decimal(STDOUT_FILENO, value as u64);
+}
+
+// Prints a line of its own.
+pub fn title(words: &[u8]) {
+    text(words);
+    text(b"\n");
+}
+
+// The entry at a place, 0 behind the end.
+fn entry(table: &[u16], at: usize) -> usize
+    ensures { λ r. ⌜ r < 65536 ⌝ }
+{
+    if at < table.len() {
+        return get(table, at);
+    }
+    0
+}
+
+// Fills a table with nines, so that it shows what is written.
+fn dirty(table: &mut [u16]) {
+    let mut i = 0;
+    while i < table.len() {
+        put(table, i, 9);
+        i += 1;
+    }
+}
+
+// Prints the entries of a table from one place up to another.
+fn entries(table: &[u16], from: usize, to: usize) {
+    let mut i = from;
+    while i < to {
+        number(entry(table, i));
+        i += 1;
+    }
+}
+
+// All entries of a table are zero.
+fn all_zero(table: &[u16]) -> bool {
+    let mut i = 0;
+    while i < table.len() {
+        if get(table, i) != 0 {
+            return false;
+        }
+        i += 1;
+    }
+    true
+}
+
+// How many numbers the command at a place of a script has, 0 if the script is over there.
+fn size_at(script: &[u16], at: usize) -> usize
+    requires { ⌜ at ≤ length (now script) ⌝ }
+    ensures { λ r. ⌜ at + r ≤ length (now (script .entry)) ⌝ }
+{
+    command_size(&script[at..])
+}
+
+// Prints what the command at a place of a script asks for.
+fn show_command(script: &[u16], at: usize, size: usize)
+    requires { ⌜ at + size ≤ length (now script) ⌝ }
+{
+    let action = entry(script, at);
+    if action == 0 {
+        text(b"search");
+        number(entry(script, at + 1));
+        return;
+    }
+    if action == 1 {
+        text(b"next with the copy");
+        return;
+    }
+    text(b"next with");
+    entries(script, at + 2, at + size);
+}
+
+// Prints the figures of a search that was stopped: the rounds done, and the best length.
+fn show_stopped(done: usize, has_best: usize, best: usize) {
+    text(b": stopped");
+    number(done);
+    if has_best == 0 {
+        text(b" none");
+        return;
+    }
+    number(best);
+}
+
+// Prints the figures of "found", where a search has one more than a next, and the list in the answer table.
+fn show_found(log: &[u16], place: usize, action: usize, answer: &[u16])
+    requires { ⌜ place + 4 ≤ length (now log) ⌝ }
+{
+    let l = entry(log, place + 1);
+    text(b": found");
+    entries(log, place + 1, place + 3);
+    if action == 0 {
+        number(entry(log, place + 3));
+    }
+    text(b", list");
+    entries(answer, 0, l + 1);
+}
+
+// Prints one word and a figure.
+fn show_figure(word: &[u8], figure: usize) {
+    text(word);
+    number(figure);
+}
+
+// Prints the answer whose four numbers stand at a place of the log.
+fn show_row(log: &[u16], place: usize, action: usize, answer: &[u16])
+    requires { ⌜ place + 4 ≤ length (now log) ⌝ }
+{
+    let kind = entry(log, place);
+    let first = entry(log, place + 1);
+    if kind == 0 {
+        return show_figure(b": refused", first);
+    }
+    if kind == 1 {
+        return show_stopped(first, entry(log, place + 2), entry(log, place + 3));
+    }
+    if kind == 2 {
+        return show_found(log, place, action, answer);
+    }
+    if kind == 3 {
+        return show_figure(b": empty", first);
+    }
+    text(b": no more");
+}
+
+// Prints the line of a call: its command in the script, its answer in the log, and its list in the answer table.
+fn show_call(script: &[u16], at: usize, size: usize, log: &[u16], place: usize, answer: &[u16])
+    requires { ⌜ at + size ≤ length (now script) ⌝ }
+    requires { ⌜ place + 4 ≤ length (now log) ⌝ }
+{
+    show_command(script, at, size);
+    let action = entry(script, at);
+    show_row(log, place, action, answer);
+    text(b"\n");
+}
+
+// Plays a script with room for some calls, in tables full of nines.
+fn replay(file: &[u8], script: &[u16], answer: &mut [u16], work: &mut [u16], log: &mut [u16]) {
+    dirty(answer);
+    dirty(work);
+    dirty(log);
+    play(file, script, answer, work, log);
+}
+
+// Prints whether the working table is all zero, and ends the line.
+fn show_work(work: &[u16]) {
+    if all_zero(work) {
+        text(b", working table all zero\n");
+        return;
+    }
+    text(b", working table not all zero\n");
+}
+
+// Prints the calls of a script. It is played anew up to each call, so that the answer table holds the list that the call
+// brings.
+fn show_calls(file: &[u8], script: &[u16], answer: &mut [u16], work: &mut [u16], log: &mut [u16]) {
+    let mut at = 0;
+    let mut place = 0;
+    while place + 4 <= log.len() {
+        let size = size_at(script, at);
+        if size == 0 {
+            return;
+        }
+        let end = place + 4;
+        replay(file, script, answer, work, &mut log[..end]);
+        show_call(script, at, size, log, place, answer);
+        at += size;
+        place += 4;
+    }
+}
+
+// Prints the calls of a script, and what all of them leave in the tables.
+pub fn show(file: &[u8], script: &[u16], answer: &mut [u16], work: &mut [u16], log: &mut [u16]) {
+    show_calls(file, script, answer, work, log);
+    replay(file, script, answer, work, log);
+    text(b"in all: answer table");
+    entries(answer, 0, answer.len());
+    show_work(work);
+}
+
+// Prints the entries of a table from a place on.
+pub fn show_rest(words: &[u8], table: &[u16], from: usize) {
+    text(words);
+    entries(table, from, table.len());
+    text(b"\n");
+}
