@@ -1,16 +1,22 @@
 -- Laws of the search's loops: the state after the plan, while one state's successors are looked at, and after a level.
 use Prim.Native.Nat.{ℕ, suc, _+_, _*_, _≤_, _<_}
-use mathlib.Core.Path.{_≡_, sym, _∙_}
+use mathlib.Core.Path.{_≡_, sym, _∙_, ap}
 use mathlib.Core.Logic.{inl, inr}
 use mathlib.Core.List.{List}
 use native.Mathlib.Omega.{arith}
 use lib.ListN.{length, getD}
 use Rattle.lasso.proofs.Tests.{lt-or-ge, memb-at, at-memb}
-use Rattle.spread.specs.Regions.{entry}
+use Rattle.spread.specs.Regions.{entry, queued}
 use Rattle.spread.specs.Promises.{sources}
 use Rattle.spread.specs.Buckets.{Planned}
 use Rattle.spread.specs.Search.{Hit, step, ReachedBy, State, Reached}
 use Rattle.spread.proofs.PushLaws.{reach-state, reach-kept, reach-queue, reach-here}
+
+-- a place of region 3 holds the queue's state after those before it
+pub queued-entry : (n place : ℕ) (w : List ℕ) → 3 * n ≤ place → getD w place 0 ≡ entry 3 n w (queued n place)
+queued-entry n place w l =
+    let q : place ≡ 3 * n + queued n place = omega arith in
+    ap (λ (i : ℕ). getD w i 0) q
 
 -- after the plan nothing is reached and the queue is empty
 pub planned-state : {n limit target : ℕ} {succs : ℕ → List ℕ} {w₀ w : List ℕ} → limit ≤ n → 6 * n ≤ length w₀ → Planned n limit w₀ w → State n succs limit target w₀ 0 0 0 0 w
@@ -97,8 +103,8 @@ module _ {n limit target at end count s k : ℕ} {succs : ℕ → List ℕ} {w�
       }
 
   -- all successors have been looked at
-  pub row-done : length (succs s) ≤ k → State n succs limit target w₀ (level + 1) (at + 1) end count w
-  row-done l =
+  pub row-done : {next : ℕ} → next ≡ at + 1 → length (succs s) ≤ k → State n succs limit target w₀ (level + 1) next end count w
+  row-done e l =
       let S = R .state in
       record {
         limited = S .limited;

@@ -1,5 +1,5 @@
 -- The regions of the working table, and what an entry stands for.
-use Prim.Native.Nat.{ℕ, zero, suc, _+_, _*_}
+use Prim.Native.Nat.{ℕ, zero, suc, _+_, _*_, _-_}
 use mathlib.Core.List.{List}
 use mathlib.Core.Option.{Option, some, none}
 use lib.ListN.{getD}
@@ -17,3 +17,7 @@ valueOf (suc v) = some v
 abbrev pub entryOf : Option ℕ → ℕ
 entryOf none = 0
 entryOf (some v) = suc v
+
+-- the number of places of region 3 before a place of the table: the number of states in a queue that ends there
+abbrev pub queued : ℕ → ℕ → ℕ
+queued n place = place - 3 * n

@@ -7,7 +7,7 @@ ghost use Prim.Native.Nat.{_+_, _*_, _≤_, _<_};
 ghost use lib.ListN.{length};
 ghost use Rattle.model.specs.Values.{Valid};
 ghost use Rattle.model.specs.Model.{graphOf};
-ghost use Rattle.spread.specs.Regions.{entry};
+ghost use Rattle.spread.specs.Regions.{entry, queued};
 ghost use Rattle.spread.specs.Promises.{Spread};
 ghost use Rattle.spread.specs.Buckets.{withSource, Planned};
 ghost use Rattle.spread.specs.Search.{Reached, Ready, Admitted};
@@ -66,41 +66,47 @@ fn plan(work: &mut [u16], n: usize, limit: usize)
     }
 }
 
-// Marks a state with its level and queues it, unless it was reached before; answers the number of states reached.
-fn reach(work: &mut [u16], n: usize, t: usize, level: usize, count: usize) -> usize
+// Marks a state with its level and puts it at the end of the queue, unless it was reached before. The end of the queue is
+// a place of the table; answers the end afterwards.
+fn reach(work: &mut [u16], n: usize, t: usize, level: usize, tail: usize) -> usize
     requires { ⌜ n ≤ 4096 ⌝ }
     requires { ⌜ t < n ⌝ }
     requires { ⌜ level ≤ n ⌝ }
     requires { ⌜ 6 * n ≤ length (now work) ⌝ }
-    requires { ⌜ (entry 2 n (now work) t ≡ 0 → count < n) ⌝ }
-    ensures { λ r. ⌜ Reached n t (level + 1) count (now (work .entry)) (now (work .exit)) r ⌝ }
+    requires { ⌜ 3 * n ≤ tail ⌝ }
+    requires { ⌜ (entry 2 n (now work) t ≡ 0 → queued n tail < n) ⌝ }
+    ensures change { λ r. ⌜ Reached n t (level + 1) (queued n tail) (now (work .entry)) (now (work .exit)) (queued n r) ⌝ }
+    ensures grows { λ r. ⌜ tail ≤ r ⌝ }
 {
     if get(work, 2 * n + t) != 0 {
-        return count;
+        return tail;
     }
     put(work, 2 * n + t, level + 1);
-    put(work, 3 * n + count, t);
-    count + 1
+    put(work, tail, t);
+    tail + 1
 }
 
-// Reaches the sources of a level; answers the number of states reached.
-fn admit(work: &mut [u16], n: usize, level: usize, count: usize) -> usize
+// Reaches the sources of a level; answers the end of the queue afterwards.
+fn admit(work: &mut [u16], n: usize, level: usize, tail: usize) -> usize
     requires { ⌜ n ≤ 4096 ⌝ }
-    requires { ⌜ Ready n level count (now work) ⌝ }
-    ensures { λ r. ⌜ Admitted n level count (now (work .entry)) (now (work .exit)) r ⌝ }
+    requires { ⌜ 3 * n ≤ tail ⌝ }
+    requires { ⌜ Ready n level (queued n tail) (now work) ⌝ }
+    ensures change { λ r. ⌜ Admitted n level (queued n tail) (now (work .entry)) (now (work .exit)) (queued n r) ⌝ }
+    ensures grows { λ r. ⌜ tail ≤ r ⌝ }
 {
     let mut cursor = get(work, 4 * n + level);
-    let mut reached = count;
+    let mut end = tail;
     while 0 < cursor {
         let s = cursor - 1;
-        reached = reach(work, n, s, level, reached);
+        end = reach(work, n, s, level, end);
         cursor = get(work, 5 * n + s);
     }
-    reached
+    end
 }
 
 // Searches from the sources whose start levels stand in region 2, level by level below the limit, and leaves all loops
-// at the first edge into the target.
+// at the first edge into the target. `at`, `end` and `tail` are places of the table, in region 3: a new state is put at
+// `tail` with no sum to compute.
 pub fn spread(file: &[u8], h: Header, work: &mut [u16], limit: usize, target: usize) -> Answer
     requires { ⌜ Valid (now file) h ⌝ }
     requires { ⌜ limit ≤ h .states ⌝ }
@@ -109,17 +115,19 @@ pub fn spread(file: &[u8], h: Header, work: &mut [u16], limit: usize, target: us
 {
     let n = h.states;
     plan(work, n, limit);
+    let queue = 3 * n;
     let mut level = 0;
-    let mut at = 0;
-    let mut count = 0;
+    let mut at = queue;
+    let mut tail = queue;
     'levels: loop {
         if limit <= level {
+            let count = tail - queue;
             return Answer::Nothing(count);
         }
-        count = admit(work, n, level, count);
-        let end = count;
+        tail = admit(work, n, level, tail);
+        let end = tail;
         while at < end {
-            let s = get(work, 3 * n + at);
+            let s = get(work, at);
             let part = row_part(file, h, s);
             let d = degree(part);
             let mut k = 0;
@@ -128,7 +136,7 @@ pub fn spread(file: &[u8], h: Header, work: &mut [u16], limit: usize, target: us
                 if t == target {
                     break 'levels;
                 }
-                count = reach(work, n, t, level + 1, count);
+                tail = reach(work, n, t, level + 1, tail);
                 k += 1;
             }
             at += 1;

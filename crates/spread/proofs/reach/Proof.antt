@@ -4,7 +4,7 @@ use Prim.Native.Nat.{ℕ, _+_, _*_, _<_}
 use mathlib.Core.Path.{_≡_, refl, sym, subst}
 use mathlib.Core.List.{List}
 use lib.ListN.{set}
-use Rattle.spread.specs.Regions.{entry}
+use Rattle.spread.specs.Regions.{entry, queued}
 use Rattle.spread.specs.Search.{before, first, Pushed}
 use Rattle.spread.proofs.PushLaws.{set-pushed}
 use borrow.Author.Needs.{needs}
@@ -16,8 +16,8 @@ unreached : (c : tie.Else1) → let a = c .before .before .before .before .args 
 unreached c = omega (arith, c .before .get .ensures .0)
 
 -- so the queue has room
-room : (c : tie.Else1) → let a = c .before .before .before .before .args in a .count < a .n
-room c = c .before .before .before .before .pre .1 .1 .1 .1 (unreached c)
+room : (c : tie.Else1) → let a = c .before .before .before .before .args in queued (a .n) (a .tail) < a .n
+room c = c .before .before .before .before .pre .1 .1 .1 .1 .1 (unreached c)
 
 -- the place where the state proves new, from the end
 abbrev else-of : tie.After-slice-known3 → tie.Else1
@@ -36,7 +36,7 @@ same-length : tie.Need-same-length
 same-length c = search needs
 
 returns : tie.Need-returns
-returns c = before (omega (arith, c .before .get .ensures .0)) refl refl
+returns c = (before (omega (arith, c .before .get .ensures .0)) refl refl, omega arith)
 
 mul-put : tie.Need-mul-put
 mul-put c = search needs
@@ -50,12 +50,6 @@ add-put-2 c = search needs
 put-requires : tie.Need-put-requires
 put-requires c κs = search needs
 
-mul-put-2 : tie.Need-mul-put-2
-mul-put-2 c = search needs
-
-add-put-3 : tie.Need-add-put-3
-add-put-3 c = omega (arith, room (c .before .before .before .before .before))
-
 put-requires-2 : tie.Need-put-requires-2
 put-requires-2 c κs = (omega (arith, room (c .before .before .before .before .before)), omega arith)
 
@@ -68,11 +62,14 @@ same-length-2 c = search needs
 returns-2 : tie.Need-returns-2
 returns-2 c =
     let a = c .before .before .before .before .before .before .before .before .before .before .before .before .args in
-    let e : c .before .before .put2 .last .0 ≡ set (set (a .work .now) (2 * a .n + a .t) (a .level + 1)) (3 * a .n + a .count) (a .t) = cc in
-    first
-    (unreached (else-of c))
-    (subst (λ (w : List ℕ). Pushed (a .n) (a .t) (a .level + 1) (a .count) (a .work .now) w) (sym e) (set-pushed (a .n) (a .t) (a .level + 1) (a .count) (a .work .now) (omega arith) (room (else-of c)) (omega arith)))
-    refl
+    let q : a .tail ≡ 3 * a .n + queued (a .n) (a .tail) = omega arith in
+    let e : c .before .before .put2 .last .0 ≡ set (set (a .work .now) (2 * a .n + a .t) (a .level + 1)) (3 * a .n + queued (a .n) (a .tail)) (a .t) = cc in (
+      first
+          (unreached (else-of c))
+          (subst (λ (w : List ℕ). Pushed (a .n) (a .t) (a .level + 1) (queued (a .n) (a .tail)) (a .work .now) w) (sym e) (set-pushed (a .n) (a .t) (a .level + 1) (queued (a .n) (a .tail)) (a .work .now) (omega arith) (room (else-of c)) (omega arith)))
+          (omega arith),
+      omega arith,
+    )
 
 pub reach-spec : {M : Type 1} → statement M
 reach-spec =
@@ -87,8 +84,6 @@ reach-spec =
     add-put
     add-put-2
     put-requires
-    mul-put-2
-    add-put-3
     put-requires-2
     add-result
     same-length-2

@@ -1,7 +1,7 @@
 -- `spread` meets its contract. Each loop keeps the state of the search: the levels' loop with the queue looked at up to
 -- `at`, the queue's loop within a level, the successors' loop within a row. The measures are the levels, queue entries and
 -- successors left.
-use Prim.Native.Nat.{ℕ, _+_, _-_, _≤_, _<_}
+use Prim.Native.Nat.{ℕ, _+_, _*_, _-_, _≤_, _<_}
 use mathlib.Core.Path.{_≡_, _∙_, ap, subst}
 use mathlib.Core.List.{List}
 use native.Mathlib.Omega.{arith}
@@ -11,37 +11,40 @@ use Rattle.lasso.specs.Graph.{Graph, edgeb}
 use Rattle.lasso.proofs.Tests.{at-memb}
 use Rattle.model.specs.Model.{graphOf}
 use Rattle.model.proofs.Laws.{Sizes, valid-sizes, valid-well-formed}
+use Rattle.spread.specs.Regions.{entry, queued}
 use Rattle.spread.specs.Search.{State}
 use Rattle.spread.proofs.PushLaws.{queue-room}
-use Rattle.spread.proofs.RowLaws.{Row, planned-state, row-start, row-inside, row-hit, row-step, row-done, level-done}
+use Rattle.spread.proofs.RowLaws.{Row, queued-entry, planned-state, row-start, row-inside, row-hit, row-step, row-done, level-done}
 use Rattle.spread.proofs.EndLaws.{found, exhausted}
 use Rattle.spread.proofs.spread.Statement.{statement}
 use Rattle.spread.proofs.spread.Tie as tie
 
 abbrev Inv-loop2 : tie.InvT-loop2
-Inv-loop2 file h work₀ limit target n level at count₀ end s part d k₀ work count k =
-    (w : List ℕ) → Row n (graphOf file .succs) limit target w (level + 1) at end count₀ s k₀ work₀ →
-    Row n (graphOf file .succs) limit target w (level + 1) at end count s k work
+Inv-loop2 file h work₀ limit target n queue level at tail₀ end s part d k₀ work tail k =
+    (tail₀ ≤ tail) ×
+    ((w : List ℕ) → Row n (graphOf file .succs) limit target w (level + 1) (queued n at) (queued n end) (queued n tail₀) s k₀ work₀ →
+    Row n (graphOf file .succs) limit target w (level + 1) (queued n at) (queued n end) (queued n tail) s k work)
 
 abbrev μ-loop2 : tie.MeasureT-loop2
-μ-loop2 file h work₀ limit target n level at count₀ end s part d k₀ work count k = d - k
+μ-loop2 file h work₀ limit target n queue level at tail₀ end s part d k₀ work tail k = d - k
 
 abbrev Inv-loop : tie.InvT-loop
-Inv-loop file h work₀ limit target n level at₀ count₀ end work at count =
-    (w : List ℕ) → State n (graphOf file .succs) limit target w (level + 1) at₀ end count₀ work₀ →
-    State n (graphOf file .succs) limit target w (level + 1) at end count work
+Inv-loop file h work₀ limit target n queue level at₀ tail₀ end work at tail =
+    (at₀ ≤ at) × (tail₀ ≤ tail) ×
+    ((w : List ℕ) → State n (graphOf file .succs) limit target w (level + 1) (queued n at₀) (queued n end) (queued n tail₀) work₀ →
+    State n (graphOf file .succs) limit target w (level + 1) (queued n at) (queued n end) (queued n tail) work)
 
 abbrev μ-loop : tie.MeasureT-loop
-μ-loop file h work₀ limit target n level at₀ count₀ end work at count = end - at
+μ-loop file h work₀ limit target n queue level at₀ tail₀ end work at tail = end - at
 
 abbrev Inv-levels : tie.InvT-levels
-Inv-levels file h work₀ limit target n level₀ at₀ count₀ work level at count =
-    (level ≤ limit) ×
-    ((w : List ℕ) → State n (graphOf file .succs) limit target w level₀ at₀ at₀ count₀ work₀ →
-    State n (graphOf file .succs) limit target w level at at count work)
+Inv-levels file h work₀ limit target n queue level₀ at₀ tail₀ work level at tail =
+    (level ≤ limit) × (at₀ ≤ at) × (tail₀ ≤ tail) ×
+    ((w : List ℕ) → State n (graphOf file .succs) limit target w level₀ (queued n at₀) (queued n at₀) (queued n tail₀) work₀ →
+    State n (graphOf file .succs) limit target w level (queued n at) (queued n at) (queued n tail) work)
 
 abbrev μ-levels : tie.MeasureT-levels
-μ-levels file h work₀ limit target n level₀ at₀ count₀ work level at count = limit - level
+μ-levels file h work₀ limit target n queue level₀ at₀ tail₀ work level at tail = limit - level
 
 -- the places that the answers speak of: entry, a level's turn, a queue entry's turn, a successor's turn, a successor read
 abbrev Start : Type 0
@@ -52,6 +55,9 @@ At-levels = tie.At-levels Inv-loop2 μ-loop2 Inv-loop μ-loop Inv-levels μ-leve
 
 abbrev At-loop : Type 0
 At-loop = tie.At-loop Inv-loop2 μ-loop2 Inv-loop μ-loop Inv-levels μ-levels
+
+abbrev After-get : Type 0
+After-get = tie.After-get Inv-loop2 μ-loop2 Inv-loop μ-loop Inv-levels μ-levels
 
 abbrev At-loop2 : Type 0
 At-loop2 = tie.At-loop2 Inv-loop2 μ-loop2 Inv-loop μ-loop Inv-levels μ-levels
@@ -95,10 +101,16 @@ sizes c = valid-sizes (c .pre .0)
 level-state : (c : At-levels) →
     let a = start c .args in
     let l = c .levels in
-    State (a .h .states) (graph (start c) .succs) (a .limit) (a .target) (a .work .now) (l .level) (l .at) (l .at) (l .count) (l .work)
+    State (a .h .states) (graph (start c) .succs) (a .limit) (a .target) (a .work .now) (l .level) (queued (a .h .states) (l .at)) (queued (a .h .states) (l .at)) (queued (a .h .states) (l .tail)) (l .work)
 level-state c =
     let a = start c .args in
-    c .levels .inv .1 (a .work .now) (planned-state (start c .pre .1 .0) (start c .pre .1 .1) (c .before .before .before .plan .ensures))
+    let z : 0 ≡ queued (a .h .states) (3 * a .h .states) = omega arith in
+    c .levels .inv .3 (a .work .now)
+    (subst (λ (i : ℕ). State (a .h .states) (graph (start c) .succs) (a .limit) (a .target) (a .work .now) 0 i i i (c .before .before .before .plan .last .0)) z (planned-state (start c .pre .1 .0) (start c .pre .1 .1) (c .before .before .before .plan .ensures)))
+
+-- at a level's turn the search stands in the queue, and so does the queue's end
+level-places : (c : At-levels) → let n = start c .args .h .states in (3 * n ≤ c .levels .at) × (3 * n ≤ c .levels .tail)
+level-places c = (c .levels .inv .1, c .levels .inv .2)
 
 -- a level's queue entries are gone through below the limit only
 level-below : (c : At-loop) → level-of c .levels .level < start (level-of c) .args .limit
@@ -108,20 +120,49 @@ level-below c = omega arith
 queue-state : (c : At-loop) →
     let a = start (level-of c) .args in
     let l = c .loop in
-    State (a .h .states) (graph (start (level-of c)) .succs) (a .limit) (a .target) (a .work .now) (level-of c .levels .level + 1) (l .at) (end-of c) (l .count) (l .work)
+    State (a .h .states) (graph (start (level-of c)) .succs) (a .limit) (a .target) (a .work .now) (level-of c .levels .level + 1) (queued (a .h .states) (l .at)) (queued (a .h .states) (end-of c)) (queued (a .h .states) (l .tail)) (l .work)
 queue-state c =
     let a = start (level-of c) .args in
-    c .loop .inv (a .work .now)
-    (c .before .before .before .admit .ensures (graph (start (level-of c)) .succs) (a .limit) (a .target) (a .work .now) (level-of c .levels .at) (level-below c) (level-state (level-of c)))
+    c .loop .inv .2 (a .work .now)
+    (c .before .before .before .admit .ensures .0 (graph (start (level-of c)) .succs) (a .limit) (a .target) (a .work .now) (queued (a .h .states) (level-of c .levels .at)) (level-below c) (level-state (level-of c)))
+
+-- at a queue entry's turn the search stands in the queue, and so does the queue's end
+queue-places : (c : At-loop) →
+    let n = start (level-of c) .args .h .states in
+    (3 * n ≤ c .loop .at) × (3 * n ≤ c .loop .tail)
+queue-places c =
+    let l = level-places (level-of c) in
+    (omega (arith, l .0, c .loop .inv .0), omega (arith, l .1, c .before .before .before .admit .ensures .1, c .loop .inv .1))
+
+-- the state read from the queue is the one whose turn it is
+queue-told : (c : After-get) →
+    let q = c .before .before .before in
+    let n = start (level-of q) .args .h .states in
+    c .get .result ≡ entry 3 n (q .loop .work) (queued n (q .loop .at))
+queue-told c =
+    let q = c .before .before .before in
+    c .get .ensures .0 ∙ queued-entry (start (level-of q) .args .h .states) (q .loop .at) (q .loop .work) (queue-places q .0)
+
+-- its row, before the first successor
+row-first : (c : After-get) →
+    let q = c .before .before .before in
+    let a = start (level-of q) .args in
+    (w : List ℕ) → State (a .h .states) (graph (start (level-of q)) .succs) (a .limit) (a .target) w (level-of q .levels .level + 1) (queued (a .h .states) (q .loop .at)) (queued (a .h .states) (end-of q)) (queued (a .h .states) (q .loop .tail)) (q .loop .work) →
+    Row (a .h .states) (graph (start (level-of q)) .succs) (a .limit) (a .target) w (level-of q .levels .level + 1) (queued (a .h .states) (q .loop .at)) (queued (a .h .states) (end-of q)) (queued (a .h .states) (q .loop .tail)) (c .get .result) 0 (q .loop .work)
+row-first c w S = row-start (omega (arith, queue-places (c .before .before .before) .0)) (queue-told c) S
 
 -- the search at a successor's turn
 row-state : (c : At-loop2) →
     let a = row-entry c .args in
     let l = c .loop2 in
-    Row (a .h .states) (graph (row-entry c) .succs) (a .limit) (a .target) (a .work .now) (level-of (queue-of c) .levels .level + 1) (queue-of c .loop .at) (end-of (queue-of c)) (l .count) (row-s c) (l .k) (l .work)
+    Row (a .h .states) (graph (row-entry c) .succs) (a .limit) (a .target) (a .work .now) (level-of (queue-of c) .levels .level + 1) (queued (a .h .states) (queue-of c .loop .at)) (queued (a .h .states) (end-of (queue-of c))) (queued (a .h .states) (l .tail)) (row-s c) (l .k) (l .work)
 row-state c =
     let a = row-entry c .args in
-    c .loop2 .inv (a .work .now) (row-start (omega arith) (c .before .before .before .get .ensures .0) (queue-state (queue-of c)))
+    c .loop2 .inv .1 (a .work .now) (row-first (c .before .before .before) (a .work .now) (queue-state (queue-of c)))
+
+-- the queue's end at a successor's turn
+row-tail : (c : At-loop2) → 3 * row-entry c .args .h .states ≤ c .loop2 .tail
+row-tail c = omega (arith, queue-places (queue-of c) .1, c .loop2 .inv .0)
 
 -- the row's number of successors
 degree-told : (c : At-loop2) → c .before .degree .result ≡ length (graph (row-entry c) .succs (row-s c))
@@ -154,8 +195,14 @@ successor-inside c =
 plan-requires : tie.Need-plan-requires Inv-loop2 μ-loop2 Inv-loop μ-loop Inv-levels μ-levels
 plan-requires c κs = let z = sizes (c .before .before .before) in (z .states-range .1, (c .before .before .before .pre .1 .0, c .before .before .before .pre .1 .1))
 
+mul-queue : tie.Need-mul-queue Inv-loop2 μ-loop2 Inv-loop μ-loop Inv-levels μ-levels
+mul-queue c = omega (arith, sizes (c .before .before .before .before .before .before) .states-range .1)
+
 levels-holds : tie.Need-levels-holds Inv-loop2 μ-loop2 Inv-loop μ-loop Inv-levels μ-levels
-levels-holds c = (omega arith, λ w S. S)
+levels-holds c = (omega arith, omega arith, omega arith, λ w S. S)
+
+sub-count : tie.Need-sub-count Inv-loop2 μ-loop2 Inv-loop μ-loop Inv-levels μ-levels
+sub-count c = level-places (c .before) .1
 
 same-length : tie.Need-same-length Inv-loop2 μ-loop2 Inv-loop μ-loop Inv-levels μ-levels
 same-length c = level-state (c .before) .outside .same-length
@@ -166,46 +213,44 @@ returns c =
     let a = s .args in
     let l = c .before .levels in
     exhausted (valid-well-formed (s .pre .0)) (omega arith)
-    (subst (λ (n : ℕ). State n (graph s .succs) (a .limit) (a .target) (a .work .now) (l .level) (l .at) (l .at) (l .count) (l .work)) (sizes s .states-are) (level-state (c .before)))
+    (subst (λ (n : ℕ). State n (graph s .succs) (a .limit) (a .target) (a .work .now) (l .level) (queued (a .h .states) (l .at)) (queued (a .h .states) (l .at)) (queued (a .h .states) (l .tail)) (l .work)) (sizes s .states-are) (level-state (c .before)))
 
 admit-requires : tie.Need-admit-requires Inv-loop2 μ-loop2 Inv-loop μ-loop Inv-levels μ-levels
 admit-requires c κs =
-    let s = start (c .before .before) in (
+    let l = c .before .before in
+    let s = start l in (
       sizes s .states-range .1,
-      record {
-        succs = graph s .succs;
-        limit = s .args .limit;
-        target = s .args .target;
-        origin = s .args .work .now;
-        at = c .before .before .levels .at;
-        below = omega arith;
-        state = level-state (c .before .before);
-      },
+      (
+        level-places l .1,
+        record {
+          succs = graph s .succs;
+          limit = s .args .limit;
+          target = s .args .target;
+          origin = s .args .work .now;
+          at = queued (s .args .h .states) (l .levels .at);
+          below = omega arith;
+          state = level-state l;
+        },
+      ),
     )
 
 loop-holds : tie.Need-loop-holds Inv-loop2 μ-loop2 Inv-loop μ-loop Inv-levels μ-levels
-loop-holds c = λ w S. S
-
-mul-get : tie.Need-mul-get Inv-loop2 μ-loop2 Inv-loop μ-loop Inv-levels μ-levels
-mul-get c = omega (arith, sizes (start (level-of (c .before .before))) .states-range .1)
-
-add-get : tie.Need-add-get Inv-loop2 μ-loop2 Inv-loop μ-loop Inv-levels μ-levels
-add-get c = let S = queue-state (c .before .before) in omega (arith, sizes (start (level-of (c .before .before))) .states-range .1, S .end-count, S .queue .within)
+loop-holds c = (omega arith, omega arith, λ w S. S)
 
 get-requires : tie.Need-get-requires Inv-loop2 μ-loop2 Inv-loop μ-loop Inv-levels μ-levels
-get-requires c κs = let S = queue-state (c .before .before) in omega (arith, S .fits, S .end-count, S .queue .within)
+get-requires c κs = let S = queue-state (c .before .before) in omega (arith, queue-places (c .before .before) .0, S .fits, S .end-count, S .queue .within)
 
 row-part-requires :
     tie.Need-row-part-requires Inv-loop2 μ-loop2 Inv-loop μ-loop Inv-levels μ-levels
 row-part-requires c κs =
     let q = c .before .before .before in
-    (start (level-of q) .pre .0, row-inside (level-of q .levels .level) (row-start (omega arith) (c .get .ensures .0) (queue-state q)))
+    (start (level-of q) .pre .0, row-inside (level-of q .levels .level) (row-first c (start (level-of q) .args .work .now) (queue-state q)))
 
 degree-requires : tie.Need-degree-requires Inv-loop2 μ-loop2 Inv-loop μ-loop Inv-levels μ-levels
 degree-requires c κs = tt
 
 loop2-holds : tie.Need-loop2-holds Inv-loop2 μ-loop2 Inv-loop μ-loop Inv-levels μ-levels
-loop2-holds c = λ w R. R
+loop2-holds c = (omega arith, λ w R. R)
 
 successor-requires :
     tie.Need-successor-requires Inv-loop2 μ-loop2 Inv-loop μ-loop Inv-levels μ-levels
@@ -220,7 +265,7 @@ reach-requires c κs =
     let r = t .before .before in
     let s = row-entry r in
     let R = row-state r in
-    (sizes s .states-range .1, (successor-inside t, (omega (arith, level-below (queue-of r), s .pre .1 .0), (R .state .fits, queue-room (t .successor .result) (R .state .fits) (R .state .queue) (successor-inside t)))))
+    (sizes s .states-range .1, (successor-inside t, (omega (arith, level-below (queue-of r), s .pre .1 .0), (R .state .fits, (row-tail r, queue-room (t .successor .result) (R .state .fits) (R .state .queue) (successor-inside t))))))
 
 add-k : tie.Need-add-k Inv-loop2 μ-loop2 Inv-loop μ-loop Inv-levels μ-levels
 add-k c = omega arith
@@ -233,7 +278,7 @@ loop2-again c =
     let e = c .before .before .before .before in
     let t = e .before in
     let r = t .before .before in
-    λ w R. row-step (level-of (queue-of r) .levels .level) (r .loop2 .inv w R) (t .successor .result) (successor-told t) (omega (arith, degree-told r)) (successor-inside t) (e .if2 .left) (c .before .before .reach .ensures)
+    (omega (arith, c .before .before .reach .ensures .1), λ w R. row-step (level-of (queue-of r) .levels .level) (r .loop2 .inv .1 w R) (t .successor .result) (successor-told t) (omega (arith, degree-told r)) (successor-inside t) (e .if2 .left) (c .before .before .reach .ensures .0))
 
 add-at : tie.Need-add-at Inv-loop2 μ-loop2 Inv-loop μ-loop Inv-levels μ-levels
 add-at c = omega arith
@@ -243,9 +288,15 @@ loop-less c = omega arith
 
 loop-again : tie.Need-loop-again Inv-loop2 μ-loop2 Inv-loop μ-loop Inv-levels μ-levels
 loop-again c =
-    let q = queue-of (c .before) in
-    λ w S.
-    row-done (level-of q .levels .level) (c .before .loop2 .inv w (row-start (omega arith) (c .before .before .before .before .get .ensures .0) (q .loop .inv w S))) (omega (arith, degree-told (c .before)))
+    let q = queue-of (c .before) in (
+      omega arith,
+      omega (arith, q .loop .inv .1, c .before .loop2 .inv .0),
+      λ w S.
+          row-done (level-of q .levels .level)
+          (c .before .loop2 .inv .1 w (row-first (c .before .before .before .before) w (q .loop .inv .2 w S)))
+          (omega (arith, queue-places q .0))
+          (omega (arith, degree-told (c .before))),
+    )
 
 add-level : tie.Need-add-level Inv-loop2 μ-loop2 Inv-loop μ-loop Inv-levels μ-levels
 add-level c = omega arith
@@ -255,11 +306,14 @@ levels-less c = omega arith
 
 levels-again : tie.Need-levels-again Inv-loop2 μ-loop2 Inv-loop μ-loop Inv-levels μ-levels
 levels-again c =
-    let l = level-of (c .before) in (
+    let l = level-of (c .before) in
+    let n = start l .args .h .states in (
       omega (arith, level-below (c .before)),
+      omega (arith, l .levels .inv .1, c .before .loop .inv .0),
+      omega (arith, l .levels .inv .2, c .before .before .before .before .admit .ensures .1, c .before .loop .inv .1),
       λ w S.
           level-done (omega arith)
-          (c .before .loop .inv w (c .before .before .before .before .admit .ensures (graph (start l) .succs) (start l .args .limit) (start l .args .target) w (l .levels .at) (level-below (c .before)) (l .levels .inv .1 w S))),
+          (c .before .loop .inv .2 w (c .before .before .before .before .admit .ensures .0 (graph (start l) .succs) (start l .args .limit) (start l .args .target) w (queued n (l .levels .at)) (level-below (c .before)) (l .levels .inv .3 w S))),
     )
 
 add-length : tie.Need-add-length Inv-loop2 μ-loop2 Inv-loop μ-loop Inv-levels μ-levels
@@ -275,7 +329,7 @@ returns-2 c =
     let l = level-of (queue-of r) in
     let s = start l in
     let a = s .args in
-    let R = subst (λ (n : ℕ). Row n (graph s .succs) (a .limit) (a .target) (a .work .now) (l .levels .level + 1) (queue-of r .loop .at) (end-of (queue-of r)) (r .loop2 .count) (row-s r) (r .loop2 .k) (r .loop2 .work)) (sizes s .states-are) (row-state r) in
+    let R = subst (λ (n : ℕ). Row n (graph s .succs) (a .limit) (a .target) (a .work .now) (l .levels .level + 1) (queued (a .h .states) (queue-of r .loop .at)) (queued (a .h .states) (end-of (queue-of r))) (queued (a .h .states) (r .loop2 .tail)) (row-s r) (r .loop2 .k) (r .loop2 .work)) (sizes s .states-are) (row-state r) in
     found (l .levels .level) (valid-well-formed (s .pre .0)) (level-below (queue-of r)) (R .state) (row-hit (l .levels .level) R)
     (subst (λ (x : ℕ). T (edgeb (graph s) (row-s r) x)) (c .if2 .taken) (successor-edge t))
 
@@ -290,13 +344,13 @@ spread-spec =
     Inv-levels
     μ-levels
     plan-requires
+    mul-queue
     levels-holds
+    sub-count
     same-length
     returns
     admit-requires
     loop-holds
-    mul-get
-    add-get
     get-requires
     row-part-requires
     degree-requires
