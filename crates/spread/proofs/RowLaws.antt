@@ -19,11 +19,11 @@ queued-entry n place w l =
     ap (λ (i : ℕ). getD w i 0) q
 
 -- after the plan nothing is reached and the queue is empty
-pub planned-state : {n limit target : ℕ} {succs : ℕ → List ℕ} {w₀ w : List ℕ} → limit ≤ n → 6 * n ≤ length w₀ → Planned n limit w₀ w → State n succs limit target w₀ 0 0 0 0 w
+pub planned-state : {n limit target : ℕ} {succs : ℕ → List ℕ} {w₀ w : List ℕ} → limit ≤ n → 6 * n ≤ length w → Planned n limit w₀ w → State n succs limit target w₀ 0 0 0 0 w
 planned-state l fits P =
     record {
       limited = l;
-      fits = omega (arith, P .outside .same-length);
+      fits = fits;
       outside = P .outside;
       lists = P .lists;
       sound = λ k t h e. absurd (omega (arith, P .clear t h));

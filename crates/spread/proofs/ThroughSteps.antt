@@ -1,23 +1,27 @@
 -- What the steps of the searches from one state and from the marked states do: one source is put down and the search turns
 -- its level into distances; the levels of the marked states are kept and the search goes on from them.
-use Prim.Native.Nat.{ℕ, _+_, _*_, _≤_, _<_}
-use mathlib.Core.Path.{_≡_, refl, _∙_, ap}
+use Prim.Native.Nat.{ℕ, suc, _+_, _*_, _≤_, _<_}
+use mathlib.Core.Path.{_≡_, refl, sym, _∙_, ap}
 use mathlib.Core.Logic.{inl, inr}
 use mathlib.Core.Bool.{Bool, true, false}
 use mathlib.Core.List.{List}
+use mathlib.Core.Option.{some}
 use native.Mathlib.Omega.{arith}
-use lib.ListN.{length, set}
+use native.Mathlib.Decide.{ℕ-discrete}
+use lib.ListN.{length, getD, set, length-set}
 use lib.Seq.{getD-set-same, getD-set-other}
 use Rattle.lasso.specs.Lists.{pick}
 use Rattle.lasso.specs.Graph.{Graph, WellFormed}
 use Rattle.lasso.proofs.Tests.{lt-or-ge}
 use Rattle.table.specs.Changes.{SameOutside, Cleared}
-use Rattle.table.proofs.Laws.{sameOutside-refl, sameOutside-set, sameOutside-trans, sameOutside-widen}
+use Rattle.table.proofs.Laws.{sameOutside-refl, set-sameOutside, sameOutside-set, sameOutside-trans, sameOutside-widen}
 use Rattle.spread.specs.declared.Answer.{Answer}
 use Rattle.spread.specs.Regions.{entry, valueOf}
 use Rattle.spread.specs.Hit.{under}
 use Rattle.spread.specs.Promises.{sources, SpreadFrom, Spread}
-use Rattle.spread.specs.Through.{onlyIf, DistancesWithin, markedSources, Started, KeptMarked}
+use Rattle.spread.specs.Through.{onlyIf, DistancesWithin, markedSources, Started, PlannedAt, KeptMarked}
+use Rattle.spread.specs.Buckets.{withSource, Planned}
+use Rattle.spread.proofs.BucketLaws.{source-entry, entry-source}
 use Rattle.spread.proofs.HitLaws.{Single}
 use Rattle.spread.proofs.SearchLaws.{spread-nothing, spread-same, exhausted-distances}
 
@@ -33,6 +37,105 @@ cleared-started n x w u l b c =
       outside = sameOutside-set (2 * n + x) 1 (omega arith) (omega arith) (c .others);
       source = getD-set-same u (2 * n + x) 1 0 (omega (arith, c .others .same-length));
       others = λ s p d. getD-set-other u (2 * n + x) (2 * n + s) 1 0 (λ e. d (omega arith)) ∙ c .zeros (2 * n + s) (omega arith) (omega arith);
+    }
+
+-- what is the same outside one way is the same the other way
+sameOutside-sym : {from to : ℕ} {w w' : List ℕ} → SameOutside from to w w' → SameOutside from to w' w
+sameOutside-sym s =
+    record {
+      same-length = sym (s .same-length);
+      same-before = λ i l. sym (s .same-before i l);
+      same-after = λ i l. sym (s .same-after i l);
+    }
+
+-- A table u whose region 2 says that x is the one source, and the table d that has nothing in region 2 and in the heads of
+-- the lists: with x in front of the list of level 0, it has the plan of a search from u.
+module _ {n x limit : ℕ} {w u d : List ℕ} (inside : x < n) (low : 1 ≤ limit) (limited : limit ≤ n) (fits : 6 * n ≤ length d) (st : Started n x w u) (same : SameOutside (2 * n) (6 * n) u d) (clear : (s : ℕ) → s < n → entry 2 n d s ≡ 0) (heads : (a : ℕ) → a < limit → entry 4 n d a ≡ 0) where
+  -- the table with the list
+  abbrev one : List ℕ
+  one = withSource n 0 x d
+
+  -- other places stay
+  one-other : (i : ℕ) → (i ≡ 5 * n + x → ⊥) → (i ≡ 4 * n + 0 → ⊥) → getD one i 0 ≡ getD d i 0
+  one-other i p q =
+      getD-set-other (set d (5 * n + x) (entry 4 n d 0)) (4 * n + 0) i (x + 1) 0 q ∙
+      getD-set-other d (5 * n + x) i (entry 4 n d 0) 0 p
+
+  -- region 4 names x
+  one-first : entry 4 n one 0 ≡ x + 1
+  one-first = getD-set-same (set d (5 * n + x) (entry 4 n d 0)) (4 * n + 0) (x + 1) 0 (simp length-set (omega arith))
+
+  -- region 5 names no next source
+  one-next : entry 5 n one x ≡ 0
+  one-next =
+      getD-set-other (set d (5 * n + x) (entry 4 n d 0)) (4 * n + 0) (5 * n + x) (x + 1) 0 (λ q. omega arith) ∙
+      getD-set-same d (5 * n + x) (entry 4 n d 0) 0 (omega arith) ∙
+      heads 0 low
+
+  -- a source is x, at level 0
+  one-source : (s a : ℕ) → s < n → sources n limit u s ≡ some a → (s ≡ x) × (a ≡ 0)
+  one-source s a l e =
+      let h : (entry 2 n u s ≡ suc a) × (a < limit) = source-entry limit (entry 2 n u s) a e in
+      elim (ℕ-discrete s x) [
+        | yes q ↦ (q, omega (arith, h .0, st .source, ap (λ (y : ℕ). entry 2 n u y) q))
+        | no q ↦ absurd (omega (arith, h .0, st .others s l q))
+      ]
+
+  -- x is one
+  one-here : sources n limit u x ≡ some 0
+  one-here = entry-source limit (entry 2 n u x) 0 (st .source) low
+
+  -- the plan of a search from the one source
+  pub one-planned : Planned n limit u one
+  one-planned =
+      record {
+        outside =
+            sameOutside-set (4 * n + 0) (x + 1) (omega arith) (omega arith)
+            (sameOutside-set (5 * n + x) (entry 4 n d 0) (omega arith) (omega arith) same);
+        clear = λ s l. one-other (2 * n + s) (λ q. omega arith) (λ q. omega arith) ∙ clear s l;
+        lists =
+            record {
+              firsts = λ a l.
+                  elim (ℕ-discrete a 0) [
+                    | yes q ↦
+                        rw (q, one-first)
+                        (record {
+                          within = omega arith;
+                          names = λ s h. let e : s ≡ x = omega arith in rw e one-here;
+                          none-above = λ s h k e. omega (arith, one-source s 0 k e);
+                        })
+                    | no q ↦
+                        rw (one-other (4 * n + a) (λ e. omega arith) (λ e. q (omega arith)), heads a l)
+                        (record {
+                          within = omega arith;
+                          names = λ s h. absurd (omega arith);
+                          none-above = λ s h k e. q (one-source s a k e .1);
+                        })
+                  ];
+              nexts = λ s a l e.
+                  let r = one-source s a l e in
+                  rw (r .0, one-next)
+                  (record {
+                    within = omega arith;
+                    names = λ t h. absurd (omega arith);
+                    none-above = λ t h k f. omega (arith, one-source t a (omega arith) f);
+                  });
+            };
+      }
+
+-- region 2 and the heads are cleared, and x is put in front of the list of level 0: the plan of a search from x
+pub cleared-planned : (n x limit : ℕ) (w c d : List ℕ) → x < n → 1 ≤ limit → limit ≤ n → 6 * n ≤ length w
+    → Cleared (2 * n) (3 * n) w c → Cleared (4 * n) (4 * n + limit) c d → PlannedAt n x limit w (withSource n 0 x d)
+cleared-planned n x limit w c d l p m b two four =
+    let st : Started n x w (set c (2 * n + x) 1) = cleared-started n x w c l (omega arith) two in
+    record {
+      origin = set c (2 * n + x) 1;
+      started = st;
+      planned =
+          one-planned l p m (omega (arith, two .others .same-length, four .others .same-length)) st
+          (sameOutside-trans (sameOutside-sym (set-sameOutside c (2 * n + x) 1 (2 * n) (6 * n) (omega arith) (omega arith))) (sameOutside-widen (2 * n) (6 * n) (omega arith) (omega arith) (four .others)))
+          (λ s h. four .others .same-before (2 * n + s) (omega arith) ∙ two .zeros (2 * n + s) (omega arith) (omega arith))
+          (λ a h. four .zeros (4 * n + a) (omega arith) (omega arith));
     }
 
 -- region 2 keeps the entries of the marked states among those below i, and of all from i on

@@ -29,3 +29,8 @@ pub record Planned (n limit : ℕ) (w w' : List ℕ) : Type 0 where
   pub outside : SameOutside (2 * n) (6 * n) w w'
   pub clear : (s : ℕ) → s < n → entry 2 n w' s ≡ 0
   pub lists : Listed (sources n limit w) n limit n w'
+
+-- the plan of a search is made, from some table
+pub record HasPlan (n limit : ℕ) (w : List ℕ) : Type 0 where
+  pub origin : List ℕ
+  pub planned : Planned n limit origin w

@@ -3,6 +3,6 @@
 pub mod Regions
 pub mod Hit
 pub mod Promises
-pub mod Through
 pub mod Buckets
 pub mod Search
+pub mod Through

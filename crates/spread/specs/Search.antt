@@ -6,10 +6,12 @@ use mathlib.Core.Option.{Option, some}
 use lib.ListN.{length}
 use lib.Dec.{T}
 use Rattle.lasso.specs.Lists.{memb}
+use Rattle.lasso.specs.Graph.{Graph}
 use Rattle.table.specs.Changes.{SameOutside}
 use Rattle.spread.specs.Regions.{entry}
-use Rattle.spread.specs.Promises.{sources, Queue}
-use Rattle.spread.specs.Buckets.{Listed}
+use Rattle.spread.specs.declared.Answer.{Answer}
+use Rattle.spread.specs.Promises.{sources, Queue, Spread}
+use Rattle.spread.specs.Buckets.{Listed, Planned}
 
 -- t is hit at level k: it is a source with this start level, or an edge leads to it from a state hit one level before
 pub data Hit (n : ℕ) (succs : ℕ → List ℕ) (source : ℕ → Option ℕ) : ℕ → ℕ → Type 0 where
@@ -69,3 +71,8 @@ abbrev pub Admitted : ℕ → ℕ → ℕ → List ℕ → List ℕ → ℕ → 
 Admitted n level count w w' r =
     (succs : ℕ → List ℕ) (limit target : ℕ) (origin : List ℕ) (at : ℕ) → level < limit →
     State n succs limit target origin level at at count w → State n succs limit target origin (level + 1) at r r w'
+
+-- whatever table the plan was made from, the search from the listed sources leaves what one from that table's start levels
+-- does
+abbrev pub Searched : Graph → ℕ → ℕ → ℕ → List ℕ → List ℕ → Answer → Type 0
+Searched g n limit target w w' r = (origin : List ℕ) → Planned n limit origin w → Spread g limit target origin w' r

@@ -12,6 +12,7 @@ use Rattle.spread.specs.declared.Answer.{Answer}
 use Rattle.spread.specs.declared.Answer.the-variants.{Length, Nothing}
 use Rattle.spread.specs.Regions.{entry, valueOf, entryOf}
 use Rattle.spread.specs.Hit.{under, hitLevel, hitLength}
+use Rattle.spread.specs.Buckets.{Planned}
 
 -- the number if the test was passed, else none
 abbrev pub onlyIf : Bool → Option ℕ → Option ℕ
@@ -50,6 +51,12 @@ pub record Started (n x : ℕ) (w w' : List ℕ) : Type 0 where
   pub outside : SameOutside (2 * n) (3 * n) w w'
   pub source : entry 2 n w' x ≡ 1
   pub others : (s : ℕ) → s < n → (s ≡ x → ⊥) → entry 2 n w' s ≡ 0
+
+-- the plan is made of a search from the one source x: as from a table whose region 2 says that x is the one source
+pub record PlannedAt (n x limit : ℕ) (w w' : List ℕ) : Type 0 where
+  pub origin : List ℕ
+  pub started : Started n x w origin
+  pub planned : Planned n limit origin w'
 
 -- region 2 keeps the entries of the marked states and no other
 pub record KeptMarked (g : Graph) (w w' : List ℕ) : Type 0 where

@@ -9,8 +9,8 @@ ghost use Rattle.model.specs.Values.{Valid};
 ghost use Rattle.model.specs.Model.{graphOf};
 ghost use Rattle.spread.specs.Regions.{entry, queued};
 ghost use Rattle.spread.specs.Promises.{Spread};
-ghost use Rattle.spread.specs.Buckets.{withSource, Planned};
-ghost use Rattle.spread.specs.Search.{Reached, Ready, Admitted};
+ghost use Rattle.spread.specs.Buckets.{withSource, Planned, HasPlan};
+ghost use Rattle.spread.specs.Search.{Reached, Ready, Admitted, Searched};
 
 mod through;
 
@@ -104,17 +104,16 @@ fn admit(work: &mut [u16], n: usize, level: usize, tail: usize) -> usize
     end
 }
 
-// Searches from the sources whose start levels stand in region 2, level by level below the limit, and leaves all loops
-// at the first edge into the target. `at`, `end` and `tail` are places of the table, in region 3: a new state is put at
-// `tail` with no sum to compute.
-pub fn spread(file: &[u8], h: Header, work: &mut [u16], limit: usize, target: usize) -> Answer
+// The search proper, from listed sources: level by level below the limit, and out of all loops at the first edge into the
+// target. `at`, `end` and `tail` are places of the table, in region 3: a new state is put at `tail` with no sum to compute.
+fn search_planned(file: &[u8], h: Header, work: &mut [u16], limit: usize, target: usize) -> Answer
     requires { ⌜ Valid (now file) h ⌝ }
     requires { ⌜ limit ≤ h .states ⌝ }
     requires { ⌜ 6 * h .states ≤ length (now work) ⌝ }
-    ensures { λ r. ⌜ Spread (graphOf (now (file .entry))) limit target (now (work .entry)) (now (work .exit)) r ⌝ }
+    requires { ⌜ HasPlan (h .states) limit (now work) ⌝ }
+    ensures { λ r. ⌜ Searched (graphOf (now (file .entry))) (h .states) limit target (now (work .entry)) (now (work .exit)) r ⌝ }
 {
     let n = h.states;
-    plan(work, n, limit);
     let queue = 3 * n;
     let mut level = 0;
     let mut at = queue;
@@ -145,4 +144,17 @@ pub fn spread(file: &[u8], h: Header, work: &mut [u16], limit: usize, target: us
     }
     let length = level + 1;
     Answer::Length(length)
+}
+
+// Searches from the sources whose start levels stand in region 2, level by level below the limit, until the first edge
+// into the target.
+pub fn spread(file: &[u8], h: Header, work: &mut [u16], limit: usize, target: usize) -> Answer
+    requires { ⌜ Valid (now file) h ⌝ }
+    requires { ⌜ limit ≤ h .states ⌝ }
+    requires { ⌜ 6 * h .states ≤ length (now work) ⌝ }
+    ensures { λ r. ⌜ Spread (graphOf (now (file .entry))) limit target (now (work .entry)) (now (work .exit)) r ⌝ }
+{
+    let n = h.states;
+    plan(work, n, limit);
+    search_planned(file, h, work, limit, target)
 }

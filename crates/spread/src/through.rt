@@ -6,22 +6,28 @@ ghost use Rattle.model.specs.Values.{Valid};
 ghost use Rattle.model.specs.Model.{graphOf};
 ghost use Rattle.table.specs.Changes.{SameOutside};
 ghost use Rattle.spread.specs.Promises.{SpreadFrom};
-ghost use Rattle.spread.specs.Through.{DistancesWithin, markedSources, LoopLength, Started, KeptMarked};
+ghost use Rattle.spread.specs.Through.{DistancesWithin, markedSources, LoopLength, PlannedAt, KeptMarked};
 use crate::Answer;
+use crate::list_source;
+use crate::search_planned;
 use crate::spread;
 use model::Header;
 use model::is_marked;
 use table::clear;
 use table::put;
 
-// Makes x the one source, at level 0.
-fn start_at(work: &mut [u16], n: usize, x: usize)
+// Makes the plan of a search from the one source x, at level 0: with one source there are no states to go through.
+fn start_at(work: &mut [u16], n: usize, x: usize, limit: usize)
+    requires { ⌜ n ≤ 4096 ⌝ }
     requires { ⌜ x < n ⌝ }
+    requires { ⌜ 1 ≤ limit ⌝ }
+    requires { ⌜ limit ≤ n ⌝ }
     requires { ⌜ 6 * n ≤ length (now work) ⌝ }
-    ensures { λ _. ⌜ Started n x (now (work .entry)) (now (work .exit)) ⌝ }
+    ensures { λ _. ⌜ PlannedAt n x limit (now (work .entry)) (now (work .exit)) ⌝ }
 {
     clear(work, 2 * n, 3 * n);
-    put(work, 2 * n + x, 1);
+    clear(work, 4 * n, 4 * n + limit);
+    list_source(work, n, 0, x);
 }
 
 // Leaves the levels of the marked states alone, so that these are the sources of a next search.
@@ -51,8 +57,8 @@ pub fn distances(file: &[u8], h: Header, work: &mut [u16], x: usize, limit: usiz
     ensures { λ _. ⌜ DistancesWithin (graphOf (now (file .entry))) x limit (now (work .entry)) (now (work .exit)) ⌝ }
 {
     let n = h.states;
-    start_at(work, n, x);
-    spread(file, h, work, limit, n);
+    start_at(work, n, x, limit);
+    search_planned(file, h, work, limit, n);
 }
 
 // Searches on from the marked states, at the levels that region 2 holds for them.

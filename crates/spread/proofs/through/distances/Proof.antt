@@ -1,27 +1,34 @@
 -- `spread::through::distances` meets its contract: the search from one source leaves the distances up to the limit.
 use borrow.Author.Needs.{needs}
+use native.Mathlib.Omega.{arith}
 use Rattle.model.proofs.Laws.{valid-sizes, valid-well-formed}
 use Rattle.spread.proofs.ThroughSteps.{started-distances}
 use Rattle.spread.proofs.through.distances.Statement.{statement}
 use Rattle.spread.proofs.through.distances.Tie as tie
 
--- the function's entry
-abbrev start : tie.After-slice-known3 → tie.Start
-start c = c .before .before .before .before .before .before .before .before .before .before
-
 start-at-requires : tie.Need-start-at-requires
-start-at-requires c κs = search needs
+start-at-requires c κs =
+    let s = c .before .before .before in
+    (valid-sizes (s .pre .0) .states-range .1, s .pre .1)
 
-spread-requires : tie.Need-spread-requires
-spread-requires c κs = search needs
+search-planned-requires : tie.Need-search-planned-requires
+search-planned-requires c κs =
+    let p = c .before .before .before in
+    let s = p .before .before .before .before in
+    let made = p .start-at .ensures in
+    (s .pre .0, (s .pre .1 .1 .1 .0, (omega (arith, made .started .outside .same-length, made .planned .outside .same-length), record { origin = made .origin; planned = made .planned })))
 
 same-length : tie.Need-same-length
 same-length c = search needs
 
 returns : tie.Need-returns
 returns c =
-    let valid = start c .pre .0 in
-    started-distances _ (valid-well-formed valid) (valid-sizes valid .states-are) (start c .pre .1 .0) (start c .pre .1 .1 .0) (c .before .before .spread .result) (c .before .before .before .before .before .before .start-at .ensures) (c .before .before .spread .ensures)
+    let p = c .before .before .before .before .before .before in
+    let s = p .before .before .before .before in
+    let valid = s .pre .0 in
+    let made = p .start-at .ensures in
+    let search = c .before .before .search-planned in
+    started-distances _ (valid-well-formed valid) (valid-sizes valid .states-are) (s .pre .1 .0) (s .pre .1 .1 .0) (search .result) (made .started) (search .ensures (made .origin) (made .planned))
 
 pub distances-spec : {M : Type 1} → statement M
-distances-spec = tie.close (tie.spec start-at-requires spread-requires same-length returns)
+distances-spec = tie.close (tie.spec start-at-requires search-planned-requires same-length returns)
