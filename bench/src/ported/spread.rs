@@ -40,29 +40,28 @@ fn plan<A: Access>(work: &mut [u16], n: usize, limit: usize) {
     }
 }
 
-fn reach<A: Access>(work: &mut [u16], n: usize, t: usize, level: usize, count: usize) -> usize {
+fn reach<A: Access>(work: &mut [u16], n: usize, t: usize, level: usize, tail: usize) -> usize {
     if get::<A>(work, 2 * n + t) != 0 {
-        return count;
+        return tail;
     }
     put::<A>(work, 2 * n + t, level + 1);
-    put::<A>(work, 3 * n + count, t);
-    count + 1
+    put::<A>(work, tail, t);
+    tail + 1
 }
 
-fn admit<A: Access>(work: &mut [u16], n: usize, level: usize, count: usize) -> usize {
+fn admit<A: Access>(work: &mut [u16], n: usize, level: usize, tail: usize) -> usize {
     let mut cursor = get::<A>(work, 4 * n + level);
-    let mut reached = count;
+    let mut end = tail;
     while 0 < cursor {
         let s = cursor - 1;
-        reached = reach::<A>(work, n, s, level, reached);
+        end = reach::<A>(work, n, s, level, end);
         cursor = get::<A>(work, 5 * n + s);
     }
-    reached
+    end
 }
 
-/// Searches from the sources whose start levels stand in region 2, below the limit; the length at which an edge into the
-/// target was found, if there is one.
-pub fn spread<A: Access>(
+/// The search proper, from listed sources; the length at which an edge into the target was found, if there is one.
+fn search_planned<A: Access>(
     file: &[u8],
     h: Header,
     work: &mut [u16],
@@ -71,14 +70,13 @@ pub fn spread<A: Access>(
 ) -> Option<usize> {
     A::spread();
     let n = h.states;
-    plan::<A>(work, n, limit);
-    let mut at = 0;
-    let mut count = 0;
+    let mut at = 3 * n;
+    let mut tail = 3 * n;
     for level in 0..limit {
-        count = admit::<A>(work, n, level, count);
-        let end = count;
+        tail = admit::<A>(work, n, level, tail);
+        let end = tail;
         while at < end {
-            let s = get::<A>(work, 3 * n + at);
+            let s = get::<A>(work, at);
             let part = row_part::<A>(file, h, s);
             for k in 0..degree(part) {
                 A::edge();
@@ -86,7 +84,7 @@ pub fn spread<A: Access>(
                 if t == target {
                     return Some(level + 1);
                 }
-                count = reach::<A>(work, n, t, level + 1, count);
+                tail = reach::<A>(work, n, t, level + 1, tail);
             }
             at += 1;
         }
@@ -94,9 +92,22 @@ pub fn spread<A: Access>(
     None
 }
 
-fn start_at<A: Access>(work: &mut [u16], n: usize, x: usize) {
+/// Searches from the sources whose start levels stand in region 2, below the limit.
+pub fn spread<A: Access>(
+    file: &[u8],
+    h: Header,
+    work: &mut [u16],
+    limit: usize,
+    target: usize,
+) -> Option<usize> {
+    plan::<A>(work, h.states, limit);
+    search_planned::<A>(file, h, work, limit, target)
+}
+
+fn start_at<A: Access>(work: &mut [u16], n: usize, x: usize, limit: usize) {
     clear::<A>(work, 2 * n, 3 * n);
-    put::<A>(work, 2 * n + x, 1);
+    clear::<A>(work, 4 * n, 4 * n + limit);
+    list_source::<A>(work, n, 0, x);
 }
 
 fn keep_marked<A: Access>(file: &[u8], h: Header, work: &mut [u16]) {
@@ -111,8 +122,8 @@ fn keep_marked<A: Access>(file: &[u8], h: Header, work: &mut [u16]) {
 /// Puts the distances from x, up to the limit, into region 2.
 pub fn distances<A: Access>(file: &[u8], h: Header, work: &mut [u16], x: usize, limit: usize) {
     let n = h.states;
-    start_at::<A>(work, n, x);
-    spread::<A>(file, h, work, limit, n);
+    start_at::<A>(work, n, x, limit);
+    search_planned::<A>(file, h, work, limit, n);
 }
 
 /// Searches on from the marked states, at the levels that region 2 holds for them.
