@@ -34,8 +34,9 @@ fn plan<A: Access>(work: &mut [u16], n: usize, limit: usize) {
     for s in 0..n {
         let start = get::<A>(work, 2 * n + s);
         put::<A>(work, 2 * n + s, 0);
-        if 0 < start && start <= limit {
-            list_source::<A>(work, n, start - 1, s);
+        let level = start.wrapping_sub(1);
+        if level < limit {
+            list_source::<A>(work, n, level, s);
         }
     }
 }

@@ -45,6 +45,18 @@ fn list_source(work: &mut [u16], n: usize, level: usize, s: usize)
     put(work, 4 * n + level, s + 1);
 }
 
+// The level that an entry stands for, and the greatest number for an entry 0, so that one comparison with a limit tells
+// the sources.
+fn level_of(start: usize) -> usize
+    ensures level { λ r. ⌜ (1 ≤ start → r + 1 ≡ start) ⌝ }
+    ensures none { λ r. ⌜ (start ≡ 0 → 4096 ≤ r) ⌝ }
+{
+    if start == 0 {
+        return usize::MAX;
+    }
+    start - 1
+}
+
 // Lists the sources of each level below the limit, from the start levels in region 2, which it clears.
 fn plan(work: &mut [u16], n: usize, limit: usize)
     requires { ⌜ n ≤ 4096 ⌝ }
@@ -57,10 +69,9 @@ fn plan(work: &mut [u16], n: usize, limit: usize)
     while s < n {
         let start = get(work, 2 * n + s);
         put(work, 2 * n + s, 0);
-        if 0 < start {
-            if start <= limit {
-                list_source(work, n, start - 1, s);
-            }
+        let level = level_of(start);
+        if level < limit {
+            list_source(work, n, level, s);
         }
         s += 1;
     }

@@ -1,11 +1,12 @@
 -- `plan` lists the sources. The invariant: from whatever table the plan is made, the states below s are gone through.
 -- The measure is the number of states left.
-use Prim.Native.Nat.{ℕ, _+_, _*_, _-_, _≤_, _<_}
-use mathlib.Core.Path.{_≡_, _∙_}
-use mathlib.Core.Logic.{⊎-elim}
+use Prim.Native.Nat.{ℕ, suc, _+_, _*_, _-_, _≤_, _<_}
+use mathlib.Core.Path.{_≡_, sym, _∙_}
+use mathlib.Core.Logic.{⊎-elim, inl, inr}
 use mathlib.Core.List.{List}
 use native.Mathlib.Omega.{arith}
 use lib.ListN.{length}
+use Rattle.lasso.proofs.Tests.{lt-or-ge}
 use Rattle.spread.specs.Regions.{entry}
 use borrow.Author.Needs.{needs}
 use Rattle.spread.proofs.BucketLaws.{Planning, planning-none, planning-skip, planning-list, planning-same, planning-done, source-entry, entry-source}
@@ -19,6 +20,11 @@ Inv-loop work₀ n limit s₀ work s =
 abbrev μ-loop : tie.MeasureT-loop
 μ-loop work₀ n limit s₀ work s = n - s
 
+-- a level below 4096 is told by the entry
+level-told : (start level : ℕ) → (1 ≤ start → level + 1 ≡ start) → (start ≡ 0 → 4096 ≤ level) → level < 4096 → start ≡ suc level
+level-told start level is none l =
+    elim (lt-or-ge 0 start) [ inl h ↦ omega (arith, is h) | inr h ↦ absurd (omega (arith, none (omega arith))) ]
+
 -- the plan at the loop's head, from the table at entry
 held : (c : tie.At-loop Inv-loop μ-loop) →
     let a = c .before .before .before .before .before .before .args in
@@ -29,7 +35,7 @@ held c =
 
 -- the loop's head, from the end of its turn
 abbrev head : tie.Joined1 Inv-loop μ-loop → tie.At-loop Inv-loop μ-loop
-head c = c .before .before .before .before .before .before .before .before
+head c = c .before .before .before .before .before .before .before .before .before
 
 -- one turn goes one state further
 turn : (c : tie.Joined1 Inv-loop μ-loop) (w : List ℕ) →
@@ -39,17 +45,23 @@ turn : (c : tie.Joined1 Inv-loop μ-loop) (w : List ℕ) →
 turn c w P =
     let a = head c .before .before .before .before .before .before .args in
     let l = head c .loop in
-    let start : ℕ = c .before .before .before .before .before .get .result in
+    let start : ℕ = c .before .before .before .before .before .before .get .result in
+    let level : ℕ = c .before .level-of .result in
+    let told = c .before .level-of .ensures in
+    let put = c .before .before .before .before .put .ensures in
     let inside : l .s < a .n = omega arith in
     let fits : 6 * a .n ≤ length (l .work) = omega arith in
-    let same : start ≡ entry 2 (a .n) w (l .s) = c .before .before .before .before .before .get .ensures .0 ∙ P .unread (l .s) (omega arith) inside in
+    let same : start ≡ entry 2 (a .n) w (l .s) = c .before .before .before .before .before .before .get .ensures .0 ∙ P .unread (l .s) (omega arith) inside in
     ⊎-elim
     (λ t.
-    planning-same (cc (t .6, t .3 .ensures, c .before .before .before .put .ensures))
-    (planning-list (a .n) (a .limit) (l .s) w (l .work) inside fits P (start - 1) (omega arith) (omega arith) (entry-source (a .limit) (entry 2 (a .n) w (l .s)) (start - 1) (omega arith) (omega arith))))
-    (⊎-elim
-    (λ t. planning-same (cc (t .2, c .before .before .before .put .ensures)) (planning-skip (a .n) (a .limit) (l .s) w (l .work) inside fits P (λ b e. omega (arith, source-entry (a .limit) (entry 2 (a .n) w (l .s)) b e))))
-    (λ t. planning-same (cc (t .1, c .before .before .before .put .ensures)) (planning-skip (a .n) (a .limit) (l .s) w (l .work) inside fits P (λ b e. omega (arith, source-entry (a .limit) (entry 2 (a .n) w (l .s)) b e)))))
+    planning-same (cc (t .5, t .2 .ensures, put))
+    (planning-list (a .n) (a .limit) (l .s) w (l .work) inside fits P level (omega arith) (omega arith) (entry-source (a .limit) (entry 2 (a .n) w (l .s)) level (sym same ∙ level-told start level (told .0) (told .1) (omega arith)) (omega arith))))
+    (λ t.
+    planning-same (cc (t .1, put))
+    (planning-skip (a .n) (a .limit) (l .s) w (l .work) inside fits P
+    (λ b e.
+    let h : (entry 2 (a .n) w (l .s) ≡ suc b) × (b < a .limit) = source-entry (a .limit) (entry 2 (a .n) w (l .s)) b e in
+    omega (arith, told .0 (omega arith)))))
     (c .if1 .came)
 
 mul-clear : tie.Need-mul-clear Inv-loop μ-loop
@@ -85,8 +97,8 @@ add-put c = search needs
 put-requires : tie.Need-put-requires Inv-loop μ-loop
 put-requires c κs = search needs
 
-sub-list-source : tie.Need-sub-list-source Inv-loop μ-loop
-sub-list-source c = search needs
+level-of-requires : tie.Need-level-of-requires Inv-loop μ-loop
+level-of-requires c κs = tt
 
 list-source-requires : tie.Need-list-source-requires Inv-loop μ-loop
 list-source-requires c κs = search needs
@@ -124,7 +136,7 @@ plan-spec =
     mul-put
     add-put
     put-requires
-    sub-list-source
+    level-of-requires
     list-source-requires
     add-s
     loop-less
