@@ -1,8 +1,8 @@
 // Plays scripts of searches and next calls on small files, and prints each call with its answer.
 mod report;
-mod sessions;
+mod scripts;
 
-use sessions::show_all;
+use scripts::show_all;
 
 fn main() {
     let mut answer = [0u16; 6];
@@ -11,6 +11,6 @@ fn main() {
     let mut log = [0u16; 64];
     let mut short_log = [0u16; 10];
     show_all(&mut answer, &mut work, &mut log);
-    sessions::show_short_answer(&mut short_answer, &mut work, &mut log);
-    sessions::show_short_log(&mut answer, &mut work, &mut short_log);
+    scripts::show_short_answer(&mut short_answer, &mut work, &mut log);
+    scripts::show_short_log(&mut answer, &mut work, &mut short_log);
 }
