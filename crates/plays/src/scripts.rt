@@ -3,23 +3,38 @@ use crate::report::show;
 use crate::report::show_rest;
 use crate::report::title;
 
-// Search, then next until there is no more.
-fn search_then_next(answer: &mut [u16], work: &mut [u16], log: &mut [u16]) {
-    title(b"D: a search, then next until there is no more");
+// Plays a script on example D: 0→1, 0→2, 1→3, 2→3, 3→1, 3→2, 4→4, marks 3 and 4.
+fn show_d(script: &[u16], answer: &mut [u16], work: &mut [u16], log: &mut [u16]) {
     show(
         b"\x05\x00\x07\x00\x00\x00\x00\x00\x18\x00\x00\x00\x24\x00\x00\x00\x32\x00\x00\x00\x33\x00\x00\x00\x00\x00\x02\x00\x03\x00\x04\x00\x06\x00\x07\x00\x01\x00\x02\x00\x03\x00\x03\x00\x01\x00\x02\x00\x04\x00\x18",
-        &[0, 65535, 1, 0, 1, 0, 1, 0],
+        script,
         answer,
         work,
         log,
     );
 }
 
+// Plays a script on the file with nine lists: 0→1, 2, 3; each of 1, 2, 3→4, 5, 6; each of 4, 5, 6→1, 2, 3; marks 4, 5, 6.
+fn show_nine(script: &[u16], answer: &mut [u16], work: &mut [u16], log: &mut [u16]) {
+    show(
+        b"\x07\x00\x15\x00\x00\x00\x00\x00\x18\x00\x00\x00\x28\x00\x00\x00\x52\x00\x00\x00\x53\x00\x00\x00\x00\x00\x03\x00\x06\x00\x09\x00\x0c\x00\x0f\x00\x12\x00\x15\x00\x01\x00\x02\x00\x03\x00\x04\x00\x05\x00\x06\x00\x04\x00\x05\x00\x06\x00\x04\x00\x05\x00\x06\x00\x01\x00\x02\x00\x03\x00\x01\x00\x02\x00\x03\x00\x01\x00\x02\x00\x03\x00\x70",
+        script,
+        answer,
+        work,
+        log,
+    );
+}
+
+// Search, then next until there is no more.
+fn search_then_next(answer: &mut [u16], work: &mut [u16], log: &mut [u16]) {
+    title(b"D: a search, then next until there is no more");
+    show_d(&[0, 65535, 1, 0, 1, 0, 1, 0], answer, work, log);
+}
+
 // Next before any search, with the copy, which is empty, and with lists that are no path.
 fn next_first(answer: &mut [u16], work: &mut [u16], log: &mut [u16]) {
     title(b"D: next before any search");
-    show(
-        b"\x05\x00\x07\x00\x00\x00\x00\x00\x18\x00\x00\x00\x24\x00\x00\x00\x32\x00\x00\x00\x33\x00\x00\x00\x00\x00\x02\x00\x03\x00\x04\x00\x06\x00\x07\x00\x01\x00\x02\x00\x03\x00\x03\x00\x01\x00\x02\x00\x04\x00\x18",
+    show_d(
         &[1, 0, 2, 0, 2, 4, 0, 2, 3, 1, 0, 65535, 1, 0],
         answer,
         work,
@@ -39,12 +54,10 @@ fn stopped_between(answer: &mut [u16], work: &mut [u16], log: &mut [u16]) {
     );
 }
 
-// The file with many lists: 0→1, 2, 3; each of 1, 2, 3→4, 5, 6; each of 4, 5, 6→1, 2, 3; marks 4, 5, 6. Wrong lists and a
-// stopped search between: the copy stays good.
+// Wrong lists and a stopped search between: the copy stays good.
 fn wrong_lists_between(answer: &mut [u16], work: &mut [u16], log: &mut [u16]) {
     title(b"nine lists: wrong lists and stopped searches between");
-    show(
-        b"\x07\x00\x15\x00\x00\x00\x00\x00\x18\x00\x00\x00\x28\x00\x00\x00\x52\x00\x00\x00\x53\x00\x00\x00\x00\x00\x03\x00\x06\x00\x09\x00\x0c\x00\x0f\x00\x12\x00\x15\x00\x01\x00\x02\x00\x03\x00\x04\x00\x05\x00\x06\x00\x04\x00\x05\x00\x06\x00\x04\x00\x05\x00\x06\x00\x01\x00\x02\x00\x03\x00\x01\x00\x02\x00\x03\x00\x01\x00\x02\x00\x03\x00\x70",
+    show_nine(
         &[
             0,
             65535,
@@ -86,8 +99,7 @@ fn wrong_lists_between(answer: &mut [u16], work: &mut [u16], log: &mut [u16]) {
 // A second search in the middle begins anew; then next to the end of nine lists.
 fn search_again(answer: &mut [u16], work: &mut [u16], log: &mut [u16]) {
     title(b"nine lists: a search in the middle begins anew");
-    show(
-        b"\x07\x00\x15\x00\x00\x00\x00\x00\x18\x00\x00\x00\x28\x00\x00\x00\x52\x00\x00\x00\x53\x00\x00\x00\x00\x00\x03\x00\x06\x00\x09\x00\x0c\x00\x0f\x00\x12\x00\x15\x00\x01\x00\x02\x00\x03\x00\x04\x00\x05\x00\x06\x00\x04\x00\x05\x00\x06\x00\x04\x00\x05\x00\x06\x00\x01\x00\x02\x00\x03\x00\x01\x00\x02\x00\x03\x00\x01\x00\x02\x00\x03\x00\x70",
+    show_nine(
         &[
             0,
             3,
@@ -125,25 +137,13 @@ fn search_again(answer: &mut [u16], work: &mut [u16], log: &mut [u16]) {
 // The last command asks for more entries than are there.
 fn cut_off(answer: &mut [u16], work: &mut [u16], log: &mut [u16]) {
     title(b"D: a script that is cut off");
-    show(
-        b"\x05\x00\x07\x00\x00\x00\x00\x00\x18\x00\x00\x00\x24\x00\x00\x00\x32\x00\x00\x00\x33\x00\x00\x00\x00\x00\x02\x00\x03\x00\x04\x00\x06\x00\x07\x00\x01\x00\x02\x00\x03\x00\x03\x00\x01\x00\x02\x00\x04\x00\x18",
-        &[0, 65535, 1, 0, 2, 4, 0, 2],
-        answer,
-        work,
-        log,
-    );
+    show_d(&[0, 65535, 1, 0, 2, 4, 0, 2], answer, work, log);
 }
 
 // An unknown action ends the script.
 fn unknown(answer: &mut [u16], work: &mut [u16], log: &mut [u16]) {
     title(b"D: a script with an unknown action");
-    show(
-        b"\x05\x00\x07\x00\x00\x00\x00\x00\x18\x00\x00\x00\x24\x00\x00\x00\x32\x00\x00\x00\x33\x00\x00\x00\x00\x00\x02\x00\x03\x00\x04\x00\x06\x00\x07\x00\x01\x00\x02\x00\x03\x00\x03\x00\x01\x00\x02\x00\x04\x00\x18",
-        &[0, 65535, 3, 0, 1, 0],
-        answer,
-        work,
-        log,
-    );
+    show_d(&[0, 65535, 3, 0, 1, 0], answer, work, log);
 }
 
 // A file that is refused: the working table is untouched.
@@ -190,8 +190,7 @@ pub fn show_all(answer: &mut [u16], work: &mut [u16], log: &mut [u16]) {
 // no more to write after the last.
 pub fn show_short_answer(answer: &mut [u16], work: &mut [u16], log: &mut [u16]) {
     title(b"D: an answer table of 3 entries");
-    show(
-        b"\x05\x00\x07\x00\x00\x00\x00\x00\x18\x00\x00\x00\x24\x00\x00\x00\x32\x00\x00\x00\x33\x00\x00\x00\x00\x00\x02\x00\x03\x00\x04\x00\x06\x00\x07\x00\x01\x00\x02\x00\x03\x00\x03\x00\x01\x00\x02\x00\x04\x00\x18",
+    show_d(
         &[0, 65535, 1, 0, 2, 4, 0, 1, 3, 1, 2, 4, 0, 2, 3, 2],
         answer,
         work,
@@ -202,12 +201,6 @@ pub fn show_short_answer(answer: &mut [u16], work: &mut [u16], log: &mut [u16]) 
 // A log with room for two calls and two entries more.
 pub fn show_short_log(answer: &mut [u16], work: &mut [u16], log: &mut [u16]) {
     title(b"D: a log of 10 entries");
-    show(
-        b"\x05\x00\x07\x00\x00\x00\x00\x00\x18\x00\x00\x00\x24\x00\x00\x00\x32\x00\x00\x00\x33\x00\x00\x00\x00\x00\x02\x00\x03\x00\x04\x00\x06\x00\x07\x00\x01\x00\x02\x00\x03\x00\x03\x00\x01\x00\x02\x00\x04\x00\x18",
-        &[0, 65535, 1, 0, 1, 0, 1, 0],
-        answer,
-        work,
-        log,
-    );
+    show_d(&[0, 65535, 1, 0, 1, 0, 1, 0], answer, work, log);
     show_rest(b"the log:", log, 0);
 }
