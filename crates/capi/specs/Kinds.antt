@@ -7,7 +7,8 @@ use lib.Dec.{eqb, ltb}
 use Rattle.lasso.specs.Lists.{pick}
 use Rattle.lasso.specs.Rounds.{Record}
 use Rattle.finder.specs.Outcomes.{Outcome, refused, answered, Stepped, finished, advanced, Searched, stopped, empty, Followed, noMore}
-use Rattle.finder.specs.Tables.{workOf, written}
+use Rattle.gate.specs.Gate.{workOf}
+use Rattle.finder.specs.Tables.{written}
 use Rattle.finder.specs.Step.{stepOutcome}
 use Rattle.finder.specs.Search.{searchOutcome, searchAnswer}
 use Rattle.finder.specs.Next.{nextOutcome, nextAnswer}

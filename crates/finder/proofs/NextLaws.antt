@@ -20,10 +20,11 @@ use Rattle.model.specs.Model.{graphOf}
 use Rattle.model.specs.Layout.{states}
 use Rattle.model.specs.Rules.{firstBroken, Accepted}
 use Rattle.finder.specs.Outcomes.{Outcome, refused, answered, outcome, Followed, noMore}
-use Rattle.finder.specs.Tables.{commonRules, noRoom, written}
+use Rattle.gate.specs.Gate.{commonRules}
+use Rattle.finder.specs.Tables.{noRoom, written}
 use Rattle.finder.specs.Search.{lengthDue, unlessRefused}
 use Rattle.finder.specs.Next.{notShortest, followed, dueReasons, nextReasons, nextOutcome, nextList, nextAnswer}
-use Rattle.finder.proofs.ReasonLaws.{broken-append, clear-append, common-clear}
+use Rattle.gate.proofs.GateLaws.{broken-append, clear-append, common-clear}
 use Rattle.finder.proofs.SearchLaws.{never-too-long}
 use Rattle.finder.proofs.LoopTests.{lassoOf}
 

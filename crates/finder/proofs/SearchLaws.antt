@@ -19,9 +19,10 @@ use Rattle.model.specs.Layout.{states}
 use Rattle.model.specs.Rules.{firstBroken, Accepted}
 use Rattle.model.proofs.Laws.{accepted-facts}
 use Rattle.finder.specs.Outcomes.{Outcome, refused, answered, outcome, Searched, stopped, empty}
-use Rattle.finder.specs.Tables.{commonRules, tooLong, noRoom, written}
+use Rattle.gate.specs.Gate.{commonRules}
+use Rattle.finder.specs.Tables.{tooLong, noRoom, written}
 use Rattle.finder.specs.Search.{stopsb, firstOf, searched, firstDue, lengthDue, listReasons, searchReasons, searchOutcome, unlessRefused, searchList, searchAnswer}
-use Rattle.finder.proofs.ReasonLaws.{broken-append, clear-append, common-clear}
+use Rattle.gate.proofs.GateLaws.{broken-append, clear-append, common-clear}
 
 -- a search's outcome, and the list that it writes
 pub record SearchIs (f : List ℕ) (allowance answer work : ℕ) (o : Outcome Searched) (due : Option (List ℕ)) : Type 0 where

@@ -13,7 +13,7 @@ use Rattle.lasso.specs.Rounds.{Record, candidateb, candidates, afterRound}
 use Rattle.model.specs.Model.{graphOf}
 use Rattle.model.specs.Rules.{firstBroken}
 use Rattle.finder.specs.Outcomes.{refused, answered, outcome, Stepped, finished, advanced}
-use Rattle.finder.specs.Tables.{commonRules}
+use Rattle.gate.specs.Gate.{commonRules}
 use Rattle.finder.specs.Step.{stepped, stepOutcome}
 
 -- no more of n numbers in a row are kept than there are

@@ -11,7 +11,8 @@ use Rattle.lasso.specs.Following.{sameb, following}
 use Rattle.model.specs.Model.{graphOf}
 use Rattle.model.specs.Rules.{Reason, firstBroken}
 use Rattle.finder.specs.Outcomes.{Outcome, outcome, Followed, noMore}
-use Rattle.finder.specs.Tables.{commonRules, written}
+use Rattle.gate.specs.Gate.{commonRules}
+use Rattle.finder.specs.Tables.{written}
 use Rattle.finder.specs.Search.{listReasons, unlessRefused}
 
 -- 13. the earlier list, with all its entries, is not a shortest accepting path of this model

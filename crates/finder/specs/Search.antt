@@ -12,7 +12,8 @@ use Rattle.lasso.specs.Rounds.{candidates, afterRounds}
 use Rattle.model.specs.Model.{graphOf}
 use Rattle.model.specs.Rules.{Reason, firstBroken}
 use Rattle.finder.specs.Outcomes.{Outcome, outcome, Searched, stopped, empty}
-use Rattle.finder.specs.Tables.{commonRules, tooLong, noRoom, written}
+use Rattle.gate.specs.Gate.{commonRules}
+use Rattle.finder.specs.Tables.{tooLong, noRoom, written}
 
 -- the allowance is less than the number of candidates
 abbrev pub stopsb : Graph → ℕ → Bool

@@ -7,7 +7,7 @@ use Rattle.lasso.specs.Rounds.{Record, finishedb, afterRound}
 use Rattle.model.specs.Model.{graphOf}
 use Rattle.model.specs.Rules.{firstBroken}
 use Rattle.finder.specs.Outcomes.{Outcome, outcome, Stepped, finished, advanced}
-use Rattle.finder.specs.Tables.{commonRules}
+use Rattle.gate.specs.Gate.{commonRules}
 
 -- finished with the same record if no candidate is left, else the record after the round for the candidate whose place
 -- is the count

@@ -4,7 +4,7 @@ ghost use mathlib.Core.Path.{_≡_};
 ghost use lib.ListN.{length};
 ghost use Rattle.lasso.specs.Values.{recordOf};
 ghost use Rattle.finder.specs.Outcomes.{stepOutcomeOf, searchOutcomeOf, nextOutcomeOf};
-ghost use Rattle.finder.specs.Tables.{workOf};
+ghost use Rattle.gate.specs.Gate.{workOf};
 ghost use Rattle.finder.specs.Step.{stepOutcome};
 ghost use Rattle.finder.specs.Search.{searchOutcome, searchAnswer};
 ghost use Rattle.finder.specs.Next.{nextOutcome, nextAnswer};
@@ -14,13 +14,13 @@ mod searching;
 mod stepping;
 
 use following::next_of_model;
+use gate::admit;
+use gate::leave;
 use lasso::RoundRecord;
 use lasso::Transitions;
 use model::Checked;
-use model::check;
 use searching::search_model;
 use stepping::step_model;
-use table::clear;
 
 // The answer of a step: refused with a number, or the record, the same or after one more round.
 pub enum StepAnswer {
@@ -50,17 +50,13 @@ pub fn step(file: &[u8], so_far: RoundRecord, work: &mut [u16]) -> StepAnswer
     ensures outcome { λ r. ⌜ stepOutcomeOf r ≡ stepOutcome (now (file .entry)) (recordOf «so_far») (length (now (work .entry))) ⌝ }
     ensures work { λ r. ⌜ now (work .exit) ≡ workOf (now (file .entry)) (now (work .entry)) ⌝ }
 {
-    let checked = check(file);
+    let checked = admit(file, work);
     match checked {
         Checked::Refused(number) => StepAnswer::Refused(number),
         Checked::Accept(h) => {
-            if work.len() < 6 * h.states {
-                return StepAnswer::Refused(12);
-            }
-            let answer = step_model(file, h, so_far, work);
-            let whole = work.len();
-            clear(work, 0, whole);
-            answer
+            let stepped = step_model(file, h, so_far, work);
+            leave(work);
+            stepped
         }
     }
 }
@@ -71,17 +67,13 @@ pub fn search(file: &[u8], allowance: u16, answer: &mut [u16], work: &mut [u16])
     ensures answer { λ r. ⌜ now (answer .exit) ≡ searchAnswer (now (file .entry)) allowance (now (answer .entry)) (length (now (work .entry))) ⌝ }
     ensures work { λ r. ⌜ now (work .exit) ≡ workOf (now (file .entry)) (now (work .entry)) ⌝ }
 {
-    let checked = check(file);
+    let checked = admit(file, work);
     match checked {
         Checked::Refused(number) => SearchAnswer::Refused(number),
         Checked::Accept(h) => {
-            if work.len() < 6 * h.states {
-                return SearchAnswer::Refused(12);
-            }
-            let result = search_model(file, h, allowance, answer, work);
-            let end = work.len();
-            clear(work, 0, end);
-            result
+            let searched = search_model(file, h, allowance, answer, work);
+            leave(work);
+            searched
         }
     }
 }
@@ -92,17 +84,13 @@ pub fn next(file: &[u8], earlier: &[u16], answer: &mut [u16], work: &mut [u16]) 
     ensures answer { λ r. ⌜ now (answer .exit) ≡ nextAnswer (now (file .entry)) (now (earlier .entry)) (now (answer .entry)) (length (now (work .entry))) ⌝ }
     ensures work { λ r. ⌜ now (work .exit) ≡ workOf (now (file .entry)) (now (work .entry)) ⌝ }
 {
-    let checked = check(file);
+    let checked = admit(file, work);
     match checked {
         Checked::Refused(number) => NextAnswer::Refused(number),
         Checked::Accept(h) => {
-            if work.len() < 6 * h.states {
-                return NextAnswer::Refused(12);
-            }
-            let result = next_of_model(file, h, earlier, answer, work);
-            let end = work.len();
-            clear(work, 0, end);
-            result
+            let followed = next_of_model(file, h, earlier, answer, work);
+            leave(work);
+            followed
         }
     }
 }

@@ -23,7 +23,8 @@ use Rattle.finder.specs.declared.SearchAnswer.{SearchAnswer}
 use Rattle.finder.specs.declared.SearchAnswer.the-variants as SearchAnswers
 use Rattle.finder.specs.declared.NextAnswer.{NextAnswer}
 use Rattle.finder.specs.declared.NextAnswer.the-variants as NextAnswers
-use Rattle.finder.specs.Tables.{commonRules, tooLong, noRoom}
+use Rattle.gate.specs.Gate.{commonRules}
+use Rattle.finder.specs.Tables.{tooLong, noRoom}
 use Rattle.finder.specs.Search.{stopsb, firstOf, searched, firstDue, listReasons, searchReasons, searchOutcome}
 use Rattle.finder.specs.Next.{notShortest, followed, dueReasons, nextReasons, nextOutcome}
 use Rattle.capi.specs.Kinds.{figuresIn}

@@ -21,10 +21,11 @@ use Rattle.lasso.proofs.RollLaws.{roll-strict}
 use Rattle.model.specs.Model.{graphOf}
 use Rattle.model.specs.Rules.{firstBroken, Accepted}
 use Rattle.finder.specs.Outcomes.{outcome, stopped}
-use Rattle.finder.specs.Tables.{commonRules, tooLong, noRoom, written, workOf}
+use Rattle.gate.specs.Gate.{commonRules, workOf}
+use Rattle.finder.specs.Tables.{tooLong, noRoom, written}
 use Rattle.finder.specs.Search.{stopsb, firstOf, lengthDue, unlessRefused, searchReasons}
 use Rattle.finder.specs.Next.{notShortest, dueReasons, followed}
-use Rattle.finder.proofs.ReasonLaws.{broken-append, clear-append}
+use Rattle.gate.proofs.GateLaws.{broken-append, clear-append}
 use Rattle.sequence.specs.Calls.{Call, search, next, ofSearch, ofNext, Result, finderAt, foundLength, copyOf, received}
 use Rattle.sequence.specs.Book.{listAt, page, afterSearch, afterNext, unlessRefusedℕ, bookResults, bookEnd}
 use Rattle.sequence.specs.Claim.{lastReceived, Lent, Proper, collect, listsReceived, Listed}

@@ -9,7 +9,8 @@ use Rattle.lasso.specs.Roll.{roll}
 use Rattle.model.specs.Model.{graphOf}
 use Rattle.model.specs.Rules.{firstBroken}
 use Rattle.finder.specs.Outcomes.{outcome, Searched, stopped, empty}
-use Rattle.finder.specs.Tables.{commonRules, written, workOf}
+use Rattle.gate.specs.Gate.{commonRules, workOf}
+use Rattle.finder.specs.Tables.{written}
 use Rattle.finder.specs.Search.{searchReasons, searched, firstDue, unlessRefused}
 use Rattle.finder.specs.Next.{dueReasons, followed}
 use Rattle.sequence.specs.Calls.{Call, search, next, ofSearch, ofNext, Result}

@@ -4,7 +4,7 @@ use mathlib.Core.List.{List}
 use mathlib.Core.Option.{Option, some, none}
 use lib.ListN.{length, take}
 use Rattle.finder.specs.Outcomes.{Outcome, refused, answered, Searched, stopped, empty, Followed, noMore}
-use Rattle.finder.specs.Tables.{workOf}
+use Rattle.gate.specs.Gate.{workOf}
 use Rattle.finder.specs.Search.{searchOutcome, searchAnswer}
 use Rattle.finder.specs.Next.{nextOutcome, nextAnswer}
 

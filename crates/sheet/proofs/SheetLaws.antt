@@ -21,9 +21,10 @@ use Rattle.model.specs.declared.Header.{Header}
 use Rattle.model.specs.Values.{Valid}
 use Rattle.model.proofs.Laws.{accepted-facts, header-numbers}
 use Rattle.finder.specs.Outcomes.{refused, answered, outcome, Searched}
-use Rattle.finder.specs.Tables.{commonRules, written, workOf}
+use Rattle.gate.specs.Gate.{commonRules, workOf}
+use Rattle.finder.specs.Tables.{written}
 use Rattle.finder.specs.Search.{searched, unlessRefused}
-use Rattle.finder.proofs.ReasonLaws.{work-refused}
+use Rattle.gate.proofs.GateLaws.{work-refused}
 use Rattle.finder.proofs.StepLaws.{candidates-length-le}
 use Rattle.finder.proofs.SearchLaws.{SearchIs, search-refused, search-empty, search-found, search-no-room, roll-first}
 use Rattle.sheet.specs.Words.{refusedWord, noneLine, shortestWord}

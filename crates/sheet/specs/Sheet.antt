@@ -12,7 +12,8 @@ use Rattle.lasso.specs.Rounds.{candidates}
 use Rattle.model.specs.Layout.{states, edgeCount}
 use Rattle.model.specs.Model.{graphOf}
 use Rattle.model.specs.Rules.{firstBroken}
-use Rattle.finder.specs.Tables.{workOf, written}
+use Rattle.gate.specs.Gate.{workOf}
+use Rattle.finder.specs.Tables.{written}
 use Rattle.finder.specs.Search.{searchReasons, unlessRefused}
 use Rattle.sheet.specs.Decimal.{decimal}
 use Rattle.sheet.specs.Words.{space, bar, lineFeed, refusedWord, modelWord, roundsWord, noneLine, shortestWord, endWord, moreWord}

@@ -5,7 +5,7 @@ use native.Mathlib.Omega.{arith}
 use borrow.Author.Needs.{needs}
 use lib.ListN.{length}
 use Rattle.finder.specs.Outcomes.{Outcome, Followed, nextOutcomeOf}
-use Rattle.finder.specs.Tables.{workOf}
+use Rattle.gate.specs.Gate.{workOf}
 use Rattle.finder.specs.Next.{nextOutcome, nextAnswer}
 use Rattle.capi.specs.Kinds.{nextReport}
 use Rattle.capi.proofs.ReportLaws.{is-short, is-enough, reports-short, reports-enough}

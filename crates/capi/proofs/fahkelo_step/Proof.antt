@@ -7,7 +7,7 @@ use borrow.Author.Needs.{needs}
 use lib.ListN.{length}
 use Rattle.lasso.specs.Rounds.{Record}
 use Rattle.finder.specs.Outcomes.{Outcome, Stepped, stepOutcomeOf}
-use Rattle.finder.specs.Tables.{workOf}
+use Rattle.gate.specs.Gate.{workOf}
 use Rattle.finder.specs.Step.{stepOutcome}
 use Rattle.capi.specs.Kinds.{recordGiven, stepReport}
 use Rattle.capi.proofs.ReportLaws.{is-short, is-enough, reports-short, reports-enough}

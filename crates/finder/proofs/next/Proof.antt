@@ -1,26 +1,38 @@
--- `next` meets its contract: refused by the check or for want of room with both tables untouched, else what next on the
--- accepted file answers and writes, with the working table cleared.
-use mathlib.Core.Path.{sym, _∙_}
-use native.Mathlib.Omega.{arith}
+-- `next` meets its contract: refused by the gate with both tables untouched, else what the operation
+-- on the admitted file answers and writes, with the working table cleared.
+use mathlib.Core.Path.{_≡_, sym, _∙_}
+use mathlib.Core.Option.{some}
 use borrow.Author.Needs.{needs}
 use lib.ListN.{length}
-use Rattle.model.specs.Values.{Valid}
-use Rattle.model.proofs.Laws.{valid-sizes}
-use Rattle.finder.proofs.ReasonLaws.{check-refused, check-valid, common-refused, valid-small, valid-clear, work-refused, work-cleared}
+use Rattle.model.specs.Rules.{firstBroken}
+use Rattle.model.specs.declared.Checked.the-variants.{Refused, Accept}
+use Rattle.gate.specs.Gate.{commonRules, Admitted}
+use Rattle.gate.proofs.GateLaws.{gate-says, work-refused, work-left}
 use Rattle.finder.proofs.NextLaws.{next-answer, next-refused}
 use Rattle.finder.proofs.next.Statement.{statement}
 use Rattle.finder.proofs.next.Tie as tie
 
--- the function's start, from where the file is checked
-abbrev start : tie.After-check → tie.Start
-start c = c .before .before .before .before .before
+-- the function's start, from the gate
+abbrev start : tie.After-admit → tie.Start
+start c = c .before .before .before .before .before .before
 
--- an accepted file, with its header
-valid : (c : tie.After-checked2) → Valid (start (c .before .before) .args .file .now) (c .checked2 .given .0 .0)
-valid c = check-valid _ _ (sym (c .checked2 .given .1) ∙ c .before .before .check .ensures)
+-- the gate's refusal
+broken : (c : tie.After-checked)
+    → let a = start (c .before .before) .args in
+    firstBroken (commonRules (a .file .now) (length (a .work .now))) ≡ some (c .checked .given .0 .0)
+broken c =
+    let a = start (c .before .before) .args in
+    gate-says (a .file .now) (length (a .work .now)) (Refused _) (sym (c .checked .given .1) ∙ c .before .before .admit .ensures)
 
-check-requires : tie.Need-check-requires
-check-requires c κs = search needs
+-- an admitted file, with its header
+admitted : (c : tie.After-checked2)
+    → let a = start (c .before .before) .args in Admitted (a .file .now) (length (a .work .now)) (c .checked2 .given .0 .0)
+admitted c =
+    let a = start (c .before .before) .args in
+    gate-says (a .file .now) (length (a .work .now)) (Accept _) (sym (c .checked2 .given .1) ∙ c .before .before .admit .ensures)
+
+admit-requires : tie.Need-admit-requires
+admit-requires c κs = search needs
 
 enum-known-checked : tie.Need-enum-known-checked
 enum-known-checked c = search needs
@@ -28,48 +40,38 @@ enum-known-checked c = search needs
 enum-known-checked-2 : tie.Need-enum-known-checked-2
 enum-known-checked-2 c = search needs
 
-mul-if1 : tie.Need-mul-if1
-mul-if1 c = let sizes = valid-sizes (valid (c .before .before)) in omega arith
-
-returns : tie.Need-returns
-returns c =
-    let accepted = c .before .before .before in
-    let a = start (accepted .before .before) .args in
-    let small = valid-small (valid accepted) (length (a .work .now)) (c .if1 .taken) in
-    let is = next-refused (a .file .now) (a .earlier .now) (length (a .answer .now)) (length (a .work .now)) 12 small in
-    (sym (is .outcome), (sym (next-answer (a .answer .now) is), work-refused (a .file .now) _ 12 small))
-
 next-of-model-requires : tie.Need-next-of-model-requires
-next-of-model-requires c κs = (valid (c .before .before .before .before .before), c .before .before .if1 .left)
+next-of-model-requires c κs = let is = admitted (c .before .before .before) in (is .valid, is .room)
 
-clear-requires : tie.Need-clear-requires
-clear-requires c κs = search needs
-
-returns-2 : tie.Need-returns-2
-returns-2 c =
-    let refused = c .before in
-    let a = start (refused .before .before) .args in
-    let broken = common-refused (a .file .now) (length (a .work .now)) _ (check-refused (a .file .now) _ (sym (refused .checked .given .1) ∙ refused .before .before .check .ensures)) in
-    let is = next-refused (a .file .now) (a .earlier .now) (length (a .answer .now)) (length (a .work .now)) _ broken in
-    (sym (is .outcome), (sym (next-answer (a .answer .now) is), work-refused (a .file .now) _ _ broken))
+leave-requires : tie.Need-leave-requires
+leave-requires c κs = search needs
 
 same-length : tie.Need-same-length
 same-length c = search needs
 
+returns : tie.Need-returns
+returns c =
+    let refused = c .before in
+    let a = start (refused .before .before) .args in
+    let is = next-refused (a .file .now) (a .earlier .now) (length (a .answer .now)) (length (a .work .now)) _ (broken refused) in
+    (sym (is .outcome), (sym (next-answer (a .answer .now) is), work-refused (a .file .now) _ _ (broken refused)))
+
 same-length-2 : tie.Need-same-length-2
 same-length-2 c = search needs
 
-returns-3 : tie.Need-returns-3
-returns-3 c =
-    let cleared = c .before .before in
-    let done = cleared .before .before .before .before .before .before in
-    let roomy = done .before .before .before in
-    let accepted = roomy .before .before .before in
+same-length-3 : tie.Need-same-length-3
+same-length-3 c = search needs
+
+returns-2 : tie.Need-returns-2
+returns-2 c =
+    let left = c .before .before in
+    let done = left .before .before .before .before .before .before in
+    let accepted = done .before .before .before .before in
     let a = start (accepted .before .before) .args in (
       done .next-of-model .ensures .0,
       (
         done .next-of-model .ensures .1 .0,
-        work-cleared (a .file .now) (a .work .now) (valid-clear (valid accepted) _ (roomy .if1 .left)) (done .next-of-model .ensures .1 .1) (cleared .clear .ensures),
+        work-left (a .file .now) (a .work .now) (admitted accepted .clear) (done .next-of-model .ensures .1 .1) (left .leave .ensures),
       ),
     )
 
@@ -77,14 +79,13 @@ pub next-spec : {M : Type 1} → statement M
 next-spec =
     tie.close
     (tie.spec
-    check-requires
+    admit-requires
     enum-known-checked
     enum-known-checked-2
-    mul-if1
-    returns
     next-of-model-requires
-    clear-requires
-    returns-2
+    leave-requires
     same-length
+    returns
     same-length-2
-    returns-3)
+    same-length-3
+    returns-2)

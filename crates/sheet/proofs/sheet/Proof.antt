@@ -6,7 +6,7 @@ use borrow.Author.Needs.{needs}
 use lib.ListN.{length}
 use Rattle.model.specs.Values.{Valid}
 use Rattle.model.proofs.Laws.{valid-sizes}
-use Rattle.finder.proofs.ReasonLaws.{check-refused, check-valid, common-refused, valid-small, valid-clear, work-cleared}
+use Rattle.gate.proofs.GateLaws.{check-refused, check-valid, common-refused, valid-small, valid-clear, work-cleared}
 use Rattle.sheet.specs.Words.{refusedWord}
 use Rattle.sheet.proofs.DecimalLaws.{decimal-five}
 use Rattle.sheet.proofs.LineLaws.{figure-length}

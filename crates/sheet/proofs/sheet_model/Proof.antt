@@ -14,7 +14,7 @@ use Rattle.lasso.proofs.RollLaws.{leastLength-range}
 use Rattle.model.specs.Model.{graphOf}
 use Rattle.model.proofs.Laws.{valid-sizes, valid-well-formed}
 use Rattle.rounds.proofs.TableLaws.{ready-kept}
-use Rattle.finder.proofs.ReasonLaws.{valid-room}
+use Rattle.gate.proofs.GateLaws.{valid-room}
 use Rattle.finder.proofs.ReadyLaws.{ready-started}
 use Rattle.finder.proofs.StepLaws.{candidates-length-le}
 use Rattle.finder.proofs.SearchLaws.{all-rounds}

@@ -15,7 +15,7 @@ use Rattle.lasso.proofs.RollLaws.{roll-length}
 use Rattle.model.specs.Model.{graphOf}
 use Rattle.model.proofs.Laws.{valid-sizes, valid-well-formed}
 use Rattle.listing.specs.Promises.{upTo}
-use Rattle.finder.proofs.ReasonLaws.{valid-room}
+use Rattle.gate.proofs.GateLaws.{valid-room}
 use Rattle.finder.proofs.LoopTests.{lassoOf}
 use Rattle.finder.proofs.TableLaws.{loaded-upTo, loaded-mem, least-fits, loaded-kept, prepared-loaded, advanced-none, advanced-some}
 use Rattle.finder.proofs.NextLaws.{lassoOf-mem, notShortest-lasso, next-answer, next-not-shortest, next-no-more, next-no-room, following-written}

@@ -10,7 +10,7 @@ use Rattle.lasso.specs.Values.{bestOf, recordOf}
 use Rattle.model.specs.Model.{graphOf}
 use Rattle.model.proofs.Laws.{valid-sizes, valid-well-formed}
 use Rattle.finder.specs.Next.{nextOutcome, nextAnswer}
-use Rattle.finder.proofs.ReasonLaws.{valid-room}
+use Rattle.gate.proofs.GateLaws.{valid-room}
 use Rattle.rounds.proofs.TableLaws.{ready-kept}
 use Rattle.finder.proofs.ReadyLaws.{ready-started}
 use Rattle.finder.proofs.StepLaws.{candidates-length-le}

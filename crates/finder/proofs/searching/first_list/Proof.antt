@@ -10,7 +10,7 @@ use Rattle.lasso.proofs.RollLaws.{leastLength-range}
 use Rattle.model.specs.Model.{graphOf}
 use Rattle.model.proofs.Laws.{valid-sizes}
 use Rattle.finder.specs.Outcomes.{refused}
-use Rattle.finder.proofs.ReasonLaws.{valid-room}
+use Rattle.gate.proofs.GateLaws.{valid-room}
 use Rattle.finder.proofs.SearchLaws.{SearchIs, search-answer, search-no-room, first-written}
 use Rattle.finder.proofs.searching.first_list.Statement.{statement}
 use Rattle.finder.proofs.searching.first_list.Tie as tie

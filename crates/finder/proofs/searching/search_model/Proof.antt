@@ -12,7 +12,7 @@ use Rattle.model.specs.Model.{graphOf}
 use Rattle.model.proofs.Laws.{valid-well-formed}
 use Rattle.finder.specs.Outcomes.{answered, stopped, empty}
 use Rattle.finder.specs.Search.{searchOutcome, searchAnswer}
-use Rattle.finder.proofs.ReasonLaws.{valid-room}
+use Rattle.gate.proofs.GateLaws.{valid-room}
 use Rattle.rounds.proofs.TableLaws.{ready-kept}
 use Rattle.finder.proofs.ReadyLaws.{ready-started}
 use Rattle.finder.proofs.SearchLaws.{search-answer, search-stopped, search-empty, all-rounds}

@@ -1,24 +1,25 @@
--- The first reason that holds, in the table that every call applies with the call's own reasons behind it: what the check
--- of a file says about it, which reasons are left to decide once the file is accepted and the table has room, and what
--- becomes of the working table.
+-- The first reason that holds, in the table that every call applies with the call's own reasons behind it: what the gate
+-- says, which reasons are left to decide behind it, and what becomes of the working table.
 use Prim.Native.Nat.{ℕ, _*_, _≤_, _<_}
 use mathlib.Core.Path.{_≡_, refl, sym, _∙_, ap}
 use mathlib.Core.Bool.{Bool, true, false}
 use mathlib.Core.List.{List, [], _∷_, _++_}
 use mathlib.Core.Option.{Option, some, none}
+use mathlib.Core.Logic.{inl, inr}
 use native.Mathlib.Omega.{arith}
 use borrow.Author.Tests.{lt-ltb, le-ltb}
 use lib.ListN.{length, replicate}
+use lib.Dec.{ltb}
+use Rattle.lasso.proofs.Tests.{lt-or-ge}
 use Rattle.lasso.specs.Lists.{someIf}
 use Rattle.model.specs.Layout.{states}
 use Rattle.model.specs.Rules.{Reason, firstBroken, rules, Accepted}
 use Rattle.model.specs.declared.Header.{Header}
+use Rattle.model.specs.declared.Checked.{Checked}
 use Rattle.model.specs.declared.Checked.the-variants.{Refused, Accept}
 use Rattle.model.specs.Values.{headerOf, answerOf, checkOf, Valid}
 use Rattle.model.proofs.Laws.{valid-sizes}
-use Rattle.table.specs.Changes.{Cleared}
-use Rattle.table.proofs.Laws.{cleared-all}
-use Rattle.finder.specs.Tables.{smallTable, commonRules, workAfter, workOf}
+use Rattle.gate.specs.Gate.{smallTable, commonRules, gateOf, workAfter, workOf, Zeroed, Admitted, GateSays}
 
 -- the first value, or the second if there is none
 abbrev orElse : Option ℕ → Option ℕ → Option ℕ
@@ -44,6 +45,14 @@ clear-append rs ss e = firstBroken-append rs ss ∙ ap (λ (o : Option ℕ). orE
 pub broken-append : (rs ss : List Reason) (n : ℕ) → firstBroken rs ≡ some n → firstBroken (rs ++ ss) ≡ some n
 broken-append rs ss n e = firstBroken-append rs ss ∙ ap (λ (o : Option ℕ). orElse o (firstBroken ss)) e
 
+-- if no reason of two tables holds, none of the first does
+pub append-clear : (rs ss : List Reason) → firstBroken (rs ++ ss) ≡ none → firstBroken rs ≡ none
+append-clear rs ss e = go (firstBroken rs) (sym (firstBroken-append rs ss) ∙ e)
+  where
+    go : (o : Option ℕ) → orElse o (firstBroken ss) ≡ none → o ≡ none
+    go none q = refl
+    go (some n) q = let z : _≡_ {A = ℕ} 0 1 = cc in absurd (omega arith)
+
 -- the reason that the common table has behind those of the file
 abbrev tableReason : List ℕ → ℕ → List Reason
 tableReason f work = record { number = 12; holds = smallTable f work } ∷ []
@@ -61,6 +70,20 @@ common-small f work a less =
 pub common-clear : (f : List ℕ) (work : ℕ) → Accepted f → 6 * states f ≤ work → firstBroken (commonRules f work) ≡ none
 common-clear f work a room =
     clear-append (rules f) (tableReason f work) a ∙ ap (λ (b : Bool). someIf b 12 none) (le-ltb work (6 * states f) room)
+
+-- a file that breaks none of 1 to 12 is accepted, and the working table has room
+pub clear-common : (f : List ℕ) (work : ℕ) → firstBroken (commonRules f work) ≡ none → Accepted f × (6 * states f ≤ work)
+clear-common f work e =
+    let a : Accepted f = append-clear (rules f) (tableReason f work) e in
+    let left : someIf {A = ℕ} (smallTable f work) 12 none ≡ none = sym (clear-append (rules f) (tableReason f work) a) ∙ e in (
+      a,
+      elim (lt-or-ge work (6 * states f)) [
+        | inl less ↦
+            let broken : _≡_ {A = Option ℕ} (some 12) none = sym (ap (λ (b : Bool). someIf b 12 none) (lt-ltb work (6 * states f) less)) ∙ left in
+            let z : _≡_ {A = ℕ} 0 1 = cc in absurd (omega arith)
+        | inr room ↦ room
+      ],
+    )
 
 -- the room that the header of an accepted file asks is the room that the file asks
 pub valid-room : {f : List ℕ} {h : Header} → Valid f h → {n : ℕ} → 6 * h .states ≤ n → 6 * states f ≤ n
@@ -83,25 +106,33 @@ check-refused f n e = go (firstBroken (rules f)) e
     go (some m) q = let same : m ≡ n = cc in ap some same
 
 -- the check accepts a file that breaks none of 1 to 11, and answers its header
-pub check-accepted : (f : List ℕ) (h : Header) → Accept h ≡ checkOf f → Accepted f × (h ≡ headerOf f)
-check-accepted f h e = go (firstBroken (rules f)) e
-  where
-    go : (o : Option ℕ) → Accept h ≡ answerOf o f → (o ≡ none) × (h ≡ headerOf f)
-    go none q = (refl, cc)
-    go (some m) q = let z : _≡_ {A = ℕ} 0 1 = cc in absurd (omega arith)
-
--- an accepted file and its header are what the layers below ask
 pub check-valid : (f : List ℕ) (h : Header) → Accept h ≡ checkOf f → Valid f h
-check-valid f h e =
-    let (accepted, header) = check-accepted f h e in
-    record { accepted = accepted; header = header }
+check-valid f h e = go (firstBroken (rules f)) refl e
+  where
+    go : (o : Option ℕ) → firstBroken (rules f) ≡ o → Accept h ≡ answerOf o f → Valid f h
+    go none p q = record { accepted = p; header = cc }
+    go (some m) p q = let z : _≡_ {A = ℕ} 0 1 = cc in absurd (omega arith)
+
+-- what the gate answers is so: with a refusal its number is that of the first reason that holds, with a header the call
+-- may go on
+pub gate-says : (f : List ℕ) (work : ℕ) (r : Checked) → r ≡ gateOf f work → GateSays f work r
+gate-says f work r e = go (firstBroken (commonRules f work)) refl r e
+  where
+    go : (o : Option ℕ) → firstBroken (commonRules f work) ≡ o → (r : Checked) → r ≡ answerOf o f → GateSays f work r
+    go none q (Refused n) e = let z : _≡_ {A = ℕ} 0 1 = cc in absurd (omega arith)
+    go none q (Accept h) e =
+        let (accepted, room) = clear-common f work q in
+        let v : Valid f h = record { accepted = accepted; header = cc } in
+        record { valid = v; room = omega (arith, room, valid-sizes v .states-are); clear = q }
+    go (some m) q (Refused n) e = let same : m ≡ n = cc in q ∙ ap some same
+    go (some m) q (Accept h) e = let z : _≡_ {A = ℕ} 0 1 = cc in absurd (omega arith)
 
 -- a call that 1 to 12 refuse leaves the working table untouched
 pub work-refused : (f w : List ℕ) (n : ℕ) → firstBroken (commonRules f (length w)) ≡ some n → w ≡ workOf f w
 work-refused f w n e = sym (ap (λ (o : Option ℕ). workAfter o w) e)
 
--- a call that 1 to 12 do not refuse leaves it all zero: it is cleared as a whole, at the length it had
-pub work-cleared : (f w : List ℕ) {w₁ w' : List ℕ} → firstBroken (commonRules f (length w)) ≡ none → length w₁ ≡ length w
-    → Cleared 0 (length w₁) w₁ w' → w' ≡ workOf f w
-work-cleared f w {w₁} {w'} e same cleared =
-    cleared-all w₁ w' cleared ∙ ap (λ (n : ℕ). replicate n 0) same ∙ sym (ap (λ (o : Option ℕ). workAfter o w) e)
+-- a call that 1 to 12 do not refuse leaves it all zero, at the length it had
+pub work-left : (f w : List ℕ) {w₁ w' : List ℕ} → firstBroken (commonRules f (length w)) ≡ none → length w₁ ≡ length w
+    → Zeroed w₁ w' → w' ≡ workOf f w
+work-left f w e same left =
+    left .zeros ∙ ap (λ (n : ℕ). replicate n 0) same ∙ sym (ap (λ (o : Option ℕ). workAfter o w) e)

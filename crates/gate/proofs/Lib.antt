@@ -1,0 +1,2 @@
+-- The laws of the gate: the first reason that holds, in the table that every call applies with its own reasons behind it.
+pub mod GateLaws
