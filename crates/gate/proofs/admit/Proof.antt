@@ -36,7 +36,7 @@ returns : tie.Need-returns
 returns c =
     let accepted = c .before .before .before in
     let a = start (accepted .before .before) .args in
-    sym (ap (λ (o : Option ℕ). answerOf o (a .file .now)) (valid-small (valid accepted) (length (a .work .now)) (c .if1 .taken)))
+    sym (ap (λ (o : Option ℕ). answerOf o (a .file .now)) (valid-small (valid accepted) (length (a .work .now)) (omega (arith, c .if1 .taken))))
 
 returns-2 : tie.Need-returns-2
 returns-2 c =
@@ -50,7 +50,7 @@ returns-3 c =
     let accepted = c .before .before .before in
     let a = start (accepted .before .before) .args in
     ap Accept (valid accepted .header)
-    ∙ sym (ap (λ (o : Option ℕ). answerOf o (a .file .now)) (valid-clear (valid accepted) (length (a .work .now)) (c .if1 .left)))
+    ∙ sym (ap (λ (o : Option ℕ). answerOf o (a .file .now)) (valid-clear (valid accepted) (length (a .work .now)) (omega (arith, c .if1 .left))))
 
 pub admit-spec : {M : Type 1} → statement M
 admit-spec =
