@@ -1,5 +1,6 @@
 -- The laws of the public operations: the reasons to refuse, the answers, the tables, and condition 2.
 pub mod ReasonLaws
+pub mod FirstLaws
 pub mod ReadyLaws
 pub mod StepLaws
 pub mod SearchLaws

@@ -45,7 +45,7 @@ pub broken-append : (rs ss : List Reason) (n : ℕ) → firstBroken rs ≡ some 
 broken-append rs ss n e = firstBroken-append rs ss ∙ ap (λ (o : Option ℕ). orElse o (firstBroken ss)) e
 
 -- the reason that the common table has behind those of the file
-abbrev tableReason : List ℕ → ℕ → List Reason
+abbrev pub tableReason : List ℕ → ℕ → List Reason
 tableReason f work = record { number = 12; holds = smallTable f work } ∷ []
 
 -- a refused file is refused with the number of its check, whatever the working table

@@ -4,3 +4,5 @@ pub mod Tables
 pub mod Step
 pub mod Search
 pub mod Next
+pub mod Reasons
+pub mod Condition2
