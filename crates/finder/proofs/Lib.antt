@@ -1,4 +1,4 @@
--- The laws of the public operations: the reasons to refuse, the answers, the tables, and condition 2.
+-- The laws of the public operations: the reasons to refuse, the answers, the tables, and conditions 1 and 2.
 pub mod ReasonLaws
 pub mod FirstLaws
 pub mod ReadyLaws
@@ -10,4 +10,5 @@ pub mod LoadLaws
 pub mod TableLaws
 pub mod NextLaws
 pub mod OutcomeLaws
+pub mod Condition1
 pub mod Condition2

@@ -5,4 +5,5 @@ pub mod Step
 pub mod Search
 pub mod Next
 pub mod Reasons
+pub mod Condition1
 pub mod Condition2
