@@ -1,82 +1,38 @@
--- Condition 2: what a search with enough room answers and writes, in the contract's words.
+-- Condition 2 holds: a search for which no reason holds answers and writes what the contract says.
 use Prim.Native.Nat.{ℕ, _+_, _*_, _≤_, _<_}
 use mathlib.Core.Path.{_≡_, refl, sym, _∙_, ap, subst}
-use mathlib.Core.Logic.{_↔_, inl, inr}
+use mathlib.Core.Bool.{false}
+use mathlib.Core.Logic.{_⊎_, inl, inr}
 use mathlib.Core.List.{List, [], _∷_, _++_, head?, List·Memᴰ, List·Memᴰ·head, List·Memᴰ·cases-cons}
 use mathlib.Core.Option.{Option, some, none}
 use native.Mathlib.Omega.{arith}
-use lib.ListN.{length, drop}
-use lib.Dec.{T}
-use Rattle.lasso.specs.Graph.{Graph, WellFormed, edges, acceptingb, loopStart}
-use Rattle.lasso.specs.Order.{beforeb}
+use borrow.Author.Tests.{ltb-false}
+use lib.ListN.{length, getD, drop}
+use lib.Dec.{T, eqb→eq}
+use Rattle.lasso.specs.Lists.{below}
+use Rattle.lasso.specs.Graph.{Graph, WellFormed, edges, loopsb, acceptingb, loopStart}
 use Rattle.lasso.specs.Roll.{leastLength, roll}
-use Rattle.lasso.specs.Rounds.{candidates, afterRounds}
+use Rattle.lasso.specs.Rounds.{Record, candidates}
 use Rattle.lasso.proofs.Least.{IsLeast}
-use Rattle.lasso.proofs.Lasso.{AcceptingLength}
+use Rattle.lasso.proofs.Lasso.{AcceptingLength, loop-start}
 use Rattle.lasso.proofs.Sorted.{Sorted, all-mem}
+use Rattle.lasso.proofs.Tests.{parts, lt-or-ge, anyb-some, below-lt}
 use Rattle.lasso.proofs.OrderLaws.{Before}
-use Rattle.lasso.proofs.RollLaws.{leastLength-least, leastLength-range, in-roll, roll-strict}
+use Rattle.lasso.proofs.RollLaws.{leastLength-least, in-roll, roll-strict}
 use Rattle.lasso.proofs.RoundLaws.{afterRounds-done}
 use Rattle.model.specs.Layout.{states}
 use Rattle.model.specs.Model.{graphOf}
-use Rattle.model.specs.Rules.{Accepted}
+use Rattle.model.specs.Rules.{firstBroken, rules, Accepted}
 use Rattle.model.proofs.Laws.{accepted-well-formed}
 use Rattle.finder.specs.Outcomes.{answered, Searched, stopped, empty}
-use Rattle.finder.specs.Search.{searchOutcome, searchAnswer}
-use Rattle.finder.proofs.SearchLaws.{search-answer, search-stopped, search-empty, search-found, roll-first}
-
--- an accepting path exists
-abbrev pub SomePath : Graph → Type 0
-SomePath g = (ys : List ℕ) × T (acceptingb g ys)
-
--- the first of the shortest accepting paths: no accepting path is shorter, and every other one of the same length comes
--- after it in dictionary order
-pub record FirstShortest (g : Graph) (xs : List ℕ) : Type 0 where
-  pub accepting : T (acceptingb g xs)
-  pub shortest : (ys : List ℕ) → T (acceptingb g ys) → edges xs ≤ edges ys
-  pub first : (ys : List ℕ) → T (acceptingb g ys) → edges ys ≡ edges xs → (ys ≡ xs → ⊥) → T (beforeb xs ys)
-
--- what "found" (L, k, rounds) says: the list that stands in the answer table from entry 0 on, what lies past it being as
--- before, and the figures
-pub record FoundSays (f : List ℕ) (allowance : ℕ) (a : List ℕ) (work L k rounds : ℕ) : Type 0 where
-  pub list : List ℕ
-  pub written : searchAnswer f allowance a work ≡ list ++ drop (L + 1) a
-  pub first-shortest : FirstShortest (graphOf f) list
-  pub length-is : L ≡ edges list
-  pub loop-start-is : k ≡ loopStart list
-  pub rounds-are : rounds ≡ length (candidates (graphOf f))
-
--- what "empty" (rounds) says: nothing is written, and all rounds are done
-pub record EmptySays (f : List ℕ) (allowance : ℕ) (a : List ℕ) (work rounds : ℕ) : Type 0 where
-  pub unwritten : searchAnswer f allowance a work ≡ a
-  pub rounds-are : rounds ≡ length (candidates (graphOf f))
-
--- the answer is "found" (L, k, rounds)
-abbrev pub IsFound : List ℕ → ℕ → List ℕ → ℕ → ℕ → ℕ → ℕ → Type 0
-IsFound f allowance a work L k rounds = searchOutcome f allowance (length a) work ≡ answered (Searched.found L k rounds)
-
--- the answer is "empty" (rounds)
-abbrev pub IsEmpty : List ℕ → ℕ → List ℕ → ℕ → ℕ → Type 0
-IsEmpty f allowance a work rounds = searchOutcome f allowance (length a) work ≡ answered (empty rounds)
-
--- with an allowance not below the number of candidates: "found" exactly if an accepting path exists, "empty" exactly if
--- none does
-pub record Searches (f : List ℕ) (allowance : ℕ) (a : List ℕ) (work : ℕ) : Type 0 where
-  pub found-exactly : ((L : ℕ) × (k : ℕ) × (rounds : ℕ) × IsFound f allowance a work L k rounds) ↔ SomePath (graphOf f)
-  pub found-says : (L k rounds : ℕ) → IsFound f allowance a work L k rounds → FoundSays f allowance a work L k rounds
-  pub empty-exactly : ((rounds : ℕ) × IsEmpty f allowance a work rounds) ↔ (SomePath (graphOf f) → ⊥)
-  pub empty-says : (rounds : ℕ) → IsEmpty f allowance a work rounds → EmptySays f allowance a work rounds
-
--- with a smaller allowance: "stopped" with the record after that many rounds, and nothing is written
-pub record Stops (f : List ℕ) (allowance : ℕ) (a : List ℕ) (work : ℕ) : Type 0 where
-  pub stopped-with : searchOutcome f allowance (length a) work ≡ answered (stopped (afterRounds (graphOf f) allowance))
-  pub rounds-done : afterRounds (graphOf f) allowance .done ≡ allowance
-  pub unwritten : searchAnswer f allowance a work ≡ a
-
--- a search: by whether the allowance suffices
-pub record Condition2 (f : List ℕ) (allowance : ℕ) (a : List ℕ) (work : ℕ) : Type 0 where
-  pub suffices : length (candidates (graphOf f)) ≤ allowance → Searches f allowance a work
-  pub short : allowance < length (candidates (graphOf f)) → Stops f allowance a work
+use Rattle.gate.specs.Gate.{commonRules}
+use Rattle.finder.specs.Tables.{noRoom}
+use Rattle.finder.specs.Search.{searched, firstDue, lengthDue, listReasons, searchReasons}
+use Rattle.finder.specs.Reasons.{NoneHolds}
+use Rattle.finder.specs.Condition2.{SomePath, FirstShortest, Searches, Condition2, SearchPasses, SearchPassesExactly, Condition2Holds}
+use Rattle.gate.proofs.GateLaws.{tableReason}
+use Rattle.finder.proofs.FirstLaws.{none-clear, clear-none, none-parts, answered-none}
+use Rattle.finder.proofs.SearchLaws.{SearchIs, search-answer, search-stopped, search-empty, search-found, search-goes-on, roll-first}
 
 -- the first list of an ordered roll stands before every other one
 head-before : (rs : List (List ℕ)) (xs ys : List ℕ) → Sorted Before rs → head? rs ≡ some xs → List·Memᴰ ys rs → (ys ≡ xs → ⊥)
@@ -106,12 +62,28 @@ roll-firstShortest g wf xs e =
           head-before (roll g) xs ys (roll-strict g) e m apart;
     }
 
--- "empty" is not "found"
+-- an accepting path is a closed walk with a mark from its loop start on, which is below its length
+pub accepting-loops : (g : Graph) (xs : List ℕ) → T (acceptingb g xs) → (loopStart xs < edges xs) × T (loopsb g xs (loopStart xs))
+accepting-loops g xs h =
+    let (low, closes, only) = loop-start g xs h in
+    let some-k = anyb-some (loopsb g xs) (below (edges xs)) (search parts) in
+    let at-k : T (loopsb g xs (some-k .0)) = some-k .2 in
+    let last : getD xs (edges xs) 0 ≡ getD xs (some-k .0) 0 = search (parts, eqb→eq) in
+    let same : some-k .0 ≡ loopStart xs = only (some-k .0) (below-lt (edges xs) (some-k .1)) (sym last) in
+    (low, subst (λ (k : ℕ). T (loopsb g xs k)) same at-k)
+
+-- "empty", "found" and "stopped" are different answers
 empty-found : {r L k rounds : ℕ} → answered (empty r) ≡ answered (Searched.found L k rounds) → ⊥
 empty-found e = let z : _≡_ {A = ℕ} 0 1 = cc in omega arith
 
+stopped-found : {r : Record} {L k rounds : ℕ} → answered (stopped r) ≡ answered (Searched.found L k rounds) → ⊥
+stopped-found e = let z : _≡_ {A = ℕ} 0 1 = cc in omega arith
+
+stopped-empty : {r : Record} {rounds : ℕ} → answered (stopped r) ≡ answered (empty rounds) → ⊥
+stopped-empty e = let z : _≡_ {A = ℕ} 0 1 = cc in omega arith
+
 module _ (f : List ℕ) (accepted : Accepted f) (allowance : ℕ) (a : List ℕ) (work : ℕ) (room : 6 * states f ≤ work) where
-  -- no accepting path exists
+  -- the allowance suffices, and no accepting path exists
   searches-none : length (candidates (graphOf f)) ≤ allowance → leastLength (graphOf f) ≡ none → Searches f allowance a work
   searches-none enough e =
       let g : Graph = graphOf f in
@@ -120,6 +92,8 @@ module _ (f : List ℕ) (accepted : Accepted f) (allowance : ℕ) (a : List ℕ)
       let least : IsLeast (AcceptingLength g) none = rw e at (leastLength-least g (accepted-well-formed f accepted)) in
       let no-path : SomePath g → ⊥ = λ p. least (edges (p .0)) (p .0, p .1, refl) in
       record {
+        answers = inr (n, is .outcome);
+        not-stopped = λ r q. stopped-empty (sym q ∙ is .outcome);
         found-exactly = (λ p. absurd (empty-found (sym (is .outcome) ∙ p .3)), λ p. absurd (no-path p));
         found-says = λ L k rounds q. absurd (empty-found (sym (is .outcome) ∙ q));
         empty-exactly = (λ p. no-path, λ p. (n, is .outcome));
@@ -128,47 +102,104 @@ module _ (f : List ℕ) (accepted : Accepted f) (allowance : ℕ) (a : List ℕ)
             record { unwritten = search-answer a is; rounds-are = cc };
       }
 
-  -- an accepting path exists, and the answer table has room for one entry more than there are states
-  searches-some : length (candidates (graphOf f)) ≤ allowance → states f + 1 ≤ length a → (l : ℕ) → leastLength (graphOf f) ≡ some l
-      → Searches f allowance a work
-  searches-some enough entries l e =
+  -- the allowance suffices, an accepting path exists, and the answer table has room for the first of the roll
+  searches-some : length (candidates (graphOf f)) ≤ allowance → (xs : List ℕ) → head? (roll (graphOf f)) ≡ some xs
+      → edges xs + 1 ≤ length a → Searches f allowance a work
+  searches-some enough xs first fits =
       let g : Graph = graphOf f in
       let n : ℕ = length (candidates g) in
-      let (xs, first, long) = roll-first g l e in
-      let is = search-found f accepted allowance (length a) work room enough xs first (omega (arith, leastLength-range g l e)) in
+      let is = search-found f accepted allowance (length a) work room enough xs first fits in
       let best : FirstShortest g xs = roll-firstShortest g (accepted-well-formed f accepted) xs first in
+      let (low, closed) = accepting-loops g xs (best .accepting) in
       record {
+        answers = inl (edges xs, loopStart xs, n, is .outcome);
+        not-stopped = λ r q. stopped-found (sym q ∙ is .outcome);
         found-exactly = (λ p. (xs, best .accepting), λ p. (edges xs, loopStart xs, n, is .outcome));
         found-says = λ L k rounds q.
             let same : answered (Searched.found L k rounds) ≡ answered (Searched.found (edges xs) (loopStart xs) n) = sym q ∙ is .outcome in
-            let at-L : L ≡ edges xs = cc in
+            let at-L : edges xs ≡ L = cc in
+            let at-k : loopStart xs ≡ k = cc in
             let entries : length xs ≡ L + 1 = omega arith in
             record {
               list = xs;
-              written = search-answer a is ∙ ap (λ (m : ℕ). xs ++ drop m a) entries;
               first-shortest = best;
               length-is = at-L;
-              loop-start-is = cc;
+              entries-are = entries;
+              fits = omega arith;
+              written = search-answer a is ∙ ap (λ (m : ℕ). xs ++ drop m a) entries;
+              loop-start-below = omega arith;
+              loops = subst (λ (j : ℕ). T (loopsb g xs j)) at-k closed;
               rounds-are = cc;
             };
         empty-exactly = (λ p. absurd (empty-found (sym (p .1) ∙ is .outcome)), λ p. absurd (p (xs, best .accepting)));
         empty-says = λ rounds q. absurd (empty-found (sym q ∙ is .outcome));
       }
 
-  -- condition 2: an accepted file, a working table with room, an answer table with one entry more than there are states
-  pub condition-2 : states f + 1 ≤ length a → Condition2 f allowance a work
-  condition-2 entries =
-      record {
-        suffices = λ enough. by-least enough (leastLength (graphOf f)) refl;
-        short = λ less.
-            let is = search-stopped f accepted allowance (length a) work room less in
-            record {
-              stopped-with = is .outcome;
-              rounds-done = afterRounds-done (graphOf f) allowance;
-              unwritten = search-answer a is;
-            };
-      }
-    where
-      by-least : length (candidates (graphOf f)) ≤ allowance → (o : Option ℕ) → leastLength (graphOf f) ≡ o → Searches f allowance a work
-      by-least enough none e = searches-none enough e
-      by-least enough (some l) e = searches-some enough entries l e
+-- no reason of a search holds: what that says
+none-admitted : (f : List ℕ) (allowance answer work : ℕ) → NoneHolds (searchReasons f allowance answer work)
+    → SearchPasses f allowance answer work
+none-admitted f allowance answer work h =
+    let g : Graph = graphOf f in
+    let (common, list) = none-parts (commonRules f work) (listReasons f (firstDue g allowance) answer) h in
+    let (file, table) = none-parts (rules f) (tableReason f work) common in
+    let accepted : Accepted f = none-clear (rules f) file in
+    let room : 6 * states f ≤ work = ltb-false work (6 * states f) (table .0) in
+    record {
+      accepted = accepted;
+      room = room;
+      fits = λ enough l least.
+          let (xs, first, long) = roll-first g l least in
+          let due : firstDue g allowance ≡ some xs = search-goes-on f accepted allowance answer work room enough .1 ∙ first in
+          let free : noRoom (some (edges xs)) answer ≡ false = sym (ap (λ (d : Option (List ℕ)). noRoom (lengthDue d) answer) due) ∙ list .1 .0 in
+          omega (arith, ltb-false answer (edges xs + 1) free);
+    }
+
+-- where that is so, no reason holds
+admitted-none : (f : List ℕ) (allowance answer work : ℕ) → SearchPasses f allowance answer work
+    → NoneHolds (searchReasons f allowance answer work)
+admitted-none f allowance answer work adm =
+    elim (lt-or-ge allowance (length (candidates (graphOf f)))) [
+      | inl less ↦ not-refused (search-stopped f (adm .accepted) allowance answer work (adm .room) less)
+      | inr enough ↦ by-least enough (leastLength (graphOf f)) refl
+    ]
+  where
+    not-refused : {s : Searched} {due : Option (List ℕ)} → SearchIs f allowance answer work (answered s) due
+        → NoneHolds (searchReasons f allowance answer work)
+    not-refused {s} is =
+        let reasons = searchReasons f allowance answer work in
+        clear-none reasons (answered-none (firstBroken reasons) (searched (graphOf f) allowance) s (is .outcome))
+
+    by-least : length (candidates (graphOf f)) ≤ allowance → (o : Option ℕ) → leastLength (graphOf f) ≡ o
+        → NoneHolds (searchReasons f allowance answer work)
+    by-least enough none e = not-refused (search-empty f (adm .accepted) allowance answer work (adm .room) enough e)
+    by-least enough (some l) e =
+        let (xs, first, long) = roll-first (graphOf f) l e in
+        not-refused (search-found f (adm .accepted) allowance answer work (adm .room) enough xs first (omega (arith, adm .fits enough l e)))
+
+-- when no reason of a search holds
+pub admitted-exactly : SearchPassesExactly
+admitted-exactly f allowance answer work = (none-admitted f allowance answer work, admitted-none f allowance answer work)
+
+-- condition 2
+pub condition-2 : Condition2Holds
+condition-2 f allowance a work h =
+    let adm : SearchPasses f allowance (length a) work = none-admitted f allowance (length a) work h in
+    record {
+      suffices = λ enough. by-least adm enough (leastLength (graphOf f)) refl;
+      short = λ less.
+          let is = search-stopped f (adm .accepted) allowance (length a) work (adm .room) less in
+          record {
+            stopped-with = is .outcome;
+            rounds-done = afterRounds-done (graphOf f) allowance;
+            not-found = λ p. stopped-found (sym (is .outcome) ∙ p .3);
+            not-empty = λ p. stopped-empty (sym (is .outcome) ∙ p .1);
+            unwritten = search-answer a is;
+          };
+    }
+  where
+    by-least : SearchPasses f allowance (length a) work → length (candidates (graphOf f)) ≤ allowance → (o : Option ℕ)
+        → leastLength (graphOf f) ≡ o → Searches f allowance a work
+    by-least adm enough none e = searches-none f (adm .accepted) allowance a work (adm .room) enough e
+    by-least adm enough (some l) e =
+        let (xs, first, long) = roll-first (graphOf f) l e in
+        searches-some f (adm .accepted) allowance a work (adm .room) enough xs first (omega (arith, adm .fits enough l e))

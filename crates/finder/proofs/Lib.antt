@@ -1,4 +1,5 @@
--- The laws of the public operations: the reasons to refuse, the answers, the tables, and condition 2.
+-- The laws of the public operations: the reasons to refuse, the answers, the tables, and conditions 1 and 2.
+pub mod FirstLaws
 pub mod ReadyLaws
 pub mod StepLaws
 pub mod SearchLaws
@@ -8,4 +9,5 @@ pub mod LoadLaws
 pub mod TableLaws
 pub mod NextLaws
 pub mod OutcomeLaws
+pub mod Condition1
 pub mod Condition2

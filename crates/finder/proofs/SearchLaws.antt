@@ -126,7 +126,7 @@ module _ (f : List ℕ) (accepted : Accepted f) (allowance answer work : ℕ) (r
       (ap (λ (b : Bool). pick b (stopped (afterRounds g allowance)) (firstOf (roll g) (length (candidates g)))) stops) due
 
   -- the allowance suffices: the first of the roll decides
-  search-goes-on : length (candidates g) ≤ allowance
+  pub search-goes-on : length (candidates g) ≤ allowance
       → (searched g allowance ≡ firstOf (roll g) (length (candidates g))) × (firstDue g allowance ≡ head? (roll g))
   search-goes-on enough =
       let goes : stopsb g allowance ≡ false = le-ltb allowance (length (candidates g)) enough in (

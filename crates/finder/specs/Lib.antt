@@ -4,3 +4,6 @@ pub mod Tables
 pub mod Step
 pub mod Search
 pub mod Next
+pub mod Reasons
+pub mod Condition1
+pub mod Condition2

@@ -19,7 +19,7 @@ use Rattle.model.specs.declared.Checked.{Checked}
 use Rattle.model.specs.declared.Checked.the-variants.{Refused, Accept}
 use Rattle.model.specs.Values.{headerOf, answerOf, checkOf, Valid}
 use Rattle.model.proofs.Laws.{valid-sizes}
-use Rattle.gate.specs.Gate.{smallTable, commonRules, gateOf, workAfter, workOf, Zeroed, Admitted, GateSays}
+use Rattle.gate.specs.Gate.{smallTable, commonRules, gateOf, workAfter, workOf, Zeroed, Passed, GateSays}
 
 -- the first value, or the second if there is none
 abbrev orElse : Option ℕ → Option ℕ → Option ℕ
@@ -54,7 +54,7 @@ append-clear rs ss e = go (firstBroken rs) (sym (firstBroken-append rs ss) ∙ e
     go (some n) q = let z : _≡_ {A = ℕ} 0 1 = cc in absurd (omega arith)
 
 -- the reason that the common table has behind those of the file
-abbrev tableReason : List ℕ → ℕ → List Reason
+abbrev pub tableReason : List ℕ → ℕ → List Reason
 tableReason f work = record { number = 12; holds = smallTable f work } ∷ []
 
 -- a refused file is refused with the number of its check, whatever the working table

@@ -39,7 +39,7 @@ pub record Zeroed (w w' : List ℕ) : Type 0 where
   pub zeros : w' ≡ replicate (length w) 0
 
 -- a call that none of 1 to 12 refuses: an accepted file with its own header, and room for the six regions
-pub record Admitted (f : List ℕ) (work : ℕ) (h : Header) : Type 0 where
+pub record Passed (f : List ℕ) (work : ℕ) (h : Header) : Type 0 where
   pub valid : Valid f h
   pub room : 6 * h .states ≤ work
   pub clear : firstBroken (commonRules f work) ≡ none
@@ -47,4 +47,4 @@ pub record Admitted (f : List ℕ) (work : ℕ) (h : Header) : Type 0 where
 -- what each answer of the gate says
 abbrev pub GateSays : List ℕ → ℕ → Checked → Type 0
 GateSays f work (Refused n) = firstBroken (commonRules f work) ≡ some n
-GateSays f work (Accept h) = Admitted f work h
+GateSays f work (Accept h) = Passed f work h

@@ -6,7 +6,7 @@ use borrow.Author.Needs.{needs}
 use lib.ListN.{length}
 use Rattle.model.specs.Rules.{firstBroken}
 use Rattle.model.specs.declared.Checked.the-variants.{Refused, Accept}
-use Rattle.gate.specs.Gate.{commonRules, Admitted}
+use Rattle.gate.specs.Gate.{commonRules, Passed}
 use Rattle.gate.proofs.GateLaws.{gate-says, work-refused, work-left}
 use Rattle.finder.proofs.SearchLaws.{search-answer, search-refused}
 use Rattle.finder.proofs.search.Statement.{statement}
@@ -26,7 +26,7 @@ broken c =
 
 -- an admitted file, with its header
 admitted : (c : tie.After-checked2)
-    → let a = start (c .before .before) .args in Admitted (a .file .now) (length (a .work .now)) (c .checked2 .given .0 .0)
+    → let a = start (c .before .before) .args in Passed (a .file .now) (length (a .work .now)) (c .checked2 .given .0 .0)
 admitted c =
     let a = start (c .before .before) .args in
     gate-says (a .file .now) (length (a .work .now)) (Accept _) (sym (c .checked2 .given .1) ∙ c .before .before .admit .ensures)

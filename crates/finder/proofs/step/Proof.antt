@@ -7,7 +7,7 @@ use lib.ListN.{length}
 use Rattle.lasso.specs.Values.{recordOf}
 use Rattle.model.specs.Rules.{firstBroken}
 use Rattle.model.specs.declared.Checked.the-variants.{Refused, Accept}
-use Rattle.gate.specs.Gate.{commonRules, Admitted}
+use Rattle.gate.specs.Gate.{commonRules, Passed}
 use Rattle.gate.proofs.GateLaws.{gate-says, work-refused, work-left}
 use Rattle.finder.proofs.StepLaws.{step-refused}
 use Rattle.finder.proofs.step.Statement.{statement}
@@ -27,7 +27,7 @@ broken c =
 
 -- an admitted file, with its header
 admitted : (c : tie.After-checked2)
-    → let a = start (c .before .before) .args in Admitted (a .file .now) (length (a .work .now)) (c .checked2 .given .0 .0)
+    → let a = start (c .before .before) .args in Passed (a .file .now) (length (a .work .now)) (c .checked2 .given .0 .0)
 admitted c =
     let a = start (c .before .before) .args in
     gate-says (a .file .now) (length (a .work .now)) (Accept _) (sym (c .checked2 .given .1) ∙ c .before .before .admit .ensures)
