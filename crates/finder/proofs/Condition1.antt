@@ -11,6 +11,7 @@ use lib.Dec.{T}
 use Rattle.lasso.specs.Graph.{ascendingb}
 use Rattle.lasso.specs.Following.{following}
 use Rattle.lasso.specs.Roll.{roll}
+use Rattle.gate.specs.declared.Ask.{Ask}
 use Rattle.model.specs.Model.{graphOf}
 use Rattle.model.specs.Rules.{Reason, firstBroken}
 use Rattle.finder.specs.Outcomes.{Outcome, refused, answered, outcome}
@@ -91,13 +92,13 @@ condition-1 = record {
     refuses = refuses (commonRules f (length w)) stepNumbers (stepped (graphOf f) rec) refl tt;
     work = work-left f w [] (stepped (graphOf f) rec) tt;
   };
-  search = λ f allowance a w.
-      let x = searched (graphOf f) allowance in
-      let reasons = searchReasons f allowance (length a) (length w) in
+  search = λ f ask a w.
+      let x = searched (graphOf f) ask in
+      let reasons = searchReasons f ask (length a) (length w) in
       record {
         refuses = refuses reasons searchNumbers x refl tt;
-        answer = answer-kept (firstBroken reasons) x (firstDue (graphOf f) allowance) a;
-        work = work-left f w (listReasons f (firstDue (graphOf f) allowance) (length a)) x tt;
+        answer = answer-kept (firstBroken reasons) x (firstDue (graphOf f) ask) a;
+        work = work-left f w (listReasons f (firstDue (graphOf f) ask) (length a)) x tt;
       };
   next = λ f earlier a w.
       let due = following earlier (roll (graphOf f)) in

@@ -20,6 +20,7 @@ use Rattle.lasso.proofs.Tests.{parts, lt-or-ge, anyb-some, below-lt}
 use Rattle.lasso.proofs.OrderLaws.{Before}
 use Rattle.lasso.proofs.RollLaws.{leastLength-least, in-roll, roll-strict}
 use Rattle.lasso.proofs.RoundLaws.{afterRounds-done}
+use Rattle.gate.specs.declared.Ask.{Ask}
 use Rattle.model.specs.Layout.{states}
 use Rattle.model.specs.Model.{graphOf}
 use Rattle.model.specs.Rules.{firstBroken, rules, Accepted}
@@ -82,13 +83,13 @@ stopped-found e = let z : _≡_ {A = ℕ} 0 1 = cc in omega arith
 stopped-empty : {r : Record} {rounds : ℕ} → answered (stopped r) ≡ answered (empty rounds) → ⊥
 stopped-empty e = let z : _≡_ {A = ℕ} 0 1 = cc in omega arith
 
-module _ (f : List ℕ) (accepted : Accepted f) (allowance : ℕ) (a : List ℕ) (work : ℕ) (room : 6 * states f ≤ work) where
+module _ (f : List ℕ) (accepted : Accepted f) (ask : Ask) (a : List ℕ) (work : ℕ) (room : 6 * states f ≤ work) where
   -- the allowance suffices, and no accepting path exists
-  searches-none : length (candidates (graphOf f)) ≤ allowance → leastLength (graphOf f) ≡ none → Searches f allowance a work
+  searches-none : length (candidates (graphOf f)) ≤ ask .allowance → leastLength (graphOf f) ≡ none → Searches f ask a work
   searches-none enough e =
       let g : Graph = graphOf f in
       let n : ℕ = length (candidates g) in
-      let is = search-empty f accepted allowance (length a) work room enough e in
+      let is = search-empty f accepted ask (length a) work room enough e in
       let least : IsLeast (AcceptingLength g) none = rw e at (leastLength-least g (accepted-well-formed f accepted)) in
       let no-path : SomePath g → ⊥ = λ p. least (edges (p .0)) (p .0, p .1, refl) in
       record {
@@ -103,12 +104,12 @@ module _ (f : List ℕ) (accepted : Accepted f) (allowance : ℕ) (a : List ℕ)
       }
 
   -- the allowance suffices, an accepting path exists, and the answer table has room for the first of the roll
-  searches-some : length (candidates (graphOf f)) ≤ allowance → (xs : List ℕ) → head? (roll (graphOf f)) ≡ some xs
-      → edges xs + 1 ≤ length a → Searches f allowance a work
+  searches-some : length (candidates (graphOf f)) ≤ ask .allowance → (xs : List ℕ) → head? (roll (graphOf f)) ≡ some xs
+      → edges xs + 1 ≤ length a → Searches f ask a work
   searches-some enough xs first fits =
       let g : Graph = graphOf f in
       let n : ℕ = length (candidates g) in
-      let is = search-found f accepted allowance (length a) work room enough xs first fits in
+      let is = search-found f accepted ask (length a) work room enough xs first fits in
       let best : FirstShortest g xs = roll-firstShortest g (accepted-well-formed f accepted) xs first in
       let (low, closed) = accepting-loops g xs (best .accepting) in
       record {
@@ -136,11 +137,11 @@ module _ (f : List ℕ) (accepted : Accepted f) (allowance : ℕ) (a : List ℕ)
       }
 
 -- no reason of a search holds: what that says
-none-admitted : (f : List ℕ) (allowance answer work : ℕ) → NoneHolds (searchReasons f allowance answer work)
-    → SearchPasses f allowance answer work
-none-admitted f allowance answer work h =
+none-passes : (f : List ℕ) (ask : Ask) (answer work : ℕ) → NoneHolds (searchReasons f ask answer work)
+    → SearchPasses f ask answer work
+none-passes f ask answer work h =
     let g : Graph = graphOf f in
-    let (common, list) = none-parts (commonRules f work) (listReasons f (firstDue g allowance) answer) h in
+    let (common, list) = none-parts (commonRules f work) (listReasons f (firstDue g ask) answer) h in
     let (file, table) = none-parts (rules f) (tableReason f work) common in
     let accepted : Accepted f = none-clear (rules f) file in
     let room : 6 * states f ≤ work = ltb-false work (6 * states f) (table .0) in
@@ -149,57 +150,57 @@ none-admitted f allowance answer work h =
       room = room;
       fits = λ enough l least.
           let (xs, first, long) = roll-first g l least in
-          let due : firstDue g allowance ≡ some xs = search-goes-on f accepted allowance answer work room enough .1 ∙ first in
+          let due : firstDue g ask ≡ some xs = search-goes-on f accepted ask answer work room enough .1 ∙ first in
           let free : noRoom (some (edges xs)) answer ≡ false = sym (ap (λ (d : Option (List ℕ)). noRoom (lengthDue d) answer) due) ∙ list .1 .0 in
           omega (arith, ltb-false answer (edges xs + 1) free);
     }
 
 -- where that is so, no reason holds
-admitted-none : (f : List ℕ) (allowance answer work : ℕ) → SearchPasses f allowance answer work
-    → NoneHolds (searchReasons f allowance answer work)
-admitted-none f allowance answer work adm =
-    elim (lt-or-ge allowance (length (candidates (graphOf f)))) [
-      | inl less ↦ not-refused (search-stopped f (adm .accepted) allowance answer work (adm .room) less)
+passes-none : (f : List ℕ) (ask : Ask) (answer work : ℕ) → SearchPasses f ask answer work
+    → NoneHolds (searchReasons f ask answer work)
+passes-none f ask answer work passes =
+    elim (lt-or-ge (ask .allowance) (length (candidates (graphOf f)))) [
+      | inl less ↦ not-refused (search-stopped f (passes .accepted) ask answer work (passes .room) less)
       | inr enough ↦ by-least enough (leastLength (graphOf f)) refl
     ]
   where
-    not-refused : {s : Searched} {due : Option (List ℕ)} → SearchIs f allowance answer work (answered s) due
-        → NoneHolds (searchReasons f allowance answer work)
+    not-refused : {s : Searched} {due : Option (List ℕ)} → SearchIs f ask answer work (answered s) due
+        → NoneHolds (searchReasons f ask answer work)
     not-refused {s} is =
-        let reasons = searchReasons f allowance answer work in
-        clear-none reasons (answered-none (firstBroken reasons) (searched (graphOf f) allowance) s (is .outcome))
+        let reasons = searchReasons f ask answer work in
+        clear-none reasons (answered-none (firstBroken reasons) (searched (graphOf f) ask) s (is .outcome))
 
-    by-least : length (candidates (graphOf f)) ≤ allowance → (o : Option ℕ) → leastLength (graphOf f) ≡ o
-        → NoneHolds (searchReasons f allowance answer work)
-    by-least enough none e = not-refused (search-empty f (adm .accepted) allowance answer work (adm .room) enough e)
+    by-least : length (candidates (graphOf f)) ≤ ask .allowance → (o : Option ℕ) → leastLength (graphOf f) ≡ o
+        → NoneHolds (searchReasons f ask answer work)
+    by-least enough none e = not-refused (search-empty f (passes .accepted) ask answer work (passes .room) enough e)
     by-least enough (some l) e =
         let (xs, first, long) = roll-first (graphOf f) l e in
-        not-refused (search-found f (adm .accepted) allowance answer work (adm .room) enough xs first (omega (arith, adm .fits enough l e)))
+        not-refused (search-found f (passes .accepted) ask answer work (passes .room) enough xs first (omega (arith, passes .fits enough l e)))
 
 -- when no reason of a search holds
-pub admitted-exactly : SearchPassesExactly
-admitted-exactly f allowance answer work = (none-admitted f allowance answer work, admitted-none f allowance answer work)
+pub passes-exactly : SearchPassesExactly
+passes-exactly f ask answer work = (none-passes f ask answer work, passes-none f ask answer work)
 
 -- condition 2
 pub condition-2 : Condition2Holds
-condition-2 f allowance a work h =
-    let adm : SearchPasses f allowance (length a) work = none-admitted f allowance (length a) work h in
+condition-2 f ask a work h =
+    let passes : SearchPasses f ask (length a) work = none-passes f ask (length a) work h in
     record {
-      suffices = λ enough. by-least adm enough (leastLength (graphOf f)) refl;
+      suffices = λ enough. by-least passes enough (leastLength (graphOf f)) refl;
       short = λ less.
-          let is = search-stopped f (adm .accepted) allowance (length a) work (adm .room) less in
+          let is = search-stopped f (passes .accepted) ask (length a) work (passes .room) less in
           record {
             stopped-with = is .outcome;
-            rounds-done = afterRounds-done (graphOf f) allowance;
+            rounds-done = afterRounds-done (graphOf f) (ask .allowance);
             not-found = λ p. stopped-found (sym (is .outcome) ∙ p .3);
             not-empty = λ p. stopped-empty (sym (is .outcome) ∙ p .1);
             unwritten = search-answer a is;
           };
     }
   where
-    by-least : SearchPasses f allowance (length a) work → length (candidates (graphOf f)) ≤ allowance → (o : Option ℕ)
-        → leastLength (graphOf f) ≡ o → Searches f allowance a work
-    by-least adm enough none e = searches-none f (adm .accepted) allowance a work (adm .room) enough e
-    by-least adm enough (some l) e =
+    by-least : SearchPasses f ask (length a) work → length (candidates (graphOf f)) ≤ ask .allowance → (o : Option ℕ)
+        → leastLength (graphOf f) ≡ o → Searches f ask a work
+    by-least passes enough none e = searches-none f (passes .accepted) ask a work (passes .room) enough e
+    by-least passes enough (some l) e =
         let (xs, first, long) = roll-first (graphOf f) l e in
-        searches-some f (adm .accepted) allowance a work (adm .room) enough xs first (omega (arith, adm .fits enough l e))
+        searches-some f (passes .accepted) ask a work (passes .room) enough xs first (omega (arith, passes .fits enough l e))

@@ -14,6 +14,7 @@ use Rattle.lasso.specs.Roll.{leastLength, roll}
 use Rattle.lasso.specs.Rounds.{Record, candidates, afterRounds}
 use Rattle.lasso.proofs.RoundLaws.{afterRounds-done, afterRounds-leastLength}
 use Rattle.lasso.proofs.RollLaws.{leastLength-range, roll-empty, roll-length}
+use Rattle.gate.specs.declared.Ask.{Ask}
 use Rattle.model.specs.Model.{graphOf}
 use Rattle.model.specs.Layout.{states}
 use Rattle.model.specs.Rules.{firstBroken, Accepted}
@@ -25,39 +26,39 @@ use Rattle.finder.specs.Search.{stopsb, firstOf, searched, firstDue, len
 use Rattle.gate.proofs.GateLaws.{broken-append, clear-append, common-clear}
 
 -- a search's outcome, and the list that it writes
-pub record SearchIs (f : List ℕ) (allowance answer work : ℕ) (o : Outcome Searched) (due : Option (List ℕ)) : Type 0 where
-  pub outcome : searchOutcome f allowance answer work ≡ o
-  pub list : searchList f allowance answer work ≡ due
+pub record SearchIs (f : List ℕ) (ask : Ask) (answer work : ℕ) (o : Outcome Searched) (due : Option (List ℕ)) : Type 0 where
+  pub outcome : searchOutcome f ask answer work ≡ o
+  pub list : searchList f ask answer work ≡ due
 
 -- the answer table holds the list that is written
-pub search-answer : {f : List ℕ} {allowance work : ℕ} {o : Outcome Searched} {due : Option (List ℕ)} (a : List ℕ)
-    → SearchIs f allowance (length a) work o due → searchAnswer f allowance a work ≡ written due a
+pub search-answer : {f : List ℕ} {ask : Ask} {work : ℕ} {o : Outcome Searched} {due : Option (List ℕ)} (a : List ℕ)
+    → SearchIs f ask (length a) work o due → searchAnswer f ask a work ≡ written due a
 search-answer a s = ap (λ (l : Option (List ℕ)). written l a) (s .list)
 
 -- a search for which a reason holds is refused with the first, and writes nothing
-search-broken : (f : List ℕ) (allowance answer work n : ℕ) → firstBroken (searchReasons f allowance answer work) ≡ some n
-    → SearchIs f allowance answer work (refused n) none
-search-broken f allowance answer work n e =
+search-broken : (f : List ℕ) (ask : Ask) (answer work n : ℕ) → firstBroken (searchReasons f ask answer work) ≡ some n
+    → SearchIs f ask answer work (refused n) none
+search-broken f ask answer work n e =
     record {
-      outcome = ap (λ (o : Option ℕ). outcome o (searched (graphOf f) allowance)) e;
-      list = ap (λ (o : Option ℕ). unlessRefused o (firstDue (graphOf f) allowance)) e;
+      outcome = ap (λ (o : Option ℕ). outcome o (searched (graphOf f) ask)) e;
+      list = ap (λ (o : Option ℕ). unlessRefused o (firstDue (graphOf f) ask)) e;
     }
 
 -- a search for which none of 1 to 12 holds is not refused: what it answers, and the list due
-search-kept : (f : List ℕ) (allowance answer work : ℕ) (s : Searched) (due : Option (List ℕ))
-    → firstBroken (searchReasons f allowance answer work) ≡ none → searched (graphOf f) allowance ≡ s
-    → firstDue (graphOf f) allowance ≡ due → SearchIs f allowance answer work (answered s) due
-search-kept f allowance answer work s due e p q =
+search-kept : (f : List ℕ) (ask : Ask) (answer work : ℕ) (s : Searched) (due : Option (List ℕ))
+    → firstBroken (searchReasons f ask answer work) ≡ none → searched (graphOf f) ask ≡ s
+    → firstDue (graphOf f) ask ≡ due → SearchIs f ask answer work (answered s) due
+search-kept f ask answer work s due e p q =
     record {
-      outcome = ap (λ (o : Option ℕ). outcome o (searched (graphOf f) allowance)) e ∙ ap (λ (x : Searched). answered x) p;
-      list = ap (λ (o : Option ℕ). unlessRefused o (firstDue (graphOf f) allowance)) e ∙ q;
+      outcome = ap (λ (o : Option ℕ). outcome o (searched (graphOf f) ask)) e ∙ ap (λ (x : Searched). answered x) p;
+      list = ap (λ (o : Option ℕ). unlessRefused o (firstDue (graphOf f) ask)) e ∙ q;
     }
 
 -- refused with a reason of 1 to 12
-pub search-refused : (f : List ℕ) (allowance answer work n : ℕ) → firstBroken (commonRules f work) ≡ some n
-    → SearchIs f allowance answer work (refused n) none
-search-refused f allowance answer work n e =
-    search-broken f allowance answer work n (broken-append (commonRules f work) (listReasons f (firstDue (graphOf f) allowance) answer) n e)
+pub search-refused : (f : List ℕ) (ask : Ask) (answer work n : ℕ) → firstBroken (commonRules f work) ≡ some n
+    → SearchIs f ask answer work (refused n) none
+search-refused f ask answer work n e =
+    search-broken f ask answer work n (broken-append (commonRules f work) (listReasons f (firstDue (graphOf f) ask) answer) n e)
 
 -- the shortest accepting path of an accepted file never has more than 4,096 transitions
 pub never-too-long : (f : List ℕ) → Accepted f → tooLong (leastLength (graphOf f)) ≡ false
@@ -97,69 +98,69 @@ all-rounds {g} wf rec allowance e enough =
       ap (λ (r : Record). r .best) q ∙ afterRounds-leastLength wf,
     )
 
-module _ (f : List ℕ) (accepted : Accepted f) (allowance answer work : ℕ) (room : 6 * states f ≤ work) where
+module _ (f : List ℕ) (accepted : Accepted f) (ask : Ask) (answer work : ℕ) (room : 6 * states f ≤ work) where
   -- the graph of the file
   abbrev g : Graph
   g = graphOf f
 
   -- only reason 15 is left to decide
-  search-reasons : firstBroken (searchReasons f allowance answer work) ≡ someIf (noRoom (lengthDue (firstDue g allowance)) answer) 15 none
+  search-reasons : firstBroken (searchReasons f ask answer work) ≡ someIf (noRoom (lengthDue (firstDue g ask)) answer) 15 none
   search-reasons =
-      clear-append (commonRules f work) (listReasons f (firstDue g allowance) answer) (common-clear f work accepted room)
-      ∙ ap (λ (b : Bool). someIf b 14 (someIf (noRoom (lengthDue (firstDue g allowance)) answer) 15 none)) (never-too-long f accepted)
+      clear-append (commonRules f work) (listReasons f (firstDue g ask) answer) (common-clear f work accepted room)
+      ∙ ap (λ (b : Bool). someIf b 14 (someIf (noRoom (lengthDue (firstDue g ask)) answer) 15 none)) (never-too-long f accepted)
 
   -- the list due has room or not
-  search-due : (due : Option (List ℕ)) (b : Bool) → firstDue g allowance ≡ due → noRoom (lengthDue due) answer ≡ b
-      → firstBroken (searchReasons f allowance answer work) ≡ someIf b 15 none
+  search-due : (due : Option (List ℕ)) (b : Bool) → firstDue g ask ≡ due → noRoom (lengthDue due) answer ≡ b
+      → firstBroken (searchReasons f ask answer work) ≡ someIf b 15 none
   search-due due b q e =
       search-reasons
       ∙ ap (λ (d : Option (List ℕ)). someIf (noRoom (lengthDue d) answer) 15 none) q
       ∙ ap (λ (x : Bool). someIf x 15 none) e
 
   -- the allowance is less than the number of candidates: stopped with the record after that many rounds
-  pub search-stopped : allowance < length (candidates g)
-      → SearchIs f allowance answer work (answered (stopped (afterRounds g allowance))) none
+  pub search-stopped : ask .allowance < length (candidates g)
+      → SearchIs f ask answer work (answered (stopped (afterRounds g (ask .allowance)))) none
   search-stopped less =
-      let stops : stopsb g allowance ≡ true = lt-ltb allowance (length (candidates g)) less in
-      let due : firstDue g allowance ≡ none = ap (λ (b : Bool). pick b none (head? (roll g))) stops in
-      search-kept f allowance answer work (stopped (afterRounds g allowance)) none (search-due none false due refl)
-      (ap (λ (b : Bool). pick b (stopped (afterRounds g allowance)) (firstOf (roll g) (length (candidates g)))) stops) due
+      let stops : stopsb g (ask .allowance) ≡ true = lt-ltb (ask .allowance) (length (candidates g)) less in
+      let due : firstDue g ask ≡ none = ap (λ (b : Bool). pick b none (head? (roll g))) stops in
+      search-kept f ask answer work (stopped (afterRounds g (ask .allowance))) none (search-due none false due refl)
+      (ap (λ (b : Bool). pick b (stopped (afterRounds g (ask .allowance))) (firstOf (roll g) (length (candidates g)))) stops) due
 
   -- the allowance suffices: the first of the roll decides
-  pub search-goes-on : length (candidates g) ≤ allowance
-      → (searched g allowance ≡ firstOf (roll g) (length (candidates g))) × (firstDue g allowance ≡ head? (roll g))
+  pub search-goes-on : length (candidates g) ≤ ask .allowance
+      → (searched g ask ≡ firstOf (roll g) (length (candidates g))) × (firstDue g ask ≡ head? (roll g))
   search-goes-on enough =
-      let goes : stopsb g allowance ≡ false = le-ltb allowance (length (candidates g)) enough in (
-        ap (λ (b : Bool). pick b (stopped (afterRounds g allowance)) (firstOf (roll g) (length (candidates g)))) goes,
+      let goes : stopsb g (ask .allowance) ≡ false = le-ltb (ask .allowance) (length (candidates g)) enough in (
+        ap (λ (b : Bool). pick b (stopped (afterRounds g (ask .allowance))) (firstOf (roll g) (length (candidates g)))) goes,
         ap (λ (b : Bool). pick b none (head? (roll g))) goes,
       )
 
   -- there is no accepting path: empty, with the number of candidates
-  pub search-empty : length (candidates g) ≤ allowance → leastLength g ≡ none
-      → SearchIs f allowance answer work (answered (empty (length (candidates g)))) none
+  pub search-empty : length (candidates g) ≤ ask .allowance → leastLength g ≡ none
+      → SearchIs f ask answer work (answered (empty (length (candidates g)))) none
   search-empty enough none-least =
       let (answers, due) = search-goes-on enough in
       let no-list : roll g ≡ [] = roll-empty g .1 none-least in
-      let nothing : firstDue g allowance ≡ none = due ∙ ap (λ (rs : List (List ℕ)). head? rs) no-list in
-      search-kept f allowance answer work (empty (length (candidates g))) none (search-due none false nothing refl)
+      let nothing : firstDue g ask ≡ none = due ∙ ap (λ (rs : List (List ℕ)). head? rs) no-list in
+      search-kept f ask answer work (empty (length (candidates g))) none (search-due none false nothing refl)
       (answers ∙ ap (λ (rs : List (List ℕ)). firstOf rs (length (candidates g))) no-list) nothing
 
   -- the first of the roll has room: found, with its figures
-  pub search-found : length (candidates g) ≤ allowance → (xs : List ℕ) → head? (roll g) ≡ some xs → edges xs + 1 ≤ answer
-      → SearchIs f allowance answer work (answered (Searched.found (edges xs) (loopStart xs) (length (candidates g)))) (some xs)
+  pub search-found : length (candidates g) ≤ ask .allowance → (xs : List ℕ) → head? (roll g) ≡ some xs → edges xs + 1 ≤ answer
+      → SearchIs f ask answer work (answered (Searched.found (edges xs) (loopStart xs) (length (candidates g)))) (some xs)
   search-found enough xs first fits =
       let (answers, due) = search-goes-on enough in
-      search-kept f allowance answer work (Searched.found (edges xs) (loopStart xs) (length (candidates g))) (some xs)
+      search-kept f ask answer work (Searched.found (edges xs) (loopStart xs) (length (candidates g))) (some xs)
       (search-due (some xs) false (due ∙ first) (le-ltb answer (edges xs + 1) fits))
       (answers ∙ firstOf-head (roll g) xs (length (candidates g)) first) (due ∙ first)
 
   -- it has no room: refused with 15
-  pub search-no-room : length (candidates g) ≤ allowance → (l : ℕ) → leastLength g ≡ some l → answer < l + 1
-      → SearchIs f allowance answer work (refused 15) none
+  pub search-no-room : length (candidates g) ≤ ask .allowance → (l : ℕ) → leastLength g ≡ some l → answer < l + 1
+      → SearchIs f ask answer work (refused 15) none
   search-no-room enough l least less =
       let (xs, first, long) = roll-first g l least in
       let (answers, due) = search-goes-on enough in
-      search-broken f allowance answer work 15
+      search-broken f ask answer work 15
       (search-due (some xs) true (due ∙ first) (lt-ltb answer (edges xs + 1) (omega arith)))
 
 -- the first of the roll, which stands in region 0 behind the start, was written to the answer table: what a search with
@@ -167,15 +168,15 @@ module _ (f : List ℕ) (accepted : Accepted f) (allowance answer work : ℕ) (r
 pub first-written : (f : List ℕ) → Accepted f → (work : ℕ) → 6 * states f ≤ work → (a a' w : List ℕ) (s l k rounds : ℕ)
     → s ≡ graphOf f .start → l ≤ length w → head? (roll (graphOf f)) ≡ some (graphOf f .start ∷ take l w) → l < length a
     → k ≡ loopStart (s ∷ take l w) → rounds ≡ length (candidates (graphOf f)) → a' ≡ (s ∷ take l w) ++ drop (l + 1) a
-    → (allowance : ℕ) → rounds ≤ allowance
-    → (answered (Searched.found l k rounds) ≡ searchOutcome f allowance (length a) work) × (a' ≡ searchAnswer f allowance a work)
-first-written f accepted work room a a' w s l k rounds at-start fits first free at-k all out allowance enough =
+    → (ask : Ask) → rounds ≤ ask .allowance
+    → (answered (Searched.found l k rounds) ≡ searchOutcome f ask (length a) work) × (a' ≡ searchAnswer f ask a work)
+first-written f accepted work room a a' w s l k rounds at-start fits first free at-k all out ask enough =
     let g : Graph = graphOf f in
     let xs : List ℕ = s ∷ take l w in
     let long : length (take l w) ≡ l = length-take-le l w fits in
     let at-l : l ≡ edges xs = omega arith in
     let first' : head? (roll g) ≡ some xs = subst (λ (x : ℕ). head? (roll g) ≡ some (x ∷ take l w)) (sym at-start) first in
-    let found = search-found f accepted allowance (length a) work room (omega arith) xs first' (omega arith) in
+    let found = search-found f accepted ask (length a) work room (omega arith) xs first' (omega arith) in
     let figures : answered (Searched.found l k rounds) ≡ answered (Searched.found (edges xs) (loopStart xs) (length (candidates g))) = cc in
     let entries : l + 1 ≡ length xs = omega arith in (
       figures ∙ sym (found .outcome),

@@ -8,6 +8,7 @@ use lib.Dec.{T}
 use Rattle.lasso.specs.Lists.{upFrom}
 use Rattle.lasso.specs.Graph.{ascendingb}
 use Rattle.lasso.specs.Rounds.{Record}
+use Rattle.gate.specs.declared.Ask.{Ask}
 use Rattle.model.specs.Rules.{Reason}
 use Rattle.finder.specs.Outcomes.{Outcome, refused, answered}
 use Rattle.gate.specs.Gate.{commonRules, workOf}
@@ -52,11 +53,11 @@ pub record StepCondition1 (f : List ℕ) (rec : Record) (w : List ℕ) : Type 0 
   pub work : WorkLeft (stepOutcome f rec (length w)) w (workOf f w)
 
 -- a search
-pub record SearchCondition1 (f : List ℕ) (allowance : ℕ) (a w : List ℕ) : Type 0 where
-  pub refuses : Refuses (searchReasons f allowance (length a) (length w)) searchNumbers
-      (searchOutcome f allowance (length a) (length w))
-  pub answer : AnswerKept (searchOutcome f allowance (length a) (length w)) a (searchAnswer f allowance a (length w))
-  pub work : WorkLeft (searchOutcome f allowance (length a) (length w)) w (workOf f w)
+pub record SearchCondition1 (f : List ℕ) (ask : Ask) (a w : List ℕ) : Type 0 where
+  pub refuses : Refuses (searchReasons f ask (length a) (length w)) searchNumbers
+      (searchOutcome f ask (length a) (length w))
+  pub answer : AnswerKept (searchOutcome f ask (length a) (length w)) a (searchAnswer f ask a (length w))
+  pub work : WorkLeft (searchOutcome f ask (length a) (length w)) w (workOf f w)
 
 -- a next
 pub record NextCondition1 (f earlier a w : List ℕ) : Type 0 where
@@ -68,5 +69,5 @@ pub record NextCondition1 (f earlier a w : List ℕ) : Type 0 where
 -- condition 1: for every call, whatever is given and lent
 pub record Condition1Holds : Type 0 where
   pub step : (f : List ℕ) (rec : Record) (w : List ℕ) → StepCondition1 f rec w
-  pub search : (f : List ℕ) (allowance : ℕ) (a w : List ℕ) → SearchCondition1 f allowance a w
+  pub search : (f : List ℕ) (ask : Ask) (a w : List ℕ) → SearchCondition1 f ask a w
   pub next : (f earlier a w : List ℕ) → NextCondition1 f earlier a w

@@ -9,6 +9,7 @@ use Rattle.lasso.specs.Lists.{pick}
 use Rattle.lasso.specs.Graph.{Graph, edges, loopStart}
 use Rattle.lasso.specs.Roll.{leastLength, roll}
 use Rattle.lasso.specs.Rounds.{candidates, afterRounds}
+use Rattle.gate.specs.declared.Ask.{Ask}
 use Rattle.model.specs.Model.{graphOf}
 use Rattle.model.specs.Rules.{Reason, firstBroken}
 use Rattle.finder.specs.Outcomes.{Outcome, outcome, Searched, stopped, empty}
@@ -25,13 +26,13 @@ firstOf [] rounds = empty rounds
 firstOf (xs ∷ rest) rounds = Searched.found (edges xs) (loopStart xs) rounds
 
 -- what a search not refused answers
-abbrev pub searched : Graph → ℕ → Searched
-searched g allowance =
-    pick (stopsb g allowance) (stopped (afterRounds g allowance)) (firstOf (roll g) (length (candidates g)))
+abbrev pub searched : Graph → Ask → Searched
+searched g ask =
+    pick (stopsb g (ask .allowance)) (stopped (afterRounds g (ask .allowance))) (firstOf (roll g) (length (candidates g)))
 
 -- the list that is to be written: the first of the roll, unless the search is stopped
-abbrev pub firstDue : Graph → ℕ → Option (List ℕ)
-firstDue g allowance = pick (stopsb g allowance) none (head? (roll g))
+abbrev pub firstDue : Graph → Ask → Option (List ℕ)
+firstDue g ask = pick (stopsb g (ask .allowance)) none (head? (roll g))
 
 -- the length of the list that is to be written
 abbrev pub lengthDue : Option (List ℕ) → Option ℕ
@@ -45,13 +46,13 @@ listReasons f due answer =
     record { number = 15; holds = noRoom (lengthDue due) answer } ∷ []
 
 -- the reasons that a search applies: it skips 13
-abbrev pub searchReasons : List ℕ → ℕ → ℕ → ℕ → List Reason
-searchReasons f allowance answer work = commonRules f work ++ listReasons f (firstDue (graphOf f) allowance) answer
+abbrev pub searchReasons : List ℕ → Ask → ℕ → ℕ → List Reason
+searchReasons f ask answer work = commonRules f work ++ listReasons f (firstDue (graphOf f) ask) answer
 
 -- what a search answers
-abbrev pub searchOutcome : List ℕ → ℕ → ℕ → ℕ → Outcome Searched
-searchOutcome f allowance answer work =
-    outcome (firstBroken (searchReasons f allowance answer work)) (searched (graphOf f) allowance)
+abbrev pub searchOutcome : List ℕ → Ask → ℕ → ℕ → Outcome Searched
+searchOutcome f ask answer work =
+    outcome (firstBroken (searchReasons f ask answer work)) (searched (graphOf f) ask)
 
 -- the list due if the call is not refused
 abbrev pub unlessRefused : Option ℕ → Option (List ℕ) → Option (List ℕ)
@@ -59,10 +60,10 @@ unlessRefused none due = due
 unlessRefused (some n) due = none
 
 -- the list that a search writes
-abbrev pub searchList : List ℕ → ℕ → ℕ → ℕ → Option (List ℕ)
-searchList f allowance answer work =
-    unlessRefused (firstBroken (searchReasons f allowance answer work)) (firstDue (graphOf f) allowance)
+abbrev pub searchList : List ℕ → Ask → ℕ → ℕ → Option (List ℕ)
+searchList f ask answer work =
+    unlessRefused (firstBroken (searchReasons f ask answer work)) (firstDue (graphOf f) ask)
 
 -- the answer table after a search
-abbrev pub searchAnswer : List ℕ → ℕ → List ℕ → ℕ → List ℕ
-searchAnswer f allowance a work = written (searchList f allowance (length a) work) a
+abbrev pub searchAnswer : List ℕ → Ask → List ℕ → ℕ → List ℕ
+searchAnswer f ask a work = written (searchList f ask (length a) work) a

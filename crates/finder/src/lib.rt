@@ -14,6 +14,7 @@ mod searching;
 mod stepping;
 
 use following::next_of_model;
+pub use gate::Ask;
 use gate::admit;
 use gate::leave;
 use lasso::RoundRecord;
@@ -62,16 +63,16 @@ pub fn step(file: &[u8], so_far: RoundRecord, work: &mut [u16]) -> StepAnswer
 }
 
 // The first of the shortest accepting paths, written to the answer table.
-pub fn search(file: &[u8], allowance: u16, answer: &mut [u16], work: &mut [u16]) -> SearchAnswer
-    ensures outcome { λ r. ⌜ searchOutcomeOf r ≡ searchOutcome (now (file .entry)) allowance (length (now (answer .entry))) (length (now (work .entry))) ⌝ }
-    ensures answer { λ r. ⌜ now (answer .exit) ≡ searchAnswer (now (file .entry)) allowance (now (answer .entry)) (length (now (work .entry))) ⌝ }
+pub fn search(file: &[u8], ask: Ask, answer: &mut [u16], work: &mut [u16]) -> SearchAnswer
+    ensures outcome { λ r. ⌜ searchOutcomeOf r ≡ searchOutcome (now (file .entry)) ask (length (now (answer .entry))) (length (now (work .entry))) ⌝ }
+    ensures answer { λ r. ⌜ now (answer .exit) ≡ searchAnswer (now (file .entry)) ask (now (answer .entry)) (length (now (work .entry))) ⌝ }
     ensures work { λ r. ⌜ now (work .exit) ≡ workOf (now (file .entry)) (now (work .entry)) ⌝ }
 {
     let checked = admit(file, work);
     match checked {
         Checked::Refused(number) => SearchAnswer::Refused(number),
         Checked::Accept(h) => {
-            let searched = search_model(file, h, allowance, answer, work);
+            let searched = search_model(file, h, ask, answer, work);
             leave(work);
             searched
         }

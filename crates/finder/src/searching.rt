@@ -7,10 +7,12 @@ ghost use Rattle.lasso.specs.Roll.{leastLength};
 ghost use Rattle.lasso.specs.Rounds.{candidates};
 ghost use Rattle.model.specs.Model.{graphOf};
 ghost use Rattle.model.specs.Values.{Valid};
+ghost use Rattle.gate.specs.declared.Ask.{Ask};
 ghost use Rattle.rounds.specs.Promises.{Ready};
 ghost use Rattle.finder.specs.Outcomes.{searchOutcomeOf};
 ghost use Rattle.finder.specs.Search.{searchOutcome, searchAnswer};
 use crate::SearchAnswer;
+use gate::Ask;
 use lasso::Best;
 use lasso::Transitions;
 use listing::first;
@@ -34,8 +36,8 @@ fn first_list(
     requires { ⌜ Ready (now file) h (now work) ⌝ }
     requires { ⌜ leastLength (graphOf (now file)) ≡ some (best .0) ⌝ }
     requires { ⌜ rounds ≡ length (candidates (graphOf (now file))) ⌝ }
-    ensures outcome { λ r. ⌜ ((allowance : ℕ) → rounds ≤ allowance → searchOutcomeOf r ≡ searchOutcome (now (file .entry)) allowance (length (now (answer .entry))) (length (now (work .entry)))) ⌝ }
-    ensures answer { λ _. ⌜ ((allowance : ℕ) → rounds ≤ allowance → now (answer .exit) ≡ searchAnswer (now (file .entry)) allowance (now (answer .entry)) (length (now (work .entry)))) ⌝ }
+    ensures outcome { λ r. ⌜ ((ask : Ask) → rounds ≤ ask .allowance → searchOutcomeOf r ≡ searchOutcome (now (file .entry)) ask (length (now (answer .entry))) (length (now (work .entry)))) ⌝ }
+    ensures answer { λ _. ⌜ ((ask : Ask) → rounds ≤ ask .allowance → now (answer .exit) ≡ searchAnswer (now (file .entry)) ask (now (answer .entry)) (length (now (work .entry)))) ⌝ }
     ensures kept { λ _. ⌜ length (now (work .exit)) ≡ length (now (work .entry)) ⌝ }
 {
     let transitions = best.0;
@@ -59,19 +61,19 @@ fn first_list(
 pub fn search_model(
     file: &[u8],
     h: Header,
-    allowance: u16,
+    ask: Ask,
     answer: &mut [u16],
     work: &mut [u16],
 ) -> SearchAnswer
     requires { ⌜ Valid (now file) h ⌝ }
     requires { ⌜ 6 * h .states ≤ length (now work) ⌝ }
-    ensures outcome { λ r. ⌜ searchOutcomeOf r ≡ searchOutcome (now (file .entry)) allowance (length (now (answer .entry))) (length (now (work .entry))) ⌝ }
-    ensures answer { λ _. ⌜ now (answer .exit) ≡ searchAnswer (now (file .entry)) allowance (now (answer .entry)) (length (now (work .entry))) ⌝ }
+    ensures outcome { λ r. ⌜ searchOutcomeOf r ≡ searchOutcome (now (file .entry)) ask (length (now (answer .entry))) (length (now (work .entry))) ⌝ }
+    ensures answer { λ _. ⌜ now (answer .exit) ≡ searchAnswer (now (file .entry)) ask (now (answer .entry)) (length (now (work .entry))) ⌝ }
     ensures kept { λ _. ⌜ length (now (work .exit)) ≡ length (now (work .entry)) ⌝ }
 {
     start_distances(file, h, work);
     let count = count_candidates(file, h, work);
-    let allowed = allowance as usize;
+    let allowed = ask.allowance as usize;
     let record = run_rounds(file, h, work, allowed);
     if allowed < count {
         return SearchAnswer::Stopped(record);

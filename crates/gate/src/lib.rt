@@ -7,6 +7,11 @@ use model::Checked;
 use model::check;
 use table::clear;
 
+// What a call names beside the file and the tables: the rounds that a search is allowed.
+pub struct Ask {
+    pub allowance: u16,
+}
+
 // Applies the reasons 1 to 12 in order: the number of the first that holds, or the file's header.
 pub fn admit(file: &[u8], work: &[u16]) -> Checked
     ensures { λ r. ⌜ r ≡ gateOf (now (file .entry)) (length (now (work .entry))) ⌝ }

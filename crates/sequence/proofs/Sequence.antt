@@ -21,6 +21,7 @@ use Rattle.lasso.proofs.RollLaws.{roll-strict}
 use Rattle.model.specs.Model.{graphOf}
 use Rattle.model.specs.Rules.{firstBroken, Accepted}
 use Rattle.finder.specs.Outcomes.{outcome, stopped}
+use Rattle.gate.specs.declared.Ask.{Ask}
 use Rattle.gate.specs.Gate.{commonRules, workOf}
 use Rattle.finder.specs.Tables.{tooLong, noRoom, written}
 use Rattle.finder.specs.Search.{stopsb, firstOf, lengthDue, unlessRefused, searchReasons}
@@ -75,13 +76,13 @@ search-received (xs ∷ rs) entries none false rec rounds a =
 
 -- a search that is refused, stopped or empty leaves all as it stands; one that finds the first list begins anew
 search-stands : (rs : List (List ℕ)) {copy : Option (List ℕ)} {lists : List (List ℕ)} {h : ℕ} → Stands rs copy lists h
-    → (first : Option ℕ) (stops : Bool) (rec : Record) (allowance rounds : ℕ) (a w : List ℕ)
-    → After rs copy lists (search allowance a w) (unlessRefused first (pick stops none (head? rs)))
+    → (first : Option ℕ) (stops : Bool) (rec : Record) (ask : Ask) (rounds : ℕ) (a w : List ℕ)
+    → After rs copy lists (search ask a w) (unlessRefused first (pick stops none (head? rs)))
     (unlessRefusedℕ first h (afterSearch h (pick stops (stopped rec) (firstOf rs rounds))))
-search-stands rs s (some n) stops rec allowance rounds a w = s
-search-stands rs s none true rec allowance rounds a w = s
-search-stands [] s none false rec allowance rounds a w = s
-search-stands (xs ∷ rs) s none false rec allowance rounds a w =
+search-stands rs s (some n) stops rec ask rounds a w = s
+search-stands rs s none true rec ask rounds a w = s
+search-stands [] s none false rec ask rounds a w = s
+search-stands (xs ∷ rs) s none false rec ask rounds a w =
     record { at-copy = refl; at-lists = refl; within = omega arith }
 
 -- a next that is refused or has no more leaves all as it stands; one that finds a list adds it
@@ -155,20 +156,20 @@ next-page f {copy} {lists} {h} s earlier a w lent =
 -- what the finder does at a call is on the book's page
 call-page : (f : List ℕ) {copy : Option (List ℕ)} {lists : List (List ℕ)} {h : ℕ} → Stands (roll (graphOf f)) copy lists h
     → (c : Call) → Lent f copy c → finderAt f c ≡ page f h c .result
-call-page f s (search allowance a w) lent = refl
+call-page f s (search ask a w) lent = refl
 call-page f s (next earlier a w) lent = next-page f s earlier a w lent
 
 -- what stands before a call stands after it, for the list that the page brings and the page's h
 page-stands : (f : List ℕ) {copy : Option (List ℕ)} {lists : List (List ℕ)} {h : ℕ} → Stands (roll (graphOf f)) copy lists h
     → (c : Call) → After (roll (graphOf f)) copy lists c (received (page f h c .result)) (page f h c .after)
-page-stands f {copy} {lists} {h} s (search allowance a w) =
+page-stands f {copy} {lists} {h} s (search ask a w) =
     let g : Graph = graphOf f in
-    let first : Option ℕ = firstBroken (searchReasons f allowance (length a) (length w)) in
-    let brought = search-received (roll g) (roll-entries g) first (stopsb g allowance) (afterRounds g allowance) (length (candidates g)) a in
+    let first : Option ℕ = firstBroken (searchReasons f ask (length a) (length w)) in
+    let brought = search-received (roll g) (roll-entries g) first (stopsb g (ask .allowance)) (afterRounds g (ask .allowance)) (length (candidates g)) a in
     subst
-    (λ (list : Option (List ℕ)). After (roll g) copy lists (search allowance a w) list (page f h (search allowance a w) .after))
+    (λ (list : Option (List ℕ)). After (roll g) copy lists (search ask a w) list (page f h (search ask a w) .after))
     (sym brought)
-    (search-stands (roll g) s first (stopsb g allowance) (afterRounds g allowance) allowance (length (candidates g)) a w)
+    (search-stands (roll g) s first (stopsb g (ask .allowance)) (afterRounds g (ask .allowance)) ask (length (candidates g)) a w)
 page-stands f {copy} {lists} {h} s (next earlier a w) =
     let g : Graph = graphOf f in
     let first : Option (List ℕ) → Option ℕ = λ due. firstBroken (commonRules f (length w) ++ dueReasons f earlier due (length a)) in

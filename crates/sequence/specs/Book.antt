@@ -44,15 +44,15 @@ unlessRefusedℕ (some n) h h' = h
 -- "found" with the roll's first list; or for a next "no more" if h is the number of lists in the roll, else "found" with
 -- the list at place h
 abbrev pub page : List ℕ → ℕ → Call → Page
-page f h (search allowance a w) =
-    let first : Option ℕ = firstBroken (searchReasons f allowance (length a) (length w)) in
+page f h (search ask a w) =
+    let first : Option ℕ = firstBroken (searchReasons f ask (length a) (length w)) in
     record {
       result = record {
-        answer = ofSearch (outcome first (searched (graphOf f) allowance));
-        table = written (unlessRefused first (firstDue (graphOf f) allowance)) a;
+        answer = ofSearch (outcome first (searched (graphOf f) ask));
+        table = written (unlessRefused first (firstDue (graphOf f) ask)) a;
         work = workOf f w;
       };
-      after = unlessRefusedℕ first h (afterSearch h (searched (graphOf f) allowance));
+      after = unlessRefusedℕ first h (afterSearch h (searched (graphOf f) ask));
     }
 page f h (next earlier a w) =
     let list : Option (List ℕ) = listAt (roll (graphOf f)) h in

@@ -4,14 +4,15 @@ use mathlib.Core.List.{List}
 use mathlib.Core.Option.{Option, some, none}
 use lib.ListN.{length, take}
 use Rattle.finder.specs.Outcomes.{Outcome, refused, answered, Searched, stopped, empty, Followed, noMore}
+use Rattle.gate.specs.declared.Ask.{Ask}
 use Rattle.gate.specs.Gate.{workOf}
 use Rattle.finder.specs.Search.{searchOutcome, searchAnswer}
 use Rattle.finder.specs.Next.{nextOutcome, nextAnswer}
 
--- a search or a next, with everything given or lent with it: the allowance or the earlier list, the answer table and the
+-- a search or a next, with everything given or lent with it: what a search asks or the earlier list, the answer table and the
 -- working table
 pub data Call : Type 0 where
-  search : (allowance : ℕ) (answer work : List ℕ) → Call
+  search : (ask : Ask) (answer work : List ℕ) → Call
   next : (earlier answer work : List ℕ) → Call
 
 -- the answer of a search or of a next
@@ -27,9 +28,9 @@ pub record Result : Type 0 where
 
 -- what the finder does at a call on file f
 abbrev pub finderAt : List ℕ → Call → Result
-finderAt f (search allowance a w) = record {
-  answer = ofSearch (searchOutcome f allowance (length a) (length w));
-  table = searchAnswer f allowance a (length w);
+finderAt f (search ask a w) = record {
+  answer = ofSearch (searchOutcome f ask (length a) (length w));
+  table = searchAnswer f ask a (length w);
   work = workOf f w;
 }
 finderAt f (next earlier a w) = record {

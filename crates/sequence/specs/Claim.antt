@@ -19,7 +19,7 @@ lastReceived (some xs) before = some xs
 
 -- each next is lent the copy last received or a list that is no shortest accepting path
 abbrev pub Lent : List ℕ → Option (List ℕ) → Call → Type 0
-Lent f copy (search allowance a w) = Unit {0}
+Lent f copy (search ask a w) = Unit {0}
 Lent f copy (next earlier a w) = (copy ≡ some earlier) ⊎ T (notShortest (graphOf f) earlier)
 
 -- a sequence of calls, where a copy may have been received before
@@ -30,7 +30,7 @@ Proper f copy (c ∷ cs) = Lent f copy c × Proper f (lastReceived (received (fi
 -- the lists received from the last search that answered "found" onward: such a search begins anew, a next adds its list
 abbrev pub collect : Call → Option (List ℕ) → List (List ℕ) → List (List ℕ)
 collect c none lists = lists
-collect (search allowance a w) (some xs) lists = xs ∷ []
+collect (search ask a w) (some xs) lists = xs ∷ []
 collect (next earlier a w) (some xs) lists = lists ++ xs ∷ []
 
 -- the lists received in a sequence of calls, after those received before

@@ -7,6 +7,7 @@ use lib.ListN.{length, replicate}
 use lib.Dec.{eqb}
 use Rattle.lasso.specs.Lists.{pick, below}
 use Rattle.model.specs.Layout.{states, rowsAt, edgesAt, marksAt, markBytes, totalOf}
+use Rattle.gate.specs.declared.Ask.{Ask}
 use Rattle.finder.specs.Outcomes.{Outcome, refused, answered, Searched, stopped, empty, Followed, noMore}
 use Rattle.sequence.specs.Calls.{Call, search, next, Answer, ofSearch, ofNext, Result, finderAt}
 
@@ -105,7 +106,7 @@ lentWork f = replicate (6 * states f) 9
 
 -- a search of the file with an allowance
 abbrev pub searchOf : List ℕ → ℕ → Call
-searchOf f allowance = search allowance lentAnswer (lentWork f)
+searchOf f allowance = search (record { allowance = allowance }) lentAnswer (lentWork f)
 
 -- the row of a search that is not refused
 abbrev pub searchRow : List ℕ → ℕ → Searched → List ℕ → Row

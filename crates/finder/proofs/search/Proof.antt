@@ -53,7 +53,7 @@ returns : tie.Need-returns
 returns c =
     let refused = c .before in
     let a = start (refused .before .before) .args in
-    let is = search-refused (a .file .now) (a .allowance) (length (a .answer .now)) (length (a .work .now)) _ (broken refused) in
+    let is = search-refused (a .file .now) (a .ask) (length (a .answer .now)) (length (a .work .now)) _ (broken refused) in
     (sym (is .outcome), (sym (search-answer (a .answer .now) is), work-refused (a .file .now) _ _ (broken refused)))
 
 same-length-2 : tie.Need-same-length-2

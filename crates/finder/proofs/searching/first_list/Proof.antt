@@ -39,10 +39,10 @@ returns-2 c =
     let s = start (c .before) in
     let a = s .args in
     let v = s .pre .0 .valid in
-    let is : (allowance : ℕ) → a .rounds ≤ allowance → SearchIs (a .file .now) allowance (length (a .answer .now)) (length (a .work .now)) (refused 15) none =
-    λ allowance enough. search-no-room (a .file .now) (v .accepted) allowance (length (a .answer .now)) (length (a .work .now)) (valid-room v (s .pre .0 .room)) (omega (arith, s .pre .1 .1)) (a .best .0) (s .pre .1 .0) (omega (arith, c .before .entries .ensures, c .if2 .taken)) in (
-      λ allowance enough. sym (is allowance enough .outcome),
-      (λ allowance enough. sym (search-answer (a .answer .now) (is allowance enough)), refl),
+    let is : (allowance : ℕ) → a .rounds ≤ ask → SearchIs (a .file .now) ask (length (a .answer .now)) (length (a .work .now)) (refused 15) none =
+    λ ask enough. search-no-room (a .file .now) (v .accepted) ask (length (a .answer .now)) (length (a .work .now)) (valid-room v (s .pre .0 .room)) (omega (arith, s .pre .1 .1)) (a .best .0) (s .pre .1 .0) (omega (arith, c .before .entries .ensures, c .if2 .taken)) in (
+      λ ask enough. sym (is ask enough .outcome),
+      (λ ask enough. sym (search-answer (a .answer .now) (is ask enough)), refl),
     )
 
 cast-l : tie.Need-cast-l
@@ -88,7 +88,7 @@ returns-3 c =
     first-written (a .file .now) (v .accepted) (length (a .work .now)) (valid-room v (s .pre .0 .room)) (a .answer .now) _ _ (a .h .start) (a .best .0) (wrote .write-list .result) (a .rounds)
     (sizes .start-is) (omega (arith, kept, s .pre .0 .room)) (listed .first .ensures .0) (omega (arith, entered .entries .ensures, roomy done .if2 .left))
     (wrote .write-list .ensures .0 .0) (s .pre .1 .1) (wrote .write-list .ensures .1) in
-    (λ allowance enough. both allowance enough .0, (λ allowance enough. both allowance enough .1, kept))
+    (λ ask enough. both ask enough .0, (λ ask enough. both ask enough .1, kept))
 
 pub first-list-spec : {M : Type 1} → statement M
 first-list-spec =

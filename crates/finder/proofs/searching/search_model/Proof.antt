@@ -1,4 +1,4 @@
--- `searching::search_model` meets its contract: stopped with the record if the allowance is less than the number of
+-- `searching::search_model` meets its contract: stopped with the record if the ask is less than the number of
 -- candidates; else the record's best decides between empty and the first of the shortest accepting paths.
 use mathlib.Core.Path.{_≡_, sym, _∙_, ap}
 use Prim.Native.Nat.{ℕ, _≤_, min}
@@ -29,7 +29,7 @@ started c = counted c .before .before .before .before
 abbrev start : tie.After-run-rounds → tie.Start
 start c = started c .before .before .before .before .before
 
--- the rounds, from where the allowance was found to suffice
+-- the rounds, from where the ask was found to suffice
 abbrev rounds : tie.Else1 → tie.After-run-rounds
 rounds c = c .before .before .before
 
@@ -37,8 +37,8 @@ rounds c = c .before .before .before
 kept : (c : tie.After-run-rounds) → length (c .run-rounds .last .1 .1 .0) ≡ length (start c .args .work .now)
 kept c = c .run-rounds .ensures .1 .same-length ∙ started c .start-distances .ensures .same-length
 
--- the allowance suffices
-enough : (c : tie.Else1) → let a = start (rounds c) .args in length (candidates (graphOf (a .file .now))) ≤ a .allowance
+-- the ask suffices
+enough : (c : tie.Else1) → let a = start (rounds c) .args in length (candidates (graphOf (a .file .now))) ≤ a .ask .allowance
 enough c = omega (arith, counted (rounds c) .count-candidates .ensures, c .if1 .left)
 
 -- the record holds the number of candidates and the least length of an accepting path
@@ -47,7 +47,7 @@ all-done : (c : tie.Else1)
     (rounds c .run-rounds .result .done ≡ length (candidates g)) × (bestOf (rounds c .run-rounds .result .best) ≡ leastLength g)
 all-done c =
     let s = start (rounds c) in
-    all-rounds (valid-well-formed (s .pre .0)) (recordOf (rounds c .run-rounds .result)) (s .args .allowance) (rounds c .run-rounds .ensures .0) (enough c)
+    all-rounds (valid-well-formed (s .pre .0)) (recordOf (rounds c .run-rounds .result)) (s .args .ask .allowance) (rounds c .run-rounds .ensures .0) (enough c)
 
 start-distances-requires : tie.Need-start-distances-requires
 start-distances-requires c κs = search needs
@@ -68,8 +68,8 @@ returns c =
     let a = s .args in
     let g = graphOf (a .file .now) in
     let count : ℕ = length (candidates g) in
-    let q : min (a .allowance) count ≡ a .allowance = omega (arith, counted done .count-candidates .ensures, c .if1 .taken) in
-    let is = search-stopped (a .file .now) (s .pre .0 .accepted) (a .allowance) (length (a .answer .now)) (length (a .work .now)) (valid-room (s .pre .0) (s .pre .1)) (omega (arith, counted done .count-candidates .ensures, c .if1 .taken)) in (
+    let q : min (a .ask .allowance) count ≡ a .ask .allowance = omega (arith, counted done .count-candidates .ensures, c .if1 .taken) in
+    let is = search-stopped (a .file .now) (s .pre .0 .accepted) (a .ask) (length (a .answer .now)) (length (a .work .now)) (valid-room (s .pre .0) (s .pre .1)) (omega (arith, counted done .count-candidates .ensures, c .if1 .taken)) in (
       ap (λ (r : Record). answered (stopped r)) (done .run-rounds .ensures .0 ∙ ap (λ (n : ℕ). afterRounds g n) q) ∙ sym (is .outcome),
       (sym (search-answer (a .answer .now) is), kept done),
     )
@@ -96,7 +96,7 @@ returns-2 c =
     let else = c .before .before in
     let s = start (rounds else) in
     let a = s .args in
-    let is = search-empty (a .file .now) (s .pre .0 .accepted) (a .allowance) (length (a .answer .now)) (length (a .work .now)) (valid-room (s .pre .0) (s .pre .1)) (enough else) (sym (all-done else .1) ∙ ap bestOf (c .enum-told .given .1)) in (
+    let is = search-empty (a .file .now) (s .pre .0 .accepted) (a .ask) (length (a .answer .now)) (length (a .work .now)) (valid-room (s .pre .0) (s .pre .1)) (enough else) (sym (all-done else .1) ∙ ap bestOf (c .enum-told .given .1)) in (
       ap (λ (n : ℕ). answered (empty n)) (all-done else .0) ∙ sym (is .outcome),
       (sym (search-answer (a .answer .now) is), kept (rounds else)),
     )
@@ -112,10 +112,10 @@ returns-3 c =
     let listed = c .before .before .before .before in
     let else = listed .before .before .before .before .before .before in
     let a = start (rounds else) .args in
-    let fits : rounds else .run-rounds .result .done ≤ a .allowance = omega (arith, all-done else .0, enough else) in (
-      listed .first-list .ensures .0 (a .allowance) fits ∙ ap (λ (n : ℕ). searchOutcome (a .file .now) (a .allowance) (length (a .answer .now)) n) (kept (rounds else)),
+    let fits : rounds else .run-rounds .result .done ≤ a .ask .allowance = omega (arith, all-done else .0, enough else) in (
+      listed .first-list .ensures .0 (a .ask) fits ∙ ap (λ (n : ℕ). searchOutcome (a .file .now) (a .ask) (length (a .answer .now)) n) (kept (rounds else)),
       (
-        listed .first-list .ensures .1 .0 (a .allowance) fits ∙ ap (λ (n : ℕ). searchAnswer (a .file .now) (a .allowance) (a .answer .now) n) (kept (rounds else)),
+        listed .first-list .ensures .1 .0 (a .ask) fits ∙ ap (λ (n : ℕ). searchAnswer (a .file .now) (a .ask) (a .answer .now) n) (kept (rounds else)),
         listed .first-list .ensures .1 .1 ∙ kept (rounds else),
       ),
     )
