@@ -16,6 +16,7 @@ ghost use Rattle.finder.specs.Outcomes.{nextOutcomeOf};
 ghost use Rattle.finder.specs.Next.{nextOutcome, nextAnswer};
 use crate::NextAnswer;
 use lasso::Best;
+use lasso::Entries;
 use lasso::Transitions;
 use listing::advance;
 use listing::prepare;
@@ -96,12 +97,13 @@ fn closes(file: &[u8], h: Header, list: &[u16]) -> bool
 }
 
 // The list is a lasso of the given length.
-fn is_lasso(file: &[u8], h: Header, list: &[u16], transitions: usize) -> bool
+fn is_lasso(file: &[u8], h: Header, list: &[u16], length: Transitions) -> bool
     requires { ⌜ Valid (now file) h ⌝ }
-    requires { ⌜ transitions < 65536 ⌝ }
-    ensures { λ r. ⌜ r ≡ (lassob (graphOf (now (file .entry))) (now (list .entry)) && eqb (edges (now (list .entry))) transitions) ⌝ }
+    ensures { λ r. ⌜ r ≡ (lassob (graphOf (now (file .entry))) (now (list .entry)) && eqb (edges (now (list .entry))) (length .0)) ⌝ }
 {
-    if list.len() != transitions + 1 {
+    let entries = length.entries();
+    let given = Entries(list.len());
+    if given.0 != entries.0 {
         return false;
     }
     if !is_path(file, h, list) {
@@ -128,38 +130,36 @@ fn load(list: &[u16], work: &mut [u16])
 fn next_list(
     file: &[u8],
     h: Header,
-    best: Transitions,
+    length: Transitions,
     earlier: &[u16],
     answer: &mut [u16],
     work: &mut [u16],
 ) -> NextAnswer
     requires { ⌜ Ready (now file) h (now work) ⌝ }
-    requires { ⌜ leastLength (graphOf (now file)) ≡ some (best .0) ⌝ }
-    ensures outcome { λ r. ⌜ nextOutcomeOf r ≡ nextOutcome (now (file .entry)) (now (earlier .entry)) (length (now (answer .entry))) (length (now (work .entry))) ⌝ }
-    ensures answer { λ _. ⌜ now (answer .exit) ≡ nextAnswer (now (file .entry)) (now (earlier .entry)) (now (answer .entry)) (length (now (work .entry))) ⌝ }
-    ensures kept { λ _. ⌜ length (now (work .exit)) ≡ length (now (work .entry)) ⌝ }
+    requires { ⌜ leastLength (graphOf (now file)) ≡ some (length .0) ⌝ }
+    ensures outcome { λ r. ⌜ nextOutcomeOf r ≡ nextOutcome (now (file .entry)) (now (earlier .entry)) (lib.ListN.length (now (answer .entry))) (lib.ListN.length (now (work .entry))) ⌝ }
+    ensures answer { λ _. ⌜ now (answer .exit) ≡ nextAnswer (now (file .entry)) (now (earlier .entry)) (now (answer .entry)) (lib.ListN.length (now (work .entry))) ⌝ }
+    ensures kept { λ _. ⌜ lib.ListN.length (now (work .exit)) ≡ lib.ListN.length (now (work .entry)) ⌝ }
 {
-    let transitions = best.0;
-    let l = transitions as usize;
-    if !is_lasso(file, h, earlier, l) {
+    if !is_lasso(file, h, earlier, length) {
         return NextAnswer::Refused(13);
     }
-    if 4096 < transitions {
+    if 4096 < length.0 {
         return NextAnswer::Refused(14);
     }
-    prepare(file, h, work, l);
+    prepare(file, h, work, length);
     load(earlier, work);
-    if !advance(file, h, work, l) {
+    if !advance(file, h, work, length) {
         return NextAnswer::NoMore;
     }
-    let entries = best.entries();
-    let needed = entries.0;
-    if answer.len() < needed {
+    let entries = length.entries();
+    let room = Entries(answer.len());
+    if room.0 < entries.0 {
         return NextAnswer::Refused(15);
     }
-    let k = write_list(h, work, l, answer);
+    let k = write_list(h, work, length, answer);
     let loop_start = k as u16;
-    NextAnswer::Found(best, loop_start)
+    NextAnswer::Found(length, loop_start)
 }
 
 // All rounds and then, if there is an accepting path, the one after the earlier list.

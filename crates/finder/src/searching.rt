@@ -7,13 +7,12 @@ ghost use Rattle.lasso.specs.Roll.{leastLength};
 ghost use Rattle.lasso.specs.Rounds.{candidates};
 ghost use Rattle.model.specs.Model.{graphOf};
 ghost use Rattle.model.specs.Values.{Valid};
-ghost use Rattle.gate.specs.declared.Ask.{Ask};
 ghost use Rattle.rounds.specs.Promises.{Ready};
 ghost use Rattle.finder.specs.Outcomes.{searchOutcomeOf};
 ghost use Rattle.finder.specs.Search.{searchOutcome, searchAnswer};
 use crate::SearchAnswer;
-use gate::Ask;
 use lasso::Best;
+use lasso::Entries;
 use lasso::Transitions;
 use listing::first;
 use listing::prepare;
@@ -28,52 +27,50 @@ use rounds::start_distances;
 fn first_list(
     file: &[u8],
     h: Header,
-    best: Transitions,
+    length: Transitions,
     rounds: u16,
     answer: &mut [u16],
     work: &mut [u16],
 ) -> SearchAnswer
     requires { ⌜ Ready (now file) h (now work) ⌝ }
-    requires { ⌜ leastLength (graphOf (now file)) ≡ some (best .0) ⌝ }
-    requires { ⌜ rounds ≡ length (candidates (graphOf (now file))) ⌝ }
-    ensures outcome { λ r. ⌜ ((ask : Ask) → rounds ≤ ask .allowance → searchOutcomeOf r ≡ searchOutcome (now (file .entry)) ask (length (now (answer .entry))) (length (now (work .entry)))) ⌝ }
-    ensures answer { λ _. ⌜ ((ask : Ask) → rounds ≤ ask .allowance → now (answer .exit) ≡ searchAnswer (now (file .entry)) ask (now (answer .entry)) (length (now (work .entry)))) ⌝ }
-    ensures kept { λ _. ⌜ length (now (work .exit)) ≡ length (now (work .entry)) ⌝ }
+    requires { ⌜ leastLength (graphOf (now file)) ≡ some (length .0) ⌝ }
+    requires { ⌜ rounds ≡ lib.ListN.length (candidates (graphOf (now file))) ⌝ }
+    ensures outcome { λ r. ⌜ ((allowance : ℕ) → rounds ≤ allowance → searchOutcomeOf r ≡ searchOutcome (now (file .entry)) allowance (lib.ListN.length (now (answer .entry))) (lib.ListN.length (now (work .entry)))) ⌝ }
+    ensures answer { λ _. ⌜ ((allowance : ℕ) → rounds ≤ allowance → now (answer .exit) ≡ searchAnswer (now (file .entry)) allowance (now (answer .entry)) (lib.ListN.length (now (work .entry)))) ⌝ }
+    ensures kept { λ _. ⌜ lib.ListN.length (now (work .exit)) ≡ lib.ListN.length (now (work .entry)) ⌝ }
 {
-    let transitions = best.0;
-    if 4096 < transitions {
+    if 4096 < length.0 {
         return SearchAnswer::Refused(14);
     }
-    let entries = best.entries();
-    let needed = entries.0;
-    if answer.len() < needed {
+    let entries = length.entries();
+    let room = Entries(answer.len());
+    if room.0 < entries.0 {
         return SearchAnswer::Refused(15);
     }
-    let l = transitions as usize;
-    prepare(file, h, work, l);
-    first(file, h, work, l);
-    let k = write_list(h, work, l, answer);
+    prepare(file, h, work, length);
+    first(file, h, work, length);
+    let k = write_list(h, work, length, answer);
     let loop_start = k as u16;
-    SearchAnswer::Found(best, loop_start, rounds)
+    SearchAnswer::Found(length, loop_start, rounds)
 }
 
 // The rounds that the allowance admits and, if it suffices, the first of the shortest accepting paths.
 pub fn search_model(
     file: &[u8],
     h: Header,
-    ask: Ask,
+    allowance: u16,
     answer: &mut [u16],
     work: &mut [u16],
 ) -> SearchAnswer
     requires { ⌜ Valid (now file) h ⌝ }
     requires { ⌜ 6 * h .states ≤ length (now work) ⌝ }
-    ensures outcome { λ r. ⌜ searchOutcomeOf r ≡ searchOutcome (now (file .entry)) ask (length (now (answer .entry))) (length (now (work .entry))) ⌝ }
-    ensures answer { λ _. ⌜ now (answer .exit) ≡ searchAnswer (now (file .entry)) ask (now (answer .entry)) (length (now (work .entry))) ⌝ }
+    ensures outcome { λ r. ⌜ searchOutcomeOf r ≡ searchOutcome (now (file .entry)) allowance (length (now (answer .entry))) (length (now (work .entry))) ⌝ }
+    ensures answer { λ _. ⌜ now (answer .exit) ≡ searchAnswer (now (file .entry)) allowance (now (answer .entry)) (length (now (work .entry))) ⌝ }
     ensures kept { λ _. ⌜ length (now (work .exit)) ≡ length (now (work .entry)) ⌝ }
 {
     start_distances(file, h, work);
     let count = count_candidates(file, h, work);
-    let allowed = ask.allowance as usize;
+    let allowed = allowance as usize;
     let record = run_rounds(file, h, work, allowed);
     if allowed < count {
         return SearchAnswer::Stopped(record);

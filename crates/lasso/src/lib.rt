@@ -18,6 +18,13 @@ impl Transitions {
     {
         Entries(self.0 as usize + 1)
     }
+
+    // The count as a number: the last place of a path with this many transitions, whose first place is 0.
+    pub fn number(self) -> usize
+        ensures { λ r. ⌜ r ≡ self .0 ⌝ }
+    {
+        self.0 as usize
+    }
 }
 
 // The best length so far: none, or a length.

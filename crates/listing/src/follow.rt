@@ -11,6 +11,7 @@ ghost use Rattle.model.specs.Values.{Valid};
 ghost use Rattle.spread.specs.Regions.{entry};
 ghost use Rattle.table.specs.Changes.{SameOutside};
 ghost use Rattle.listing.specs.Promises.{Prepared, Decides, upTo};
+use lasso::Transitions;
 use model::Header;
 use model::is_marked;
 use spread::distances;
@@ -111,19 +112,19 @@ pub fn may_follow(
     file: &[u8],
     h: Header,
     work: &mut [u16],
-    length: usize,
+    length: Transitions,
     place: usize,
     t: usize,
 ) -> bool
-    requires { ⌜ Prepared (now file) h (now work) length ⌝ }
-    requires { ⌜ place < length ⌝ }
+    requires { ⌜ Prepared (now file) h (now work) (length .0) ⌝ }
+    requires { ⌜ place < length .0 ⌝ }
     requires { ⌜ t < h .states ⌝ }
     requires { ⌜ T (pathb (graphOf (now file)) (upTo (graphOf (now file)) (now work) place ++ t ∷ [])) ⌝ }
-    ensures { λ r. ⌜ Decides (Extends (graphOf (now (file .entry))) length (upTo (graphOf (now (file .entry))) (now (work .entry)) place ++ t ∷ [])) r ⌝ }
+    ensures { λ r. ⌜ Decides (Extends (graphOf (now (file .entry))) (length .0) (upTo (graphOf (now (file .entry))) (now (work .entry)) place ++ t ∷ [])) r ⌝ }
     ensures same { λ r. ⌜ SameOutside (2 * h .states) (6 * h .states) (now (work .entry)) (now (work .exit)) ⌝ }
 {
     let n = h.states;
-    let left = length - (place + 1);
+    let left = length.number() - (place + 1);
     distances(file, h, work, t, left + 1);
     if starts_ahead(work, n, left) {
         return true;

@@ -12,6 +12,7 @@ ghost use Rattle.table.specs.Changes.{SameOutside};
 ghost use Rattle.listing.specs.Promises.{Prepared, Kept, LeastFollower, FollowerOf, Completed, Advanced, upTo};
 use crate::follow::list_at;
 use crate::follow::may_follow;
+use lasso::Transitions;
 use model::Header;
 use model::degree;
 use model::row_part;
@@ -30,14 +31,14 @@ fn least_follower(
     file: &[u8],
     h: Header,
     work: &mut [u16],
-    length: usize,
+    length: Transitions,
     place: usize,
     bound: usize,
 ) -> Follower
-    requires { ⌜ Prepared (now file) h (now work) length ⌝ }
-    requires { ⌜ place < length ⌝ }
+    requires { ⌜ Prepared (now file) h (now work) (length .0) ⌝ }
+    requires { ⌜ place < length .0 ⌝ }
     requires { ⌜ T (pathb (graphOf (now file)) (upTo (graphOf (now file)) (now work) place)) ⌝ }
-    ensures { λ r. ⌜ FollowerOf (graphOf (now (file .entry))) length (upTo (graphOf (now (file .entry))) (now (work .entry)) place) bound r ⌝ }
+    ensures { λ r. ⌜ FollowerOf (graphOf (now (file .entry))) (length .0) (upTo (graphOf (now (file .entry))) (now (work .entry)) place) bound r ⌝ }
     ensures same { λ r. ⌜ SameOutside (2 * h .states) (6 * h .states) (now (work .entry)) (now (work .exit)) ⌝ }
 {
     let s = list_at(h, work, place);
@@ -57,11 +58,17 @@ fn least_follower(
 }
 
 // The least state that may stand after a list that extends: of its successors the last one needs no test.
-fn first_follower(file: &[u8], h: Header, work: &mut [u16], length: usize, place: usize) -> usize
-    requires { ⌜ Prepared (now file) h (now work) length ⌝ }
-    requires { ⌜ place < length ⌝ }
-    requires { ⌜ Extends (graphOf (now file)) length (upTo (graphOf (now file)) (now work) place) ⌝ }
-    ensures { λ r. ⌜ LeastFollower (graphOf (now (file .entry))) length (upTo (graphOf (now (file .entry))) (now (work .entry)) place) 0 r ⌝ }
+fn first_follower(
+    file: &[u8],
+    h: Header,
+    work: &mut [u16],
+    length: Transitions,
+    place: usize,
+) -> usize
+    requires { ⌜ Prepared (now file) h (now work) (length .0) ⌝ }
+    requires { ⌜ place < length .0 ⌝ }
+    requires { ⌜ Extends (graphOf (now file)) (length .0) (upTo (graphOf (now file)) (now work) place) ⌝ }
+    ensures { λ r. ⌜ LeastFollower (graphOf (now (file .entry))) (length .0) (upTo (graphOf (now (file .entry))) (now (work .entry)) place) 0 r ⌝ }
     ensures same { λ r. ⌜ SameOutside (2 * h .states) (6 * h .states) (now (work .entry)) (now (work .exit)) ⌝ }
 {
     let s = list_at(h, work, place);
@@ -79,14 +86,15 @@ fn first_follower(file: &[u8], h: Header, work: &mut [u16], length: usize, place
 }
 
 // Completes the list after a place, with the least state that may stand at each.
-fn complete(file: &[u8], h: Header, work: &mut [u16], length: usize, from: usize)
-    requires { ⌜ Prepared (now file) h (now work) length ⌝ }
-    requires { ⌜ from ≤ length ⌝ }
-    requires { ⌜ Extends (graphOf (now file)) length (upTo (graphOf (now file)) (now work) from) ⌝ }
-    ensures { λ _. ⌜ Completed (graphOf (now (file .entry))) length from (now (work .entry)) (now (work .exit)) ⌝ }
+fn complete(file: &[u8], h: Header, work: &mut [u16], length: Transitions, from: usize)
+    requires { ⌜ Prepared (now file) h (now work) (length .0) ⌝ }
+    requires { ⌜ from ≤ length .0 ⌝ }
+    requires { ⌜ Extends (graphOf (now file)) (length .0) (upTo (graphOf (now file)) (now work) from) ⌝ }
+    ensures { λ _. ⌜ Completed (graphOf (now (file .entry))) (length .0) from (now (work .entry)) (now (work .exit)) ⌝ }
 {
+    let last = length.number();
     let mut place = from;
-    while place < length {
+    while place < last {
         let t = first_follower(file, h, work, length, place);
         put(work, place, t);
         place += 1;
@@ -94,22 +102,22 @@ fn complete(file: &[u8], h: Header, work: &mut [u16], length: usize, from: usize
 }
 
 // Puts the first of the shortest accepting paths into region 0.
-pub fn first(file: &[u8], h: Header, work: &mut [u16], length: usize)
-    requires { ⌜ Prepared (now file) h (now work) length ⌝ }
-    ensures { λ _. ⌜ head? (roll (graphOf (now (file .entry)))) ≡ some (upTo (graphOf (now (file .entry))) (now (work .exit)) length) ⌝ }
+pub fn first(file: &[u8], h: Header, work: &mut [u16], length: Transitions)
+    requires { ⌜ Prepared (now file) h (now work) (length .0) ⌝ }
+    ensures { λ _. ⌜ head? (roll (graphOf (now (file .entry)))) ≡ some (upTo (graphOf (now (file .entry))) (now (work .exit)) (length .0)) ⌝ }
     ensures kept { λ _. ⌜ Kept (h .states) (now (work .entry)) (now (work .exit)) ⌝ }
 {
     complete(file, h, work, length, 0);
 }
 
 // Puts the path after the one in region 0 there, and answers true; or answers false if that one is the last.
-pub fn advance(file: &[u8], h: Header, work: &mut [u16], length: usize) -> bool
-    requires { ⌜ Prepared (now file) h (now work) length ⌝ }
-    requires { ⌜ List·Memᴰ (upTo (graphOf (now file)) (now work) length) (roll (graphOf (now file))) ⌝ }
-    ensures { λ r. ⌜ Advanced (graphOf (now (file .entry))) length (now (work .entry)) (now (work .exit)) r ⌝ }
+pub fn advance(file: &[u8], h: Header, work: &mut [u16], length: Transitions) -> bool
+    requires { ⌜ Prepared (now file) h (now work) (length .0) ⌝ }
+    requires { ⌜ List·Memᴰ (upTo (graphOf (now file)) (now work) (length .0)) (roll (graphOf (now file))) ⌝ }
+    ensures { λ r. ⌜ Advanced (graphOf (now (file .entry))) (length .0) (now (work .entry)) (now (work .exit)) r ⌝ }
     ensures kept { λ _. ⌜ Kept (h .states) (now (work .entry)) (now (work .exit)) ⌝ }
 {
-    let mut place = length;
+    let mut place = length.number();
     while 0 < place {
         place -= 1;
         let bound = get(work, place) + 1;

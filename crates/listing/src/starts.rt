@@ -12,6 +12,7 @@ ghost use Rattle.table.specs.Changes.{SameOutside};
 ghost use Rattle.spread.specs.Regions.{entryOf};
 ghost use Rattle.rounds.specs.Promises.{Ready};
 ghost use Rattle.listing.specs.Promises.{startLoop, StartLoops};
+use lasso::Transitions;
 use model::Header;
 use model::degree;
 use model::row_part;
@@ -65,32 +66,33 @@ fn flag_starts(file: &[u8], h: Header, work: &mut [u16])
 }
 
 // The entry of region 1 for state s.
-fn start_loop(file: &[u8], h: Header, work: &mut [u16], length: usize, s: usize) -> usize
+fn start_loop(file: &[u8], h: Header, work: &mut [u16], length: Transitions, s: usize) -> usize
     requires { ⌜ Ready (now file) h (now work) ⌝ }
-    requires { ⌜ length ≤ h .states ⌝ }
+    requires { ⌜ length .0 ≤ h .states ⌝ }
     requires { ⌜ s < h .states ⌝ }
-    ensures { λ r. ⌜ (r ≡ entryOf (startLoop (graphOf (now (file .entry))) length s)) × (r < 65536) ⌝ }
+    ensures { λ r. ⌜ (r ≡ entryOf (startLoop (graphOf (now (file .entry))) (length .0) s)) × (r < 65536) ⌝ }
     ensures same { λ r. ⌜ SameOutside (2 * h .states) (6 * h .states) (now (work .entry)) (now (work .exit)) ⌝ }
 {
     let reached = get(work, s);
     if reached == 0 {
         return 0;
     }
-    if length < reached {
+    let most = length.number();
+    if most < reached {
         return 0;
     }
-    let answer = loop_length(file, h, work, s, length + 1 - reached);
+    let answer = loop_length(file, h, work, s, most + 1 - reached);
     match answer {
-        Answer::Length(l) => l + 1,
+        Answer::Length(transitions) => transitions + 1,
         Answer::Nothing(_) => 0,
     }
 }
 
 // Puts the loop length of each state that can start the loop of a shortest lasso into region 1.
-pub fn prepare(file: &[u8], h: Header, work: &mut [u16], length: usize)
+pub fn prepare(file: &[u8], h: Header, work: &mut [u16], length: Transitions)
     requires { ⌜ Ready (now file) h (now work) ⌝ }
-    requires { ⌜ leastLength (graphOf (now file)) ≡ some length ⌝ }
-    ensures { λ _. ⌜ StartLoops (graphOf (now (file .entry))) length (now (work .exit)) ⌝ }
+    requires { ⌜ leastLength (graphOf (now file)) ≡ some (length .0) ⌝ }
+    ensures { λ _. ⌜ StartLoops (graphOf (now (file .entry))) (length .0) (now (work .exit)) ⌝ }
     ensures same { λ _. ⌜ SameOutside (h .states) (6 * h .states) (now (work .entry)) (now (work .exit)) ⌝ }
 {
     let n = h.states;

@@ -13,6 +13,7 @@ mod lists;
 mod writing;
 
 use lasso::Best;
+use lasso::Entries;
 use lists::write_lists;
 use model::Checked;
 use model::Header;
@@ -74,14 +75,14 @@ fn sheet_model(
         }
         Best::Length(length) => {
             let entries = length.entries();
-            let needed = entries.0;
-            if answer.len() < needed {
+            let room = Entries(answer.len());
+            if room.0 < entries.0 {
                 return write_refusal(text, 15);
             }
             let at = write_head(text, h, rounds);
-            let l = length.0 as usize;
-            let after_length = write_figure(text, at, b"shortest ", l);
-            write_lists(file, h, l, answer, work, text, after_length)
+            let shortest = length.number();
+            let after_length = write_figure(text, at, b"shortest ", shortest);
+            write_lists(file, h, length, answer, work, text, after_length)
         }
     }
 }

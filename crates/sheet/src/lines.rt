@@ -5,6 +5,7 @@ ghost use Rattle.sheet.specs.Sheet.{spaceAfter, spaceBefore, stemLoop};
 ghost use Rattle.sheet.specs.Writing.{Wrote};
 use crate::writing::write_byte;
 use crate::writing::write_number;
+use lasso::Transitions;
 use table::get;
 
 // Writes each state followed by a space.
@@ -40,13 +41,14 @@ fn write_loop(text: &mut [u8], at: usize, states: &[u16]) -> usize
 }
 
 // Writes the line of the list that stands in a table from entry 0 on, given its length and the place where its loop starts.
-pub fn write_line(text: &mut [u8], at: usize, list: &[u16], k: usize, l: usize) -> usize
-    requires { ⌜ (k ≤ l) × (l ≤ length (now list)) ⌝ }
-    requires { ⌜ at + length (stemLoop (take k (now list)) (take (l - k) (drop k (now list)))) ≤ length (now text) ⌝ }
-    ensures { λ r. ⌜ Wrote (now (text .entry)) at (stemLoop (take k (now (list .entry))) (take (l - k) (drop k (now (list .entry))))) (now (text .exit)) r ⌝ }
+pub fn write_line(text: &mut [u8], at: usize, list: &[u16], k: usize, length: Transitions) -> usize
+    requires { ⌜ (k ≤ length .0) × (length .0 ≤ lib.ListN.length (now list)) ⌝ }
+    requires { ⌜ at + lib.ListN.length (stemLoop (take k (now list)) (take (length .0 - k) (drop k (now list)))) ≤ lib.ListN.length (now text) ⌝ }
+    ensures { λ r. ⌜ Wrote (now (text .entry)) at (stemLoop (take k (now (list .entry))) (take (length .0 - k) (drop k (now (list .entry))))) (now (text .exit)) r ⌝ }
 {
     let after_stem = write_stem(text, at, &list[..k]);
     let after_bar = write_byte(text, after_stem, b'|');
-    let after_loop = write_loop(text, after_bar, &list[k..l]);
+    let end = length.number();
+    let after_loop = write_loop(text, after_bar, &list[k..end]);
     write_byte(text, after_loop, b'\n')
 }

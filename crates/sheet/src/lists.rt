@@ -13,6 +13,7 @@ ghost use Rattle.sheet.specs.Sheet.{line, mostLists, closingLine, listsT
 ghost use Rattle.sheet.specs.Writing.{Wrote};
 use crate::lines::write_line;
 use crate::writing::write_figure;
+use lasso::Transitions;
 use listing::advance;
 use listing::first;
 use listing::prepare;
@@ -22,21 +23,21 @@ use model::Header;
 // Writes the line of the list in region 0, and the list itself to the answer table.
 fn write_current(
     h: Header,
-    l: usize,
+    length: Transitions,
     answer: &mut [u16],
     work: &[u16],
     text: &mut [u8],
     at: usize,
 ) -> usize
-    requires { ⌜ l ≤ length (now work) ⌝ }
-    requires { ⌜ l < length (now answer) ⌝ }
+    requires { ⌜ length .0 ≤ lib.ListN.length (now work) ⌝ }
+    requires { ⌜ length .0 < lib.ListN.length (now answer) ⌝ }
     requires { ⌜ h .start < 65536 ⌝ }
-    requires { ⌜ at + length (line (h .start ∷ take l (now work))) ≤ length (now text) ⌝ }
-    ensures line { λ r. ⌜ Wrote (now (text .entry)) at (line (h .start ∷ take l (now (work .entry)))) (now (text .exit)) r ⌝ }
-    ensures list { λ _. ⌜ now (answer .exit) ≡ (h .start ∷ take l (now (work .entry))) ++ drop (l + 1) (now (answer .entry)) ⌝ }
+    requires { ⌜ at + lib.ListN.length (line (h .start ∷ take (length .0) (now work))) ≤ lib.ListN.length (now text) ⌝ }
+    ensures line { λ r. ⌜ Wrote (now (text .entry)) at (line (h .start ∷ take (length .0) (now (work .entry)))) (now (text .exit)) r ⌝ }
+    ensures list { λ _. ⌜ now (answer .exit) ≡ (h .start ∷ take (length .0) (now (work .entry))) ++ drop (length .0 + 1) (now (answer .entry)) ⌝ }
 {
-    let k = write_list(h, work, l, answer);
-    write_line(text, at, answer, k, l)
+    let k = write_list(h, work, length, answer);
+    write_line(text, at, answer, k, length)
 }
 
 // Writes the closing line.
@@ -55,28 +56,28 @@ fn write_closing(text: &mut [u8], at: usize, count: usize, more: bool) -> usize
 pub fn write_lists(
     file: &[u8],
     h: Header,
-    l: usize,
+    length: Transitions,
     answer: &mut [u16],
     work: &mut [u16],
     text: &mut [u8],
     at: usize,
 ) -> usize
     requires { ⌜ Ready (now file) h (now work) ⌝ }
-    requires { ⌜ leastLength (graphOf (now file)) ≡ some l ⌝ }
-    requires { ⌜ l < length (now answer) ⌝ }
-    requires { ⌜ at + listsRoom ≤ length (now text) ⌝ }
+    requires { ⌜ leastLength (graphOf (now file)) ≡ some (length .0) ⌝ }
+    requires { ⌜ length .0 < lib.ListN.length (now answer) ⌝ }
+    requires { ⌜ at + listsRoom ≤ lib.ListN.length (now text) ⌝ }
     ensures text { λ r. ⌜ Wrote (now (text .entry)) at (listsText (roll (graphOf (now (file .entry))))) (now (text .exit)) r ⌝ }
     ensures answer { λ _. ⌜ now (answer .exit) ≡ written (lastOf (take mostLists (roll (graphOf (now (file .entry)))))) (now (answer .entry)) ⌝ }
-    ensures kept { λ _. ⌜ length (now (work .exit)) ≡ length (now (work .entry)) ⌝ }
+    ensures kept { λ _. ⌜ lib.ListN.length (now (work .exit)) ≡ lib.ListN.length (now (work .entry)) ⌝ }
 {
-    prepare(file, h, work, l);
-    first(file, h, work, l);
+    prepare(file, h, work, length);
+    first(file, h, work, length);
     let mut next = at;
     let mut count = 0;
     loop {
-        next = write_current(h, l, answer, work, text, next);
+        next = write_current(h, length, answer, work, text, next);
         count += 1;
-        let more = advance(file, h, work, l);
+        let more = advance(file, h, work, length);
         if !more {
             return write_closing(text, next, count, false);
         }

@@ -84,7 +84,7 @@ abbrev headed : tie.After-write-figure → tie.After-write-head2
 headed c = c .before .before .before .before .before .before
 
 abbrev best-of : tie.After-write-head2 → tie.After-best
-best-of c = c .before .before .before .before .before
+best-of c = c .before .before .before .before .before .before .before
 
 abbrev figured : tie.After-write-lists → tie.After-write-figure
 figured c = c .before .before .before .before .before .before
@@ -98,7 +98,7 @@ lists-are c =
     let a = s .args in
     let v = s .pre .0 in
     sheet-lists (a .file .now) (v .accepted) (length (a .answer .now)) (length (a .work .now)) (valid-room v (s .pre .1 .0)) (length-of b) (least b)
-    (omega (arith, c .before .before .before .entries .ensures, c .before .before .if1 .left))
+    (omega (arith, c .before .before .before .before .before .entries .ensures, c .before .before .if1 .left))
 
 start-distances-requires : tie.Need-start-distances-requires
 start-distances-requires c κs = search needs
@@ -134,7 +134,7 @@ entries-requires c κs = search needs
 
 write-refusal-requires : tie.Need-write-refusal-requires
 write-refusal-requires c κs =
-    let done = some-rounds (c .before .before .before .before) in
+    let done = some-rounds (c .before .before .before .before .before .before) in
     omega (arith, figure-room refusedWord 15 (omega arith), start done .pre .1 .1)
 
 same-length : tie.Need-same-length
@@ -147,19 +147,20 @@ returns : tie.Need-returns
 returns c =
     let done = c .before .before in
     let then = done .before .before in
-    let b = then .before .before .before in
+    let counted = then .before .before .before in
+    let b = counted .before .before in
     let s = start (some-rounds b) in
     let a = s .args in
     let v = s .pre .0 in
-    let is = sheet-no-room (a .file .now) (v .accepted) (length (a .answer .now)) (length (a .work .now)) (valid-room v (s .pre .1 .0)) (length-of b) (least b) (omega (arith, then .before .entries .ensures, then .if1 .taken)) in
+    let is = sheet-no-room (a .file .now) (v .accepted) (length (a .answer .now)) (length (a .work .now)) (valid-room v (s .pre .1 .0)) (length-of b) (least b) (omega (arith, counted .entries .ensures, then .if1 .taken)) in
     (wrote-as (sym (is .text-is)) (done .write-refusal .ensures), (sym (sheet-answer (a .answer .now) is), kept (some-rounds b)))
 
 write-head-requires-2 : tie.Need-write-head-requires-2
 write-head-requires-2 c κs =
-    let done = some-rounds (c .before .before .before .before) in omega (arith, head-short done, start done .pre .1 .1)
+    let done = some-rounds (c .before .before .before .before .before .before) in omega (arith, head-short done, start done .pre .1 .1)
 
-cast-l : tie.Need-cast-l
-cast-l c = search needs
+number-requires : tie.Need-number-requires
+number-requires c κs = search needs
 
 slice-aggregate-write-figure : tie.Need-slice-aggregate-write-figure
 slice-aggregate-write-figure c = search needs
@@ -169,7 +170,8 @@ write-figure-requires c κs =
     let head = c .before .before .before .before .before in
     let b = best-of head in
     let w = head .write-head2 .ensures in
-    omega (arith, head-short (some-rounds b), figure-room shortestWord (length-of b) (omega (arith, length-range b)), start (some-rounds b) .pre .1 .1, w .place, wrote-length w)
+    let number = c .before .before .number in
+    omega (arith, head-short (some-rounds b), figure-room shortestWord (number .result) (omega (arith, number .ensures, length-range b)), start (some-rounds b) .pre .1 .1, w .place, wrote-length w)
 
 write-lists-requires : tie.Need-write-lists-requires
 write-lists-requires c κs =
@@ -179,13 +181,14 @@ write-lists-requires c κs =
     let done = some-rounds b in
     let s = start done in
     let w = head .write-head2 .ensures in
-    let v = figure .write-figure .ensures in (
+    let v = figure .write-figure .ensures in
+    let number = figure .before .before .before .number in (
       ready-kept (ready-started (s .pre .0) (s .pre .1 .0) (started done .start-distances .ensures)) (done .run-rounds .ensures .1),
       (
         least b,
         (
-          omega (arith, head .before .before .before .entries .ensures, head .before .before .if1 .left),
-          omega (arith, head-short done, figure-room shortestWord (length-of b) (omega (arith, length-range b)), s .pre .1 .1, w .place, v .place, wrote-length w, wrote-length v),
+          omega (arith, head .before .before .before .before .before .entries .ensures, head .before .before .if1 .left),
+          omega (arith, head-short done, figure-room shortestWord (number .result) (omega (arith, number .ensures, length-range b)), s .pre .1 .1, w .place, v .place, wrote-length w, wrote-length v),
         ),
       ),
     )
@@ -230,7 +233,7 @@ returns-3 c =
     let is = lists-are head in
     let a = start done .args in (
       wrote-as (ap (λ (r : List ℕ). r ++ figure shortestWord (length-of (best-of head)) ++ listsText (roll (graphOf (a .file .now)))) (head-of done) ∙ sym (is .text-is))
-          (wrote-then (wrote-then (head .write-head2 .ensures) (length-line .write-figure .ensures)) (lists .write-lists .ensures .0)),
+          (wrote-then (wrote-then (head .write-head2 .ensures) (wrote-as (ap (figure shortestWord) (length-line .before .before .before .number .ensures)) (length-line .write-figure .ensures))) (lists .write-lists .ensures .0)),
       (lists .write-lists .ensures .1 .0 ∙ sym (sheet-answer (a .answer .now) is), lists .write-lists .ensures .1 .1 ∙ kept done),
     )
 
@@ -252,7 +255,7 @@ sheet-model-spec =
     same-length-2
     returns
     write-head-requires-2
-    cast-l
+    number-requires
     slice-aggregate-write-figure
     write-figure-requires
     write-lists-requires

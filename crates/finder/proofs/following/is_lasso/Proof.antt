@@ -18,7 +18,7 @@ use Rattle.finder.proofs.following.is_lasso.Tie as tie
 
 -- the function's start, from where the path was tested
 abbrev start : tie.After-is-path → tie.Start
-start c = c .before .before .before .before
+start c = c .before .before .before .before .before .before .before
 
 -- the test of a path from the start
 path-tested : (c : tie.After-is-path)
@@ -26,7 +26,7 @@ path-tested : (c : tie.After-is-path)
     (eqb (getD (now (a .list)) 0 0) (graphOf (now (a .file)) .start) && pathb (graphOf (now (a .file))) (now (a .list))) ≡ c .is-path .result
 path-tested c =
     let a = start c .args in
-    ap (λ (s : ℕ). eqb (getD (now (a .list)) 0 0) s && pathb (graphOf (now (a .file))) (now (a .list))) (sym (valid-sizes (start c .pre .0) .start-is))
+    ap (λ (s : ℕ). eqb (getD (now (a .list)) 0 0) s && pathb (graphOf (now (a .file))) (now (a .list))) (sym (valid-sizes (start c .pre) .start-is))
     ∙ sym (c .is-path .ensures)
 
 -- the list is a path from the start
@@ -35,13 +35,14 @@ is-path : (c : tie.Else2)
     T (eqb (getD (now (a .list)) 0 0) (graphOf (now (a .file)) .start) && pathb (graphOf (now (a .file))) (now (a .list)))
 is-path c = rw (path-tested (c .before) ∙ not-false _ (c .if2 .left)) tt
 
-add-if1 : tie.Need-add-if1
-add-if1 c = search needs
+entries-requires : tie.Need-entries-requires
+entries-requires c κs = search needs
 
 returns : tie.Need-returns
 returns c =
-    let a = c .before .before .before .args in
-    sym (lassoOf-other (graphOf (now (a .file))) (now (a .list)) (a .transitions) (c .if1 .taken))
+    let counted = c .before .before .before in
+    let a = counted .before .before .before .args in
+    sym (lassoOf-other (graphOf (now (a .file))) (now (a .list)) (a .length .0) (λ e. c .if1 .taken (e ∙ sym (counted .entries .ensures))))
 
 is-path-requires : tie.Need-is-path-requires
 is-path-requires c κs = search needs
@@ -49,21 +50,21 @@ is-path-requires c κs = search needs
 returns-2 : tie.Need-returns-2
 returns-2 c =
     let a = start (c .before) .args in
-    sym (lassoOf-no-path (graphOf (now (a .file))) (now (a .list)) (a .transitions) (path-tested (c .before) ∙ not-true _ (c .if2 .taken)))
+    sym (lassoOf-no-path (graphOf (now (a .file))) (now (a .list)) (a .length .0) (path-tested (c .before) ∙ not-true _ (c .if2 .taken)))
 
 closes-requires : tie.Need-closes-requires
 closes-requires c κs =
     let s = start (c .before) in
     let walk = is-path c in
     let first : getD (now (s .args .list)) 0 0 ≡ graphOf (now (s .args .file)) .start = search (parts, eqb→eq) in
-    (s .pre .0, (omega (arith, c .before .before .if1 .left), (first ∙ sym (valid-sizes (s .pre .0) .start-is), search parts)))
+    (s .pre, (omega (arith, c .before .before .if1 .left, c .before .before .before .before .before .entries .ensures), (first ∙ sym (valid-sizes (s .pre) .start-is), search parts)))
 
 returns-3 : tie.Need-returns-3
 returns-3 c =
     let tested = c .before .before in
     let a = start tested .args in
-    c .closes .ensures ∙ lassoOf-closes (graphOf (now (a .file))) (now (a .list)) (a .transitions) (tested .before .if1 .left) (is-path (c .before))
+    c .closes .ensures ∙ lassoOf-closes (graphOf (now (a .file))) (now (a .list)) (a .length .0) (tested .before .if1 .left ∙ tested .before .before .before .before .entries .ensures) (is-path (c .before))
 
 pub is-lasso-spec : {M : Type 1} → statement M
 is-lasso-spec =
-    tie.close (tie.spec add-if1 returns is-path-requires returns-2 closes-requires returns-3)
+    tie.close (tie.spec entries-requires returns is-path-requires returns-2 closes-requires returns-3)

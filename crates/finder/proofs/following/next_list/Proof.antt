@@ -28,7 +28,7 @@ start c = c .before .before .before .before .before
 
 -- the way back from each change of the working table to the one before
 abbrev tested : tie.After-prepare → tie.Else1
-tested c = c .before .before .before
+tested c = c .before .before .before .before
 
 abbrev prepared : tie.After-load → tie.After-prepare
 prepared c = c .before .before .before .before
@@ -42,23 +42,23 @@ origin c = start (tested (prepared (put c)) .before)
 
 -- the test of the earlier list
 list-tested : (c : tie.After-is-lasso)
-    → let a = start c .args in lassoOf (graphOf (a .file .now)) (a .earlier .now) (a .best .0) ≡ c .is-lasso .result
+    → let a = start c .args in lassoOf (graphOf (a .file .now)) (a .earlier .now) (a .length .0) ≡ c .is-lasso .result
 list-tested c = sym (c .is-lasso .ensures)
 
 -- the earlier list is in the roll
 in-roll : (c : tie.Else1) → let a = start (c .before) .args in List·Memᴰ (a .earlier .now) (roll (graphOf (a .file .now)))
 in-roll c =
     let s = start (c .before) in
-    lassoOf-mem (graphOf (s .args .file .now)) (valid-well-formed (s .pre .0 .valid)) (s .args .best .0) (s .pre .1) (s .args .earlier .now)
+    lassoOf-mem (graphOf (s .args .file .now)) (valid-well-formed (s .pre .0 .valid)) (s .args .length .0) (s .pre .1) (s .args .earlier .now)
     (list-tested (c .before) ∙ not-false _ (c .if1 .left))
 
 -- the list that was replaced is the earlier one
 replaced : (c : tie.After-advance)
-    → let a = origin c .args in upTo (graphOf (a .file .now)) (put c .load .last .1 .0) (a .best .0) ≡ a .earlier .now
+    → let a = origin c .args in upTo (graphOf (a .file .now)) (put c .load .last .1 .0) (a .length .0) ≡ a .earlier .now
 replaced c =
     let s = origin c in
     let a = s .args in
-    loaded-upTo (graphOf (a .file .now)) (a .best .0) (s .pre .1) (a .earlier .now) (in-roll (tested (prepared (put c)))) _ _ (put c .load .ensures)
+    loaded-upTo (graphOf (a .file .now)) (a .length .0) (s .pre .1) (a .earlier .now) (in-roll (tested (prepared (put c)))) _ _ (put c .load .ensures)
 
 -- the working table keeps its length
 kept : (c : tie.After-advance) → length (c .advance .last .1 .1 .0) ≡ length (origin c .args .work .now)
@@ -66,26 +66,23 @@ kept c =
     let s = origin c in
     let done = prepared (put c) in
     c .advance .ensures .1 .same-length
-    ∙ loaded-kept (s .pre .0) (s .args .best .0) (s .pre .1) _ _ (done .prepare .ensures .1 .same-length) (s .args .earlier .now) (in-roll (tested done)) (put c .load .ensures)
+    ∙ loaded-kept (s .pre .0) (s .args .length .0) (s .pre .1) _ _ (done .prepare .ensures .1 .same-length) (s .args .earlier .now) (in-roll (tested done)) (put c .load .ensures)
 
 -- the list that follows stands in region 0
 follows : (c : tie.Else3)
     → let adv = c .before .before .before in
     let a = origin adv .args in
-    following (a .earlier .now) (roll (graphOf (a .file .now))) ≡ some (upTo (graphOf (a .file .now)) (adv .advance .last .1 .1 .0) (a .best .0))
+    following (a .earlier .now) (roll (graphOf (a .file .now))) ≡ some (upTo (graphOf (a .file .now)) (adv .advance .last .1 .1 .0) (a .length .0))
 follows c =
     let adv = c .before .before .before in
     let a = origin adv .args in
-    advanced-some (graphOf (a .file .now)) (a .best .0) _ (adv .advance .last .1 .1 .0) (adv .advance .result) (a .earlier .now) (replaced adv) (adv .advance .ensures .0) (not-false _ (c .if3 .left))
+    advanced-some (graphOf (a .file .now)) (a .length .0) _ (adv .advance .last .1 .1 .0) (adv .advance .result) (a .earlier .now) (replaced adv) (adv .advance .ensures .0) (not-false _ (c .if3 .left))
 
 -- a list of the least length fits the table
-fits : (c : tie.After-advance) → origin c .args .best .0 ≤ length (c .advance .last .1 .1 .0)
+fits : (c : tie.After-advance) → origin c .args .length .0 ≤ length (c .advance .last .1 .1 .0)
 fits c =
     let s = origin c in
-    omega (arith, kept c, least-fits (s .pre .0) (s .args .best .0) (s .pre .1), s .pre .0 .room)
-
-cast-l : tie.Need-cast-l
-cast-l c = search needs
+    omega (arith, kept c, least-fits (s .pre .0) (s .args .length .0) (s .pre .1), s .pre .0 .room)
 
 is-lasso-requires : tie.Need-is-lasso-requires
 is-lasso-requires c κs = search needs
@@ -95,14 +92,14 @@ returns c =
     let s = start (c .before) in
     let a = s .args in
     let v = s .pre .0 .valid in
-    let apart = notShortest-lasso (graphOf (a .file .now)) (valid-well-formed v) (a .best .0) (s .pre .1) (a .earlier .now) (list-tested (c .before) ∙ not-true _ (c .if1 .taken)) in
+    let apart = notShortest-lasso (graphOf (a .file .now)) (valid-well-formed v) (a .length .0) (s .pre .1) (a .earlier .now) (list-tested (c .before) ∙ not-true _ (c .if1 .taken)) in
     let is = next-not-shortest (a .file .now) (v .accepted) (a .earlier .now) (length (a .answer .now)) (length (a .work .now)) (valid-room v (s .pre .0 .room)) apart in
     (sym (is .outcome), (sym (next-answer (a .answer .now) is), refl))
 
 returns-2 : tie.Need-returns-2
 returns-2 c =
-    let s = start (c .before .before) in
-    absurd (omega (arith, least-fits (s .pre .0) (s .args .best .0) (s .pre .1), c .if2 .taken))
+    let s = start (c .before .before .before) in
+    absurd (omega (arith, least-fits (s .pre .0) (s .args .length .0) (s .pre .1), c .if2 .taken))
 
 prepare-requires : tie.Need-prepare-requires
 prepare-requires c κs = search needs
@@ -112,7 +109,7 @@ load-requires c κs =
     let done = c .before .before .before in
     let s = start (tested done .before) in
     let a = s .args in
-    omega (arith, roll-length (graphOf (a .file .now)) (a .best .0) (s .pre .1) (a .earlier .now) (in-roll (tested done)), least-fits (s .pre .0) (a .best .0) (s .pre .1), s .pre .0 .room, done .prepare .ensures .1 .same-length)
+    omega (arith, roll-length (graphOf (a .file .now)) (a .length .0) (s .pre .1) (a .earlier .now) (in-roll (tested done)), least-fits (s .pre .0) (a .length .0) (s .pre .1), s .pre .0 .room, done .prepare .ensures .1 .same-length)
 
 advance-requires : tie.Need-advance-requires
 advance-requires c κs =
@@ -121,8 +118,8 @@ advance-requires c κs =
     let s = start (tested done .before) in
     let a = s .args in
     let m = in-roll (tested done) in (
-      prepared-loaded (s .pre .0) (a .best .0) (s .pre .1) _ _ (done .prepare .ensures .1 .same-length) (done .prepare .ensures .0) (a .earlier .now) m (up .load .ensures),
-      loaded-mem (graphOf (a .file .now)) (a .best .0) (s .pre .1) (a .earlier .now) m _ _ (up .load .ensures),
+      prepared-loaded (s .pre .0) (a .length .0) (s .pre .1) _ _ (done .prepare .ensures .1 .same-length) (done .prepare .ensures .0) (a .earlier .now) m (up .load .ensures),
+      loaded-mem (graphOf (a .file .now)) (a .length .0) (s .pre .1) (a .earlier .now) m _ _ (up .load .ensures),
     )
 
 same-length : tie.Need-same-length
@@ -134,7 +131,7 @@ returns-3 c =
     let s = origin adv in
     let a = s .args in
     let v = s .pre .0 .valid in
-    let last = advanced-none (graphOf (a .file .now)) (a .best .0) _ (adv .advance .last .1 .1 .0) (adv .advance .result) (a .earlier .now) (replaced adv) (adv .advance .ensures .0) (not-true _ (c .if3 .taken)) in
+    let last = advanced-none (graphOf (a .file .now)) (a .length .0) _ (adv .advance .last .1 .1 .0) (adv .advance .result) (a .earlier .now) (replaced adv) (adv .advance .ensures .0) (not-true _ (c .if3 .taken)) in
     let is = next-no-more (a .file .now) (v .accepted) (a .earlier .now) (length (a .answer .now)) (length (a .work .now)) (valid-room v (s .pre .0 .room)) (in-roll (tested (prepared (put adv)))) last in
     (sym (is .outcome), (sym (next-answer (a .answer .now) is), kept adv))
 
@@ -146,22 +143,24 @@ same-length-2 c = search needs
 
 returns-4 : tie.Need-returns-4
 returns-4 c =
-    let more = c .before .before in
+    let counted = c .before .before .before in
+    let more = counted .before in
     let adv = more .before .before .before in
     let s = origin adv in
     let a = s .args in
     let v = s .pre .0 .valid in
-    let long = length-take-le (a .best .0) (adv .advance .last .1 .1 .0) (fits adv) in
-    let is = next-no-room (a .file .now) (v .accepted) (a .earlier .now) (length (a .answer .now)) (length (a .work .now)) (valid-room v (s .pre .0 .room)) (in-roll (tested (prepared (put adv)))) _ (follows more) (omega (arith, long, c .before .entries .ensures, c .if4 .taken)) in
+    let long = length-take-le (a .length .0) (adv .advance .last .1 .1 .0) (fits adv) in
+    let is = next-no-room (a .file .now) (v .accepted) (a .earlier .now) (length (a .answer .now)) (length (a .work .now)) (valid-room v (s .pre .0 .room)) (in-roll (tested (prepared (put adv)))) _ (follows more) (omega (arith, long, counted .entries .ensures, c .if4 .taken)) in
     (sym (is .outcome), (sym (next-answer (a .answer .now) is), kept adv))
 
 write-list-requires : tie.Need-write-list-requires
 write-list-requires c κs =
     let free = c .before .before in
-    let adv = free .before .before .before .before .before in
+    let counted = free .before .before .before in
+    let adv = counted .before .before .before .before in
     let s = origin adv in
     let sizes = valid-sizes (s .pre .0 .valid) in
-    omega (arith, fits adv, free .before .entries .ensures, free .if4 .left)
+    omega (arith, fits adv, counted .entries .ensures, free .if4 .left)
 
 cast-loop-start : tie.Need-cast-loop-start
 cast-loop-start c = search needs
@@ -176,14 +175,15 @@ returns-5 : tie.Need-returns-5
 returns-5 c =
     let wrote = c .before .before in
     let free = wrote .before .before .before in
-    let more = free .before .before in
+    let counted = free .before .before .before in
+    let more = counted .before in
     let adv = more .before .before .before in
     let s = origin adv in
     let a = s .args in
     let v = s .pre .0 .valid in
     let is =
-    following-written (a .file .now) (v .accepted) (length (a .work .now)) (valid-room v (s .pre .0 .room)) (a .earlier .now) (a .answer .now) _ _ (a .h .start) (a .best .0) (wrote .write-list .result)
-    (in-roll (tested (prepared (put adv)))) (valid-sizes v .start-is) (fits adv) (follows more) (omega (arith, free .before .entries .ensures, free .if4 .left))
+    following-written (a .file .now) (v .accepted) (length (a .work .now)) (valid-room v (s .pre .0 .room)) (a .earlier .now) (a .answer .now) _ _ (a .h .start) (a .length .0) (wrote .write-list .result)
+    (in-roll (tested (prepared (put adv)))) (valid-sizes v .start-is) (fits adv) (follows more) (omega (arith, counted .entries .ensures, free .if4 .left))
     (wrote .write-list .ensures .0 .0) (wrote .write-list .ensures .1) in
     (is .0, (is .1, kept adv))
 
@@ -191,7 +191,6 @@ pub next-list-spec : {M : Type 1} → statement M
 next-list-spec =
     tie.close
     (tie.spec
-    cast-l
     is-lasso-requires
     returns
     returns-2

@@ -10,14 +10,14 @@ use Rattle.lasso.proofs.RollLaws.{leastLength-range}
 use Rattle.model.specs.Model.{graphOf}
 use Rattle.model.proofs.Laws.{valid-sizes}
 use Rattle.finder.specs.Outcomes.{refused}
-use Rattle.gate.proofs.GateLaws.{valid-room}
+use Rattle.finder.proofs.ReasonLaws.{valid-room}
 use Rattle.finder.proofs.SearchLaws.{SearchIs, search-answer, search-no-room, first-written}
 use Rattle.finder.proofs.searching.first_list.Statement.{statement}
 use Rattle.finder.proofs.searching.first_list.Tie as tie
 
 -- the function's start, and what was done before the list was written
 abbrev start : tie.After-entries → tie.Start
-start c = c .before .before .before .before .before
+start c = c .before .before .before .before .before .before
 
 abbrev roomy : tie.After-prepare → tie.Else2
 roomy c = c .before .before
@@ -27,26 +27,24 @@ prepared c = c .before .before .before .before
 
 returns : tie.Need-returns
 returns c =
-    let s = c .before .before .before .before in
+    let s = c .before .before .before .before .before in
     let sizes = valid-sizes (s .pre .0 .valid) in
-    absurd (omega (arith, leastLength-range (graphOf (s .args .file .now)) (s .args .best .0) (s .pre .1 .0), c .if1 .taken))
+    absurd (omega (arith, leastLength-range (graphOf (s .args .file .now)) (s .args .length .0) (s .pre .1 .0), c .if1 .taken))
 
 entries-requires : tie.Need-entries-requires
 entries-requires c κs = search needs
 
 returns-2 : tie.Need-returns-2
 returns-2 c =
-    let s = start (c .before) in
+    let counted = c .before .before .before in
+    let s = start counted in
     let a = s .args in
     let v = s .pre .0 .valid in
-    let is : (allowance : ℕ) → a .rounds ≤ ask → SearchIs (a .file .now) ask (length (a .answer .now)) (length (a .work .now)) (refused 15) none =
-    λ ask enough. search-no-room (a .file .now) (v .accepted) ask (length (a .answer .now)) (length (a .work .now)) (valid-room v (s .pre .0 .room)) (omega (arith, s .pre .1 .1)) (a .best .0) (s .pre .1 .0) (omega (arith, c .before .entries .ensures, c .if2 .taken)) in (
-      λ ask enough. sym (is ask enough .outcome),
-      (λ ask enough. sym (search-answer (a .answer .now) (is ask enough)), refl),
+    let is : (allowance : ℕ) → a .rounds ≤ allowance → SearchIs (a .file .now) allowance (length (a .answer .now)) (length (a .work .now)) (refused 15) none =
+    λ allowance enough. search-no-room (a .file .now) (v .accepted) allowance (length (a .answer .now)) (length (a .work .now)) (valid-room v (s .pre .0 .room)) (omega (arith, s .pre .1 .1)) (a .length .0) (s .pre .1 .0) (omega (arith, counted .entries .ensures, c .if2 .taken)) in (
+      λ allowance enough. sym (is allowance enough .outcome),
+      (λ allowance enough. sym (search-answer (a .answer .now) (is allowance enough)), refl),
     )
-
-cast-l : tie.Need-cast-l
-cast-l c = search needs
 
 prepare-requires : tie.Need-prepare-requires
 prepare-requires c κs = search needs
@@ -58,10 +56,10 @@ write-list-requires : tie.Need-write-list-requires
 write-list-requires c κs =
     let listed = c .before .before .before .before in
     let done = prepared listed in
-    let entered = roomy done .before in
+    let entered = roomy done .before .before .before in
     let s = start entered in
     let sizes = valid-sizes (s .pre .0 .valid) in
-    omega (arith, leastLength-range (graphOf (s .args .file .now)) (s .args .best .0) (s .pre .1 .0), s .pre .0 .room, listed .first .ensures .1 .same-length, done .prepare .ensures .1 .same-length, entered .entries .ensures, roomy done .if2 .left)
+    omega (arith, leastLength-range (graphOf (s .args .file .now)) (s .args .length .0) (s .pre .1 .0), s .pre .0 .room, listed .first .ensures .1 .same-length, done .prepare .ensures .1 .same-length, entered .entries .ensures, roomy done .if2 .left)
 
 cast-loop-start : tie.Need-cast-loop-start
 cast-loop-start c = search needs
@@ -77,18 +75,18 @@ returns-3 c =
     let wrote = c .before .before in
     let listed = wrote .before .before .before .before .before in
     let done = prepared listed in
-    let entered = roomy done .before in
+    let entered = roomy done .before .before .before in
     let s = start entered in
     let a = s .args in
     let v = s .pre .0 .valid in
     let sizes = valid-sizes v in
-    let range = leastLength-range (graphOf (a .file .now)) (a .best .0) (s .pre .1 .0) in
+    let range = leastLength-range (graphOf (a .file .now)) (a .length .0) (s .pre .1 .0) in
     let kept = listed .first .ensures .1 .same-length ∙ done .prepare .ensures .1 .same-length in
     let both =
-    first-written (a .file .now) (v .accepted) (length (a .work .now)) (valid-room v (s .pre .0 .room)) (a .answer .now) _ _ (a .h .start) (a .best .0) (wrote .write-list .result) (a .rounds)
+    first-written (a .file .now) (v .accepted) (length (a .work .now)) (valid-room v (s .pre .0 .room)) (a .answer .now) _ _ (a .h .start) (a .length .0) (wrote .write-list .result) (a .rounds)
     (sizes .start-is) (omega (arith, kept, s .pre .0 .room)) (listed .first .ensures .0) (omega (arith, entered .entries .ensures, roomy done .if2 .left))
     (wrote .write-list .ensures .0 .0) (s .pre .1 .1) (wrote .write-list .ensures .1) in
-    (λ ask enough. both ask enough .0, (λ ask enough. both ask enough .1, kept))
+    (λ allowance enough. both allowance enough .0, (λ allowance enough. both allowance enough .1, kept))
 
 pub first-list-spec : {M : Type 1} → statement M
 first-list-spec =
@@ -97,7 +95,6 @@ first-list-spec =
     returns
     entries-requires
     returns-2
-    cast-l
     prepare-requires
     first-requires
     write-list-requires

@@ -15,12 +15,17 @@ use Rattle.listing.proofs.follow.may_follow.Statement.{statement}
 use Rattle.listing.proofs.follow.may_follow.Tie as tie
 
 -- what is asked of the state
-asked : (c : tie.Start) → let a = c .args in Asked (a .file .now) (a .h) (a .work .now) (a .length) (a .place) (a .t)
-asked c = record { prepared = c .pre .0; within = c .pre .1 .0; path = c .pre .1 .1 .1 }
+asked : (c : tie.After-number) → let a = c .before .before .before .args in Asked (a .file .now) (a .h) (a .work .now) (c .number .result) (a .place) (a .t)
+asked c =
+    let s = c .before .before .before in
+    record { prepared = rw (c .number .ensures) (s .pre .0); within = omega (arith, c .number .ensures, s .pre .1 .0); path = s .pre .1 .1 .1 }
 
--- the function's entry, from the place after the first search
+-- the length's number and the function's entry, from the place after the first search
+abbrev measured : tie.After-distances → tie.After-number
+measured c = c .before .before
+
 abbrev entered : tie.After-distances → tie.Start
-entered c = c .before .before .before .before
+entered c = measured c .before .before .before
 
 -- the table after the first search
 abbrev searched : tie.After-distances → List ℕ
@@ -28,23 +33,23 @@ searched c = c .distances .last .1 .1 .0
 
 -- the first search leaves the distances from the state
 distances-left : (c : tie.After-distances) → let a = entered c .args in
-    DistancesWithin (graphOf (a .file .now)) (a .t) (a .length - (a .place + 1) + 1) (a .work .now) (searched c)
+    DistancesWithin (graphOf (a .file .now)) (a .t) (measured c .number .result - (a .place + 1) + 1) (a .work .now) (searched c)
 distances-left c = c .distances .ensures
 
 -- it changes regions 2 to 5 only
 kept : (c : tie.After-distances) → let a = entered c .args in
     SameOutside (2 * a .h .states) (6 * a .h .states) (a .work .now) (searched c)
-kept c = asked-same (asked (entered c)) (searched c) (distances-left c .outside)
+kept c = asked-same (asked (measured c)) (searched c) (distances-left c .outside)
 
 -- what the tests ask of the table after the first search
 room : (c : tie.After-distances) → let a = entered c .args in
-    (3 * a .h .states ≤ length (searched c)) × (a .place < a .h .states) × (a .length - (a .place + 1) ≤ a .h .states)
-room c = omega (arith, asked-sizes (asked (entered c)), asked (entered c) .within, kept c .same-length)
+    (3 * a .h .states ≤ length (searched c)) × (a .place < a .h .states) × (measured c .number .result - (a .place + 1) ≤ a .h .states)
+room c = omega (arith, asked-sizes (asked (measured c)), asked (measured c) .within, kept c .same-length)
 
 -- the states of the list are states
 states : (c : tie.After-distances) → let a = entered c .args in
     (k : ℕ) → k ≤ a .place → getD (a .h .start ∷ searched c) k 0 < a .h .states
-states c = asked-states (asked (entered c)) (searched c) (distances-left c .outside)
+states c = asked-states (asked (measured c)) (searched c) (distances-left c .outside)
 
 -- the place after the first search, from the place where the loop start ahead is ruled out
 abbrev no-start-at : tie.Else1 → tie.After-distances
@@ -52,7 +57,7 @@ no-start-at c = c .before .before .before .before .before
 
 -- no loop start is ahead
 no-start : (c : tie.Else1) → let a = entered (no-start-at c) .args in
-    StartsAhead (a .h .states) (searched (no-start-at c)) (a .length - (a .place + 1)) → ⊥
+    StartsAhead (a .h .states) (searched (no-start-at c)) (measured (no-start-at c) .number .result - (a .place + 1)) → ⊥
 no-start c = rw (c .if1 .left) at (c .before .starts-ahead .ensures)
 
 -- the place after the first search, from the place where a mark passed is ruled out too
@@ -61,7 +66,7 @@ no-mark-at c = no-start-at (c .before .before .before)
 
 -- no loop start is passed with a mark
 no-mark : (c : tie.Else2) → let a = entered (no-mark-at c) .args in
-    ClosesMarked (graphOf (a .file .now)) (a .h .states) (a .h .start) (searched (no-mark-at c)) (a .place) (a .length - (a .place + 1)) → ⊥
+    ClosesMarked (graphOf (a .file .now)) (a .h .states) (a .h .start) (searched (no-mark-at c)) (a .place) (measured (no-mark-at c) .number .result - (a .place + 1)) → ⊥
 no-mark c = rw (c .if2 .left) at (c .before .closes-marked .ensures)
 
 -- the place after the first search, from the place after the second
@@ -77,12 +82,15 @@ outside-on : (c : tie.After-from-marks) → let a = entered (second-at c) .args 
     SameOutside (2 * graphOf (a .file .now) .size) (6 * graphOf (a .file .now) .size) (a .work .now) (searched-on c)
 outside-on c =
     let at = second-at c in
-    searched-outside (asked (entered at)) (searched at) (distances-left at) (searched-on c) (c .from-marks .result) (c .from-marks .ensures)
+    searched-outside (asked (measured at)) (searched at) (distances-left at) (searched-on c) (c .from-marks .result) (c .from-marks .ensures)
 
 -- both searches change regions 2 to 5 only, by the header's number of states
 kept-on : (c : tie.After-from-marks) → let a = entered (second-at c) .args in
     SameOutside (2 * a .h .states) (6 * a .h .states) (a .work .now) (searched-on c)
-kept-on c = asked-same (asked (entered (second-at c))) (searched-on c) (outside-on c)
+kept-on c = asked-same (asked (measured (second-at c))) (searched-on c) (outside-on c)
+
+number-requires : tie.Need-number-requires
+number-requires c κs = search needs
 
 add-left : tie.Need-add-left
 add-left c = search needs
@@ -95,8 +103,9 @@ add-distances c = search needs
 
 distances-requires : tie.Need-distances-requires
 distances-requires c κs =
-    let S = asked-sizes (asked (c .before .before .before)) in
-    (c .before .before .before .pre .0 .valid, (c .before .before .before .pre .1 .1 .0, (omega arith, (omega arith, S .1))))
+    let s = c .before .before .before .before in
+    let S = asked-sizes (asked (c .before)) in
+    (s .pre .0 .valid, (s .pre .1 .1 .0, (omega arith, (omega arith, S .1))))
 
 starts-ahead-requires : tie.Need-starts-ahead-requires
 starts-ahead-requires c κs = (room (c .before .before .before) .0, room (c .before .before .before) .2)
@@ -107,7 +116,7 @@ same-length c = search needs
 returns : tie.Need-returns
 returns c =
     let at = c .before .before .before .before .before in
-    (starts-follows (asked (entered at)) (searched at) (distances-left at) (rw (c .if1 .taken) at (c .before .starts-ahead .ensures)), kept at)
+    (rw (measured at .number .ensures) at (starts-follows (asked (measured at)) (searched at) (distances-left at) (rw (c .if1 .taken) at (c .before .starts-ahead .ensures))), kept at)
 
 closes-marked-requires : tie.Need-closes-marked-requires
 closes-marked-requires c κs =
@@ -120,7 +129,7 @@ same-length-2 c = search needs
 returns-2 : tie.Need-returns-2
 returns-2 c =
     let at = no-start-at (c .before .before .before) in
-    (marked-follows (asked (entered at)) (searched at) (distances-left at) (rw (c .if2 .taken) at (c .before .closes-marked .ensures)), kept at)
+    (rw (measured at .number .ensures) at (marked-follows (asked (measured at)) (searched at) (distances-left at) (rw (c .if2 .taken) at (c .before .closes-marked .ensures))), kept at)
 
 closes-start-requires : tie.Need-closes-start-requires
 closes-start-requires c κs =
@@ -134,7 +143,7 @@ returns-3 : tie.Need-returns-3
 returns-3 c =
     let else = c .before .before .before in
     let at = no-mark-at else in
-    (far-not-follows (asked (entered at)) (searched at) (distances-left at) (no-start (else .before .before .before)) (no-mark else) (rw (not-true (c .before .closes-start .result) (c .if3 .taken)) at (c .before .closes-start .ensures)), kept at)
+    (rw (measured at .number .ensures) at (far-not-follows (asked (measured at)) (searched at) (distances-left at) (no-start (else .before .before .before)) (no-mark else) (rw (not-true (c .before .closes-start .result) (c .if3 .taken)) at (c .before .closes-start .ensures))), kept at)
 
 add-from-marks : tie.Need-add-from-marks
 add-from-marks c = search needs
@@ -142,13 +151,13 @@ add-from-marks c = search needs
 from-marks-requires : tie.Need-from-marks-requires
 from-marks-requires c κs =
     let at = no-mark-at (c .before .before .before .before) in
-    (entered at .pre .0 .valid, (omega (arith, asked-sizes (asked (entered at))), omega (arith, kept at .same-length, asked-sizes (asked (entered at)))))
+    (entered at .pre .0 .valid, (omega (arith, asked-sizes (asked (measured at))), omega (arith, kept at .same-length, asked-sizes (asked (measured at)))))
 
 closes-start-requires-2 : tie.Need-closes-start-requires-2
 closes-start-requires-2 c κs =
     let second = c .before .before .before in
     let at = second-at second in
-    (omega (arith, room at, kept at .same-length, kept-on second .same-length), (room at .1, (room at .2, asked-states (asked (entered at)) (searched-on second) (outside-on second))))
+    (omega (arith, room at, kept at .same-length, kept-on second .same-length), (room at .1, (room at .2, asked-states (asked (measured at)) (searched-on second) (outside-on second))))
 
 same-length-4 : tie.Need-same-length-4
 same-length-4 c = search needs
@@ -158,12 +167,13 @@ returns-4 c =
     let second = c .before .before .before .before in
     let at = second-at second in
     let else = second .before .before .before .before .before in
-    (via-decides (asked (entered at)) (searched at) (distances-left at) (no-start (else .before .before .before)) (no-mark else) (searched-on second) (second .from-marks .result) (second .from-marks .ensures) (c .closes-start2 .result) (c .closes-start2 .ensures), kept-on second)
+    (rw (measured at .number .ensures) at (via-decides (asked (measured at)) (searched at) (distances-left at) (no-start (else .before .before .before)) (no-mark else) (searched-on second) (second .from-marks .result) (second .from-marks .ensures) (c .closes-start2 .result) (c .closes-start2 .ensures)), kept-on second)
 
 pub may-follow-spec : {M : Type 1} → statement M
 may-follow-spec =
     tie.close
     (tie.spec
+    number-requires
     add-left
     sub-left
     add-distances

@@ -13,7 +13,7 @@ use Rattle.listing.proofs.places.advance.Statement.{statement}
 use Rattle.listing.proofs.places.advance.Tie as tie
 
 abbrev Inv-loop : tie.InvT-loop
-Inv-loop file h work₀ length place₀ work place = Retreating file h length work₀ work place
+Inv-loop file h work₀ length place₀ work place = Retreating file h (length .0) work₀ work place
 
 abbrev μ-loop : tie.MeasureT-loop
 μ-loop file h work₀ length place₀ work place = place
@@ -21,8 +21,8 @@ abbrev μ-loop : tie.MeasureT-loop
 -- the place before, and the bound there
 raise : (c : tie.After-get Inv-loop μ-loop)
     → let at = c .before .before .before in
-    let a = at .before .before .before .args in
-    Raising (a .file .now) (a .h) (a .length) (a .work .now) (at .loop .work) (at .loop .place - 1) (c .get .result + 1)
+    let a = at .before .before .before .before .args in
+    Raising (a .file .now) (a .h) (a .length .0) (a .work .now) (at .loop .work) (at .loop .place - 1) (c .get .result + 1)
 raise c =
     let at = c .before .before .before in
     raising _ _ (at .loop .inv) (omega arith) (ap (λ x. x + 1) (c .get .ensures .0))
@@ -31,22 +31,27 @@ raise c =
 found : (c : tie.After-next Inv-loop μ-loop)
     → let get = c .before .before .before .before .before .before in
     let at = get .before .before .before in
-    let g = graphOf (at .before .before .before .args .file .now) in
-    LeastFollower g (at .before .before .before .args .length) (upTo g (at .loop .work) (at .loop .place - 1)) (get .get .result + 1) (c .next .given .0 .0)
+    let g = graphOf (at .before .before .before .before .args .file .now) in
+    LeastFollower g (at .before .before .before .before .args .length .0) (upTo g (at .loop .work) (at .loop .place - 1)) (get .get .result + 1) (c .next .given .0 .0)
 found c = rw (c .next .given .1) at (c .before .before .before .before .least-follower .ensures .0)
 
 -- the completed list, and what it keeps
 completed : (c : tie.After-complete Inv-loop μ-loop)
     → let store = c .before .before .before .before in
     let next = store .before .before .before in
-    let a = next .before .before .before .before .before .before .before .before .before .before .before .before .args in
-    Completed (graphOf (a .file .now)) (a .length) (next .before .before .before .before .before .before .before .before .before .loop .place - 1 + 1)
+    let a = next .before .before .before .before .before .before .before .before .before .before .before .before .before .args in
+    Completed (graphOf (a .file .now)) (a .length .0) (next .before .before .before .before .before .before .before .before .before .loop .place - 1 + 1)
     (set (next .before .before .before .before .least-follower .last .1 .1 .0) (next .before .before .before .before .before .before .before .before .before .loop .place - 1) (next .next .given .0 .0))
     (c .complete .last .1 .1 .0)
 completed c = rw (c .before .before .before .before .put .ensures) at (c .complete .ensures)
 
+number-requires : tie.Need-number-requires Inv-loop μ-loop
+number-requires c κs = search needs
+
 loop-holds : tie.Need-loop-holds Inv-loop μ-loop
-loop-holds c = let p = c .before .before .pre in retreating-none (p .0) (p .1)
+loop-holds c =
+    let p = c .before .before .before .pre in
+    rw (c .number .ensures) (retreating-none (p .0) (p .1))
 
 sub-place : tie.Need-sub-place Inv-loop μ-loop
 sub-place c = omega arith
@@ -120,6 +125,7 @@ advance-spec =
     (tie.spec
     Inv-loop
     μ-loop
+    number-requires
     loop-holds
     sub-place
     get-requires

@@ -11,7 +11,7 @@ complete-requires : tie.Need-complete-requires
 complete-requires c κs =
     let a = c .before .before .before .args in
     let p = c .before .before .before .pre in
-    (p, (omega arith, start-extends (graphOf (a .file .now)) (a .length) (p .least)))
+    (p, (omega arith, start-extends (graphOf (a .file .now)) (a .length .0) (p .least)))
 
 same-length : tie.Need-same-length
 same-length c = search needs

@@ -19,19 +19,19 @@ use Rattle.listing.proofs.places.first_follower.Tie as tie
 
 abbrev Inv-loop : tie.InvT-loop
 Inv-loop file h work₀ length place s part d tried₀ work tried =
-    Tried (graphOf file) (h .states) length (upTo (graphOf file) work₀ place) 0 (graphOf file .succs s) work₀ work tried × (tried < d)
+    Tried (graphOf file) (h .states) (length .0) (upTo (graphOf file) work₀ place) 0 (graphOf file .succs s) work₀ work tried × (tried < d)
 
 abbrev μ-loop : tie.MeasureT-loop
 μ-loop file h work₀ length place s part d tried₀ work tried = d - tried
 
 -- the last state of the list, once it was read
 row : (c : tie.After-list-at Inv-loop μ-loop)
-    → let a = c .before .before .before .before .args in Row (a .file .now) (a .h) (a .work .now) (a .length) (a .place) (c .list-at .result)
+    → let a = c .before .before .before .before .args in Row (a .file .now) (a .h) (a .work .now) (a .length .0) (a .place) (c .list-at .result)
 row c =
     let p = c .before .before .before .before .pre in
     let a = c .before .before .before .before .args in
     let g = graphOf (a .file .now) in
-    read-row (p .0) (p .1 .0) (extends-path g (a .length) (upTo g (a .work .now) (a .place)) (p .1 .1)) (c .list-at .ensures)
+    read-row (p .0) (p .1 .0) (extends-path g (a .length .0) (upTo g (a .work .now) (a .place)) (p .1 .1)) (c .list-at .ensures)
 
 -- the number of the last state's successors
 degree : (c : tie.After-degree Inv-loop μ-loop)
@@ -51,7 +51,7 @@ within c = omega (arith, c .loop .inv .1, degree (c .before))
 -- what the test of the successor answers
 answer : (c : tie.After-may-follow Inv-loop μ-loop)
     → let a = c .before .before .before .before .before .before .before .before .before .before .before .args in
-    Decides (Extends (graphOf (a .file .now)) (a .length) (upTo (graphOf (a .file .now)) (a .work .now) (a .place) ++ c .before .before .successor .result ∷ [])) (c .may-follow .result)
+    Decides (Extends (graphOf (a .file .now)) (a .length .0) (upTo (graphOf (a .file .now)) (a .work .now) (a .place) ++ c .before .before .successor .result ∷ [])) (c .may-follow .result)
 answer c =
     let at = c .before .before .before .before in
     test-answers (c .before .before .successor .result) (c .may-follow .result) (row (at .before .before .before)) (at .loop .inv .0 .same) (c .may-follow .ensures .0)

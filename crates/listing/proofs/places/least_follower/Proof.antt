@@ -17,14 +17,14 @@ use Rattle.listing.proofs.places.least_follower.Statement.{statement}
 use Rattle.listing.proofs.places.least_follower.Tie as tie
 
 abbrev Inv-loop : tie.InvT-loop
-Inv-loop file h work₀ length place bound s part d k₀ work k = Tried (graphOf file) (h .states) length (upTo (graphOf file) work₀ place) bound (graphOf file .succs s) work₀ work k
+Inv-loop file h work₀ length place bound s part d k₀ work k = Tried (graphOf file) (h .states) (length .0) (upTo (graphOf file) work₀ place) bound (graphOf file .succs s) work₀ work k
 
 abbrev μ-loop : tie.MeasureT-loop
 μ-loop file h work₀ length place bound s part d k₀ work k = d - k
 
 -- the last state of the list, once it was read
 row : (c : tie.After-list-at Inv-loop μ-loop)
-    → let a = c .before .before .before .before .args in Row (a .file .now) (a .h) (a .work .now) (a .length) (a .place) (c .list-at .result)
+    → let a = c .before .before .before .before .args in Row (a .file .now) (a .h) (a .work .now) (a .length .0) (a .place) (c .list-at .result)
 row c =
     let p = c .before .before .before .before .pre in
     read-row (p .0) (p .1 .0) (p .1 .1) (c .list-at .ensures)
@@ -47,7 +47,7 @@ within c = omega (arith, c .loop-test .taken, degree (c .before .before))
 -- what the test of the successor answers
 answer : (c : tie.After-may-follow Inv-loop μ-loop)
     → let a = c .before .before .before .before .before .before .before .before .before .before .before .before .args in
-    Decides (Extends (graphOf (a .file .now)) (a .length) (upTo (graphOf (a .file .now)) (a .work .now) (a .place) ++ c .before .before .before .successor .result ∷ [])) (c .may-follow .result)
+    Decides (Extends (graphOf (a .file .now)) (a .length .0) (upTo (graphOf (a .file .now)) (a .work .now) (a .place) ++ c .before .before .before .successor .result ∷ [])) (c .may-follow .result)
 answer c =
     let at = c .before .before .before .before .before in
     test-answers (c .before .before .before .successor .result) (c .may-follow .result) (row (at .before .before .before)) (at .loop .inv .same) (c .may-follow .ensures .0)
@@ -96,7 +96,7 @@ tested : (c : tie.Else2 Inv-loop μ-loop)
     → let test = c .before .before .before in
     let at = test .before .before .before .before .before in
     let a = at .before .before .before .before .before .before .before .args in
-    Tried (graphOf (a .file .now)) (a .h .states) (a .length) (upTo (graphOf (a .file .now)) (a .work .now) (a .place)) (a .bound) (graphOf (a .file .now) .succs (at .before .before .before .list-at .result)) (a .work .now) (test .may-follow .last .1 .1 .0) (at .loop .k + 1)
+    Tried (graphOf (a .file .now)) (a .h .states) (a .length .0) (upTo (graphOf (a .file .now)) (a .work .now) (a .place)) (a .bound) (graphOf (a .file .now) .succs (at .before .before .before .list-at .result)) (a .work .now) (test .may-follow .last .1 .1 .0) (at .loop .k + 1)
 tested c =
     let test = c .before .before .before in
     let at = test .before .before .before .before .before in

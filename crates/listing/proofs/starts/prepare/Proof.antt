@@ -16,7 +16,7 @@ use Rattle.listing.proofs.starts.prepare.Statement.{statement}
 use Rattle.listing.proofs.starts.prepare.Tie as tie
 
 abbrev Inv-loop : tie.InvT-loop
-Inv-loop file h work₀ length n s₀ work s = (s ≤ n) × Filling (graphOf file) length s n work₀ work
+Inv-loop file h work₀ length n s₀ work s = (s ≤ n) × Filling (graphOf file) (length .0) s n work₀ work
 
 abbrev μ-loop : tie.MeasureT-loop
 μ-loop file h work₀ length n s₀ work s = n - s
@@ -36,16 +36,16 @@ ready : (c : tie.At-loop Inv-loop μ-loop) → Ready (start c .args .file .now) 
 ready c = ready-same (6 * start c .args .h .states) (changed c) (start c .pre .0)
 
 -- the length is at most the number of states
-length-le : (c : tie.At-loop Inv-loop μ-loop) → start c .args .length ≤ start c .args .h .states
+length-le : (c : tie.At-loop Inv-loop μ-loop) → start c .args .length .0 ≤ start c .args .h .states
 length-le c =
     let s = start c in
-    omega (arith, leastLength-range (graphOf (s .args .file .now)) (s .args .length) (s .pre .1), valid-sizes (s .pre .0 .valid) .states-are)
+    omega (arith, leastLength-range (graphOf (s .args .file .now)) (s .args .length .0) (s .pre .1), valid-sizes (s .pre .0 .valid) .states-are)
 
 -- one more state is passed
 state-passed : (c : tie.Joined1 Inv-loop μ-loop) →
     let l = c .before .before .before .before in
     let s = start l .args in
-    Filling (graphOf (s .file .now)) (s .length) (l .loop .s + 1) (s .h .states) (l .before .before .before .flag-starts .last .1 .1 .0) (c .if1 .work)
+    Filling (graphOf (s .file .now)) (s .length .0) (l .loop .s + 1) (s .h .states) (l .before .before .before .flag-starts .last .1 .1 .0) (c .if1 .work)
 state-passed c =
     let l = c .before .before .before .before in
     elim (c .if1 .came) [

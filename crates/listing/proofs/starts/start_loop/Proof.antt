@@ -35,23 +35,23 @@ distance-entry c =
 
 -- the loop length is asked for within the rest of the length
 loop-within : (c : tie.Else2) →
-    let at = c .before .before in
-    startLoop (graph at) (start at .args .length) (start at .args .s) ≡ under (suc (start at .args .length + 1 - at .get .result)) (loopLength (graph at) (start at .args .s))
+    let at = c .before .before .before in
+    startLoop (graph at) (start at .args .length .0) (start at .args .s) ≡ under (suc (c .before .number .result + 1 - at .get .result)) (loopLength (graph at) (start at .args .s))
 loop-within c =
-    let at = c .before .before in
+    let at = c .before .before .before in
     let reached : 1 ≤ at .get .result = omega (arith, eqb-false) in
-    startLoop-reached (graph at) (start at .args .length) (start at .args .s) (at .get .result) (distance-entry at) reached
+    rw (c .before .number .ensures) (startLoop-reached (graph at) (start at .args .length .0) (start at .args .s) (at .get .result) (distance-entry at) reached)
 
 -- a length was found: it is the loop length, and it is at most 4,096
 loop-found : (c : tie.After-known-told) →
-    let at = c .before .before .before .before .before .before .before .before .before in
-    (startLoop (graph at) (start at .args .length) (start at .args .s) ≡ some (c .before .answer .given .0 .0)) × (c .before .answer .given .0 .0 ≤ 4096)
+    let at = c .before .before .before .before .before .before .before .before .before .before in
+    (startLoop (graph at) (start at .args .length .0) (start at .args .s) ≡ some (c .before .answer .given .0 .0)) × (c .before .answer .given .0 .0 ≤ 4096)
 loop-found c =
     let e = c .before .before .before .before .before in
-    let s = start (e .before .before .before .before) in
+    let s = start (e .before .before .before .before .before) in
     let within = loop-within (e .before .before) ∙ (rw (c .before .answer .given .1) at (e .loop-length .ensures .0)) in
     let valid = s .pre .0 .valid in
-    let bound = startLoop-iff (valid-well-formed valid) (s .args .length) (s .args .s) (c .before .answer .given .0 .0) .0 within in
+    let bound = startLoop-iff (valid-well-formed valid) (s .args .length .0) (s .args .s) (c .before .answer .given .0 .0) .0 within in
     (within, omega (arith, bound .3, valid-sizes valid .states-range))
 
 get-requires : tie.Need-get-requires
@@ -61,13 +61,18 @@ same-length : tie.Need-same-length
 same-length c = search needs
 
 returns : tie.Need-returns
-returns c = ((startLoop-unreached (graph (c .before)) (start (c .before) .args .length) (start (c .before) .args .s) (omega (arith, eqb-true, distance-entry (c .before))), omega arith), sameOutside-refl _ _ _)
+returns c = ((startLoop-unreached (graph (c .before)) (start (c .before) .args .length .0) (start (c .before) .args .s) (omega (arith, eqb-true, distance-entry (c .before))), omega arith), sameOutside-refl _ _ _)
+
+number-requires : tie.Need-number-requires
+number-requires c κs = search needs
 
 same-length-2 : tie.Need-same-length-2
 same-length-2 c = search needs
 
 returns-2 : tie.Need-returns-2
-returns-2 c = ((startLoop-far (valid-well-formed (start (c .before .before) .pre .0 .valid)) _ _ (distance-entry (c .before .before)) (omega (arith, ltb-true)), omega arith), sameOutside-refl _ _ _)
+returns-2 c =
+    let at = c .before .before .before in
+    ((startLoop-far (valid-well-formed (start at .pre .0 .valid)) _ _ (distance-entry at) (omega (arith, ltb-true, c .before .number .ensures)), omega arith), sameOutside-refl _ _ _)
 
 add-loop-length : tie.Need-add-loop-length
 add-loop-length c = search needs
@@ -77,7 +82,8 @@ sub-loop-length c = search needs
 
 loop-length-requires : tie.Need-loop-length-requires
 loop-length-requires c κs =
-    let s = start (c .before .before .before) in
+    let s = start (c .before .before .before .before) in
+    let number = c .before .before .number .ensures in
     (s .pre .0 .valid, (omega arith, (omega arith, (omega arith, s .pre .0 .room))))
 
 enum-known-answer : tie.Need-enum-known-answer
@@ -113,6 +119,7 @@ start-loop-spec =
     get-requires
     same-length
     returns
+    number-requires
     same-length-2
     returns-2
     add-loop-length

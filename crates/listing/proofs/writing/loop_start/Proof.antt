@@ -11,11 +11,14 @@ use Rattle.listing.proofs.writing.loop_start.Statement.{statement}
 use Rattle.listing.proofs.writing.loop_start.Tie as tie
 
 abbrev Inv-loop : tie.InvT-loop
-Inv-loop h work transitions last k₀ k =
-    (k ≤ transitions) × ((i : ℕ) → i < k → getD (h .start ∷ work) i 0 ≡ last → ⊥)
+Inv-loop h work end last k₀ k =
+    (k ≤ end) × ((i : ℕ) → i < k → getD (h .start ∷ work) i 0 ≡ last → ⊥)
 
 abbrev μ-loop : tie.MeasureT-loop
-μ-loop h work transitions last k₀ k = transitions - k
+μ-loop h work end last k₀ k = end - k
+
+number-requires : tie.Need-number-requires Inv-loop μ-loop
+number-requires c κs = search needs
 
 list-at-requires : tie.Need-list-at-requires Inv-loop μ-loop
 list-at-requires c κs = search needs
@@ -24,13 +27,13 @@ loop-holds : tie.Need-loop-holds Inv-loop μ-loop
 loop-holds c = (omega arith, λ i less. absurd (omega arith))
 
 list-at-requires-2 : tie.Need-list-at-requires-2 Inv-loop μ-loop
-list-at-requires-2 c κs = omega arith
+list-at-requires-2 c κs = omega (arith, c .before .before .number .ensures)
 
 -- a place that does not hold the last state is before the last
-before-end : (c : tie.Then1 Inv-loop μ-loop) → c .before .before .loop .k < c .before .before .before .before .before .args .transitions
+before-end : (c : tie.Then1 Inv-loop μ-loop) → c .before .before .loop .k < c .before .before .before .before .number .result
 before-end c =
-    let a = c .before .before .before .before .before .args in
-    before-last (a .h .start ∷ a .work .now) (c .before .before .loop .k) (a .transitions) _ _ (c .before .before .loop .inv .0)
+    let a = c .before .before .before .before .before .before .args in
+    before-last (a .h .start ∷ a .work .now) (c .before .before .loop .k) (c .before .before .before .before .number .result) _ _ (c .before .before .loop .inv .0)
     (c .before .list-at2 .ensures) (c .before .before .before .list-at .ensures) (c .if1 .taken)
 
 add-k : tie.Need-add-k Inv-loop μ-loop
@@ -47,13 +50,14 @@ loop-again c = (
 
 returns : tie.Need-returns Inv-loop μ-loop
 returns c =
-    let a = c .before .before .before .before .before .args in
+    let s = c .before .before .before .before .before .before in
+    let end = c .before .before .before .before .number in
     let last = c .before .before .before .list-at .ensures in
     let (within, before) = c .before .before .loop .inv in (
-      loopStart-is (a .h .start) (a .work .now) (a .transitions) _ (c .before .before .before .before .before .pre) within
+      rw (end .ensures) at (loopStart-is (s .args .h .start) (s .args .work .now) (end .result) _ (omega (arith, s .pre, end .ensures)) within
           (sym (c .before .list-at2 .ensures) ∙ c .if1 .left ∙ last)
-          (λ i less e. before i less (e ∙ sym last)),
-      within,
+          (λ i less e. before i less (e ∙ sym last))),
+      omega (arith, within, end .ensures),
     )
 
 pub loop-start-spec : {M : Type 1} → statement M
@@ -62,6 +66,7 @@ loop-start-spec =
     (tie.spec
     Inv-loop
     μ-loop
+    number-requires
     list-at-requires
     loop-holds
     list-at-requires-2

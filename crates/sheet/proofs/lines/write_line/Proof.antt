@@ -17,7 +17,7 @@ abbrev stem-of : tie.Start → List ℕ
 stem-of s = take (s .args .k) (s .args .list .now)
 
 abbrev loop-of : tie.Start → List ℕ
-loop-of s = take (s .args .l - s .args .k) (drop (s .args .k) (s .args .list .now))
+loop-of s = take (s .args .length .0 - s .args .k) (drop (s .args .k) (s .args .list .now))
 
 -- what all four writers need
 room : (s : tie.Start) → s .args .at + (length (spaceAfter (stem-of s)) + 1 + length (spaceBefore (loop-of s)) + 1) ≤ length (s .args .text .now)
@@ -44,6 +44,9 @@ write-byte-requires c κs =
     let w = after .write-stem .ensures in
     omega (arith, room (start after), w .place, wrote-length w)
 
+number-requires : tie.Need-number-requires
+number-requires c κs = search needs
+
 mul-write-loop : tie.Need-mul-write-loop
 mul-write-loop c = search needs
 
@@ -58,18 +61,20 @@ part-write-loop-end c = search needs
 
 write-loop-requires : tie.Need-write-loop-requires
 write-loop-requires c κs =
-    let after = c .before .before .before .before in
+    let measured = c .before .before in
+    let after = measured .before .before .before in
     let w = stem after .write-stem .ensures in
     let v = after .write-byte .ensures in
-    omega (arith, room (start (stem after)), w .place, v .place, wrote-length w, wrote-length v)
+    rw (measured .number .ensures) (omega (arith, room (start (stem after)), w .place, v .place, wrote-length w, wrote-length v))
 
 write-byte-requires-2 : tie.Need-write-byte-requires-2
 write-byte-requires-2 c κs =
     let after = c .before .before .before in
-    let barred = after .before .before .before .before .before in
+    let measured = after .before .before .before in
+    let barred = measured .before .before .before in
     let w = stem barred .write-stem .ensures in
     let v = barred .write-byte .ensures in
-    let u = after .write-loop .ensures in
+    let u = rw (measured .number .ensures) at (after .write-loop .ensures) in
     omega (arith, room (start (stem barred)), w .place, v .place, u .place, wrote-length w, wrote-length v, wrote-length u)
 
 same-length : tie.Need-same-length
@@ -79,10 +84,11 @@ returns : tie.Need-returns
 returns c =
     let end = c .before .before in
     let after = end .before .before .before .before in
-    let barred = after .before .before .before .before .before in
+    let measured = after .before .before .before in
+    let barred = measured .before .before .before in
     let s = start (stem barred) in
     wrote-as (stemLoop-parts (stem-of s) (loop-of s))
-    (wrote-then (wrote-then (wrote-then (stem barred .write-stem .ensures) (barred .write-byte .ensures)) (after .write-loop .ensures)) (end .write-byte2 .ensures))
+    (wrote-then (wrote-then (wrote-then (stem barred .write-stem .ensures) (barred .write-byte .ensures)) (rw (measured .number .ensures) at (after .write-loop .ensures))) (end .write-byte2 .ensures))
 
 pub write-line-spec : {M : Type 1} → statement M
 write-line-spec =
@@ -91,6 +97,7 @@ write-line-spec =
     slice-aggregate-write-stem
     write-stem-requires
     write-byte-requires
+    number-requires
     mul-write-loop
     sub-write-loop
     part-write-loop-start

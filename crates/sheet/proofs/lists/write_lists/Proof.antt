@@ -15,11 +15,11 @@ use Rattle.sheet.proofs.lists.write_lists.Statement.{statement}
 use Rattle.sheet.proofs.lists.write_lists.Tie as tie
 
 abbrev Inv-loop : tie.InvT-loop
-Inv-loop file h l answer₀ work₀ text₀ at next₀ count₀ answer work text next count =
-    Printing file h l answer₀ work₀ text₀ at answer work text next count
+Inv-loop file h length answer₀ work₀ text₀ at next₀ count₀ answer work text next count =
+    Printing file h (length .0) answer₀ work₀ text₀ at answer work text next count
 
 abbrev μ-loop : tie.MeasureT-loop
-μ-loop file h l answer₀ work₀ text₀ at next₀ count₀ answer work text next count = mostLists - count
+μ-loop file h length answer₀ work₀ text₀ at next₀ count₀ answer work text next count = mostLists - count
 
 -- the function's start, and the places on the way to the following list
 abbrev start : tie.After-first Inv-loop μ-loop → tie.Start Inv-loop μ-loop
