@@ -1,12 +1,9 @@
 -- The laws of the public operations: the reasons to refuse, the answers, the tables, and conditions 1 and 2.
 pub mod FirstLaws
-pub mod ReadyLaws
 pub mod StepLaws
 pub mod SearchLaws
 pub mod PathTests
 pub mod LoopTests
-pub mod LoadLaws
-pub mod TableLaws
 pub mod NextLaws
 pub mod OutcomeLaws
 pub mod Condition1

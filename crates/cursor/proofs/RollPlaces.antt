@@ -1,7 +1,6 @@
--- The lists of the roll by their places: the one in region 0, the one after it, and the room that their lines take.
+-- The lists of the roll by their places: the one in region 0 and the one after it.
 use Prim.Native.Nat.{ℕ, zero, suc, _+_, _≤_, _<_}
 use mathlib.Core.Path.{_≡_, sym, _∙_, ap, subst}
-use mathlib.Core.Bool.{Bool, true, false, not}
 use mathlib.Core.List.{List, [], _∷_, head?, List·Memᴰ}
 use mathlib.Core.Option.{some, none}
 use native.Mathlib.Numerals.{add-one}
@@ -12,12 +11,8 @@ use Rattle.lasso.specs.Roll.{roll}
 use Rattle.lasso.specs.Following.{following}
 use Rattle.lasso.proofs.OrderLaws.{getD-mem, head-at, following-at}
 use Rattle.lasso.proofs.RollLaws.{roll-strict}
-use Rattle.listing.specs.Promises.{upTo, Advanced}
-
--- the list in region 0 is the one at a place of the roll
-pub record Stands (g : Graph) (l : ℕ) (w : List ℕ) (place : ℕ) : Type 0 where
-  pub place-in : place < length (roll g)
-  pub list-at : getD (roll g) place [] ≡ upTo g w l
+use Rattle.listing.specs.Promises.{upTo}
+use Rattle.cursor.specs.Cursor.{Stands}
 
 -- an entry that is there
 some-at : (rs : List (List ℕ)) (i : ℕ) (xs : List ℕ) → getElem? rs i ≡ some xs → (i < length rs) × (getD rs i [] ≡ xs)
@@ -58,14 +53,3 @@ stands-next {g} {l} {place} w' s e =
 pub stands-last : {g : Graph} {l place : ℕ} {w : List ℕ} → Stands g l w place → following (upTo g w l) (roll g) ≡ none
     → length (roll g) ≡ place + 1
 stands-last {g} {l} {place} s e = omega (arith, s .place-in, none-at (roll g) (suc place) (sym (follows-at s) ∙ e))
-
--- the list was not replaced: none follows
-pub advanced-none : (g : Graph) (l : ℕ) (w w' : List ℕ) (b : Bool) → Advanced g l w w' b → not b ≡ true → following (upTo g w l) (roll g) ≡ none
-advanced-none g l w w' true a e = let z : _≡_ {A = ℕ} 0 1 = cc in absurd (omega arith)
-advanced-none g l w w' false a e = a .0
-
--- the list was replaced by the one that follows
-pub advanced-some : (g : Graph) (l : ℕ) (w w' : List ℕ) (b : Bool) → Advanced g l w w' b → not b ≡ false
-    → following (upTo g w l) (roll g) ≡ some (upTo g w' l)
-advanced-some g l w w' true a e = a
-advanced-some g l w w' false a e = let z : _≡_ {A = ℕ} 0 1 = cc in absurd (omega arith)

@@ -1,11 +1,11 @@
--- `following::load` meets its contract. The loop's invariant: the entries from place 1 up to j are in front.
+-- `load` meets its contract. The loop's invariant: the entries from place 1 up to j are in front.
 use Prim.Native.Nat.{_-_, _≤_}
 use mathlib.Core.Path.{_≡_, refl, _∙_, ap}
 use native.Mathlib.Omega.{arith}
 use lib.ListN.{length}
-use Rattle.finder.proofs.LoadLaws.{loadedTo, load-more, load-length, load-done}
-use Rattle.finder.proofs.following.load.Statement.{statement}
-use Rattle.finder.proofs.following.load.Tie as tie
+use Rattle.cursor.proofs.LoadLaws.{loadedTo, load-more, load-length, load-done}
+use Rattle.cursor.proofs.load.Statement.{statement}
+use Rattle.cursor.proofs.load.Tie as tie
 
 abbrev Inv-loop : tie.InvT-loop
 Inv-loop list work₀ j₀ work j = (1 ≤ j) × (j ≤ length list) × (work ≡ loadedTo j list work₀)

@@ -18,7 +18,7 @@ use Rattle.model.specs.Model.{graphOf}
 use Rattle.model.proofs.Laws.{valid-sizes}
 use Rattle.rounds.specs.Promises.{Ready}
 use Rattle.listing.specs.Promises.{StartLoops, Prepared, upTo, Advanced}
-use Rattle.finder.proofs.LoadLaws.{loaded, loaded-list, loaded-after, loaded-length}
+use Rattle.cursor.proofs.LoadLaws.{loaded, loaded-list, loaded-after, loaded-length}
 
 module _ (g : Graph) (l : ℕ) (least : leastLength g ≡ some l) (xs : List ℕ) (m : List·Memᴰ xs (roll g)) where
   -- a list of the roll begins with the start

@@ -1,0 +1,65 @@
+-- What the rounds, the first list, a given list and a step of the listing say in terms of places of the roll.
+use Prim.Native.Nat.{ℕ, suc, _≤_, _<_, min}
+use mathlib.Core.Path.{_≡_, sym, _∙_, ap}
+use mathlib.Core.Bool.{Bool, true, false}
+use mathlib.Core.List.{List, [], _∷_, head?, List·Memᴰ, List·Memᴰ·head, List·Memᴰ·tail, List·Memᴰ·not-nil}
+use mathlib.Core.Option.{some}
+use native.Mathlib.Omega.{arith}
+use lib.ListN.{length, getD}
+use Rattle.lasso.specs.Graph.{Graph, WellFormed}
+use Rattle.lasso.specs.Roll.{leastLength, roll}
+use Rattle.lasso.specs.Rounds.{Record, candidates, afterRounds}
+use Rattle.lasso.proofs.RoundLaws.{afterRounds-done, afterRounds-leastLength}
+use Rattle.model.specs.declared.Header.{Header}
+use Rattle.model.specs.Model.{graphOf}
+use Rattle.rounds.specs.Promises.{Ready}
+use Rattle.listing.specs.Promises.{StartLoops, Prepared, Kept, Advanced, upTo}
+use Rattle.listing.proofs.PlacesTable.{prepared-kept}
+use Rattle.cursor.specs.Cursor.{At, PlacedAt, MovedOn}
+use Rattle.cursor.proofs.RollPlaces.{stands-first, stands-next, stands-last}
+
+-- an allowance that suffices does all rounds: their number, and the least length of an accepting path
+pub all-rounds : {g : Graph} → WellFormed g → (rec : Record) (allowance : ℕ)
+    → rec ≡ afterRounds g (min allowance (length (candidates g))) → length (candidates g) ≤ allowance
+    → (rec .done ≡ length (candidates g)) × (rec .best ≡ leastLength g)
+all-rounds {g} wf rec allowance e enough =
+    let n : ℕ = length (candidates g) in
+    let all : min allowance n ≡ n = omega arith in
+    let q : rec ≡ afterRounds g n = e ∙ ap (λ (m : ℕ). afterRounds g m) all in (
+      ap (λ (r : Record). r .done) q ∙ afterRounds-done g n,
+      ap (λ (r : Record). r .best) q ∙ afterRounds-leastLength wf,
+    )
+
+-- the loop lengths are there: the table is prepared
+pub prepared-start : {f : List ℕ} {h : Header} {l : ℕ} {w w' : List ℕ} → Ready f h w → leastLength (graphOf f) ≡ some l
+    → StartLoops (graphOf f) l w' → length w' ≡ length w → Prepared f h w' l
+prepared-start r e loops same =
+    record { valid = r .valid; room = omega (arith, r .room); least = e; start-loops = loops }
+
+-- the table is at the first list
+pub at-first : {f : List ℕ} {h : Header} {l : ℕ} {w : List ℕ} → Prepared f h w l
+    → head? (roll (graphOf f)) ≡ some (upTo (graphOf f) w l) → At f h l 0 w
+at-first p e = record { prepared = p; current = stands-first e }
+
+-- an entry of a list is at some place
+mem-at : (xs : List ℕ) (rs : List (List ℕ)) → List·Memᴰ xs rs → (i : ℕ) × (i < length rs) × (getD rs i [] ≡ xs)
+mem-at xs [] m = absurd (List·Memᴰ·not-nil m)
+mem-at xs (r ∷ rs) (List·Memᴰ·head e) = (0, omega arith, sym e)
+mem-at xs (r ∷ rs) (List·Memᴰ·tail m) = let (i, low, at) = mem-at xs rs m in (suc i, omega arith, at)
+
+-- the table is at the place of a list of the roll
+pub placed-at : {f : List ℕ} {h : Header} {l : ℕ} {w : List ℕ} (xs : List ℕ) → Prepared f h w l → upTo (graphOf f) w l ≡ xs
+    → List·Memᴰ xs (roll (graphOf f)) → PlacedAt f h l xs w
+placed-at {f} xs p e m =
+    let (i, low, at) = mem-at xs (roll (graphOf f)) m in
+    record {
+      placed = record { place = i; at = record { prepared = p; current = record { place-in = low; list-at = at ∙ sym e } } };
+      list-is = e;
+    }
+
+-- a step of the listing is one to the next place, or there is none
+pub moved-on : {f : List ℕ} {h : Header} {l : ℕ} {w w' : List ℕ} (r : Bool) → Advanced (graphOf f) l w w' r
+    → Kept (h .states) w w' → MovedOn f h l w w' r
+moved-on {w' = w'} true a kept place at =
+    record { prepared = prepared-kept (at .prepared) kept; current = stands-next w' (at .current) a }
+moved-on false a kept place at = stands-last (at .current) (a .0)

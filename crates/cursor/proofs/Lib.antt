@@ -1,0 +1,6 @@
+-- The laws of the way through the roll.
+pub mod ReadyLaws
+pub mod LoadLaws
+pub mod RollPlaces
+pub mod TableLaws
+pub mod CursorLaws

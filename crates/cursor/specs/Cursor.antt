@@ -1,0 +1,63 @@
+-- A place in the roll, held in the working table.
+use Prim.Native.Nat.{ℕ, _+_, _≤_, _<_}
+use mathlib.Core.Path.{_≡_}
+use mathlib.Core.Bool.{Bool, true, false}
+use mathlib.Core.List.{List, []}
+use mathlib.Core.Option.{Option, some, none}
+use lib.ListN.{length, getD}
+use Rattle.lasso.specs.Graph.{Graph}
+use Rattle.lasso.specs.Roll.{leastLength, roll}
+use Rattle.lasso.specs.Rounds.{candidates, afterRounds}
+use Rattle.lasso.specs.Values.{recordOf}
+use Rattle.lasso.specs.declared.RoundRecord.{RoundRecord}
+use Rattle.model.specs.declared.Header.{Header}
+use Rattle.model.specs.Model.{graphOf}
+use Rattle.listing.specs.Promises.{Prepared, upTo}
+use Rattle.cursor.specs.declared.Begun.{Begun}
+use Rattle.cursor.specs.declared.Begun.the-variants as Begins
+
+-- the rounds were stopped: the allowance is less than the number of candidates, and the record is the one after so many
+pub record StoppedAfter (g : Graph) (allowance : ℕ) (r : RoundRecord) : Type 0 where
+  pub short : allowance < length (candidates g)
+  pub record-is : recordOf r ≡ afterRounds g allowance
+
+-- all rounds are done: their number, and the least length of an accepting path that they found, if there is one
+pub record AllDone (g : Graph) (allowance rounds : ℕ) (least : Option ℕ) : Type 0 where
+  pub enough : length (candidates g) ≤ allowance
+  pub rounds-are : rounds ≡ length (candidates g)
+  pub least-is : leastLength g ≡ least
+
+-- what each answer of the rounds says
+abbrev pub BegunSays : Graph → ℕ → Begun → Type 0
+BegunSays g allowance (Begins.Stopped r) = StoppedAfter g allowance r
+BegunSays g allowance (Begins.Empty rounds) = AllDone g allowance rounds none
+BegunSays g allowance (Begins.Listed l rounds) = AllDone g allowance rounds (some (l .0))
+
+-- the list in region 0 is the one at a place of the roll
+pub record Stands (g : Graph) (l : ℕ) (w : List ℕ) (place : ℕ) : Type 0 where
+  pub place-in : place < length (roll g)
+  pub list-at : getD (roll g) place [] ≡ upTo g w l
+
+-- the working table is at a place of the roll: the list there stands in region 0, and what is needed to go on is prepared
+pub record At (f : List ℕ) (h : Header) (l place : ℕ) (w : List ℕ) : Type 0 where
+  pub prepared : Prepared f h w l
+  pub current : Stands (graphOf f) l w place
+
+-- it is at some place of the roll
+pub record Placed (f : List ℕ) (h : Header) (l : ℕ) (w : List ℕ) : Type 0 where
+  pub place : ℕ
+  pub at : At f h l place w
+
+-- it is at the place of a given list
+pub record PlacedAt (f : List ℕ) (h : Header) (l : ℕ) (xs w : List ℕ) : Type 0 where
+  pub placed : Placed f h l w
+  pub list-is : upTo (graphOf f) w l ≡ xs
+
+-- after a place: true if the table is at the next one, false if there is none
+abbrev pub MovedTo : List ℕ → Header → ℕ → ℕ → List ℕ → Bool → Type 0
+MovedTo f h l place w true = At f h l (place + 1) w
+MovedTo f h l place w false = length (roll (graphOf f)) ≡ place + 1
+
+-- the step from wherever the table is
+abbrev pub MovedOn : List ℕ → Header → ℕ → List ℕ → List ℕ → Bool → Type 0
+MovedOn f h l w w' r = (place : ℕ) → At f h l place w → MovedTo f h l place w' r

@@ -1,0 +1,103 @@
+// The way through the roll on one working table: all rounds, then the first list or a given one, then list after list.
+// Search, next and the sheet all go this way.
+ghost use mathlib.Core.Path.{_≡_};
+ghost use mathlib.Core.List.{List·Memᴰ, _++_};
+ghost use mathlib.Core.Option.{some};
+ghost use Prim.Native.Nat.{_*_, _≤_};
+ghost use lib.ListN.{drop};
+ghost use lib.ListN;
+ghost use Rattle.lasso.specs.Graph.{edges};
+ghost use Rattle.lasso.specs.Roll.{leastLength, roll};
+ghost use Rattle.model.specs.Values.{Valid};
+ghost use Rattle.model.specs.Model.{graphOf};
+ghost use Rattle.rounds.specs.Promises.{Ready};
+ghost use Rattle.cursor.specs.Cursor.{BegunSays, At, Placed, PlacedAt, MovedOn};
+use lasso::Best;
+use lasso::RoundRecord;
+use lasso::Transitions;
+use listing::first;
+use listing::prepare;
+pub use listing::write_list;
+use model::Header;
+use rounds::count_candidates;
+use rounds::run_rounds;
+use rounds::start_distances;
+use table::get;
+use table::put;
+
+// What the rounds come to: stopped with the record, or all done, with the length of the shortest accepting paths, if there
+// is one, and the number of rounds.
+pub enum Begun {
+    Stopped(RoundRecord),
+    Empty(u16),
+    Listed(Transitions, u16),
+}
+
+// Does the rounds that the allowance admits.
+pub fn begin(file: &[u8], h: Header, allowance: u16, work: &mut [u16]) -> Begun
+    requires { ⌜ Valid (now file) h ⌝ }
+    requires { ⌜ 6 * h .states ≤ lib.ListN.length (now work) ⌝ }
+    ensures says { λ r. ⌜ BegunSays (graphOf (now (file .entry))) allowance r ⌝ }
+    ensures ready { λ _. ⌜ Ready (now (file .entry)) h (now (work .exit)) ⌝ }
+    ensures kept { λ _. ⌜ lib.ListN.length (now (work .exit)) ≡ lib.ListN.length (now (work .entry)) ⌝ }
+{
+    start_distances(file, h, work);
+    let count = count_candidates(file, h, work);
+    let allowed = allowance as usize;
+    let record = run_rounds(file, h, work, allowed);
+    if allowed < count {
+        return Begun::Stopped(record);
+    }
+    let rounds = record.done;
+    let best = record.best;
+    match best {
+        Best::None => Begun::Empty(rounds),
+        Best::Length(length) => Begun::Listed(length, rounds),
+    }
+}
+
+// Goes to the first list of the roll.
+pub fn open(file: &[u8], h: Header, length: Transitions, work: &mut [u16])
+    requires { ⌜ Ready (now file) h (now work) ⌝ }
+    requires { ⌜ leastLength (graphOf (now file)) ≡ some (length .0) ⌝ }
+    ensures at { λ _. ⌜ At (now (file .entry)) h (length .0) 0 (now (work .exit)) ⌝ }
+    ensures kept { λ _. ⌜ lib.ListN.length (now (work .exit)) ≡ lib.ListN.length (now (work .entry)) ⌝ }
+{
+    prepare(file, h, work, length);
+    first(file, h, work, length);
+}
+
+// Puts the list's entries from place 1 on into region 0.
+fn load(list: &[u16], work: &mut [u16])
+    requires { ⌜ 1 ≤ lib.ListN.length (now list) ⌝ }
+    requires { ⌜ edges (now list) ≤ lib.ListN.length (now work) ⌝ }
+    ensures { λ _. ⌜ now (work .exit) ≡ drop 1 (now (list .entry)) ++ drop (edges (now (list .entry))) (now (work .entry)) ⌝ }
+{
+    let mut j = 1;
+    while j < list.len() {
+        let s = get(list, j);
+        put(work, j - 1, s);
+        j += 1;
+    }
+}
+
+// Goes to a given list of the roll.
+pub fn resume(file: &[u8], h: Header, length: Transitions, list: &[u16], work: &mut [u16])
+    requires { ⌜ Ready (now file) h (now work) ⌝ }
+    requires { ⌜ leastLength (graphOf (now file)) ≡ some (length .0) ⌝ }
+    requires { ⌜ List·Memᴰ (now list) (roll (graphOf (now file))) ⌝ }
+    ensures at { λ _. ⌜ PlacedAt (now (file .entry)) h (length .0) (now (list .entry)) (now (work .exit)) ⌝ }
+    ensures kept { λ _. ⌜ lib.ListN.length (now (work .exit)) ≡ lib.ListN.length (now (work .entry)) ⌝ }
+{
+    prepare(file, h, work, length);
+    load(list, work);
+}
+
+// Goes to the next list of the roll, and answers true; or answers false if there is none.
+pub fn advance(file: &[u8], h: Header, length: Transitions, work: &mut [u16]) -> bool
+    requires { ⌜ Placed (now file) h (length .0) (now work) ⌝ }
+    ensures moved { λ r. ⌜ MovedOn (now (file .entry)) h (length .0) (now (work .entry)) (now (work .exit)) r ⌝ }
+    ensures kept { λ _. ⌜ lib.ListN.length (now (work .exit)) ≡ lib.ListN.length (now (work .entry)) ⌝ }
+{
+    listing::advance(file, h, work, length)
+}
