@@ -1,13 +1,14 @@
 -- What the rounds, the first list, a given list and a step of the listing say in terms of places of the roll.
 use Prim.Native.Nat.{ℕ, suc, _≤_, _<_, min}
-use mathlib.Core.Path.{_≡_, sym, _∙_, ap}
+use mathlib.Core.Path.{_≡_, sym, _∙_, ap, subst}
 use mathlib.Core.Bool.{Bool, true, false}
 use mathlib.Core.List.{List, [], _∷_, head?, List·Memᴰ, List·Memᴰ·head, List·Memᴰ·tail, List·Memᴰ·not-nil}
-use mathlib.Core.Option.{some}
+use mathlib.Core.Option.{some, none}
 use native.Mathlib.Omega.{arith}
 use lib.ListN.{length, getD}
 use Rattle.lasso.specs.Graph.{Graph, WellFormed}
 use Rattle.lasso.specs.Roll.{leastLength, roll}
+use Rattle.lasso.specs.Following.{following}
 use Rattle.lasso.specs.Rounds.{Record, candidates, afterRounds}
 use Rattle.lasso.proofs.RoundLaws.{afterRounds-done, afterRounds-leastLength}
 use Rattle.model.specs.declared.Header.{Header}
@@ -16,7 +17,7 @@ use Rattle.rounds.specs.Promises.{Ready}
 use Rattle.listing.specs.Promises.{StartLoops, Prepared, Kept, Advanced, upTo}
 use Rattle.listing.proofs.PlacesTable.{prepared-kept}
 use Rattle.cursor.specs.Cursor.{At, PlacedAt, MovedOn}
-use Rattle.cursor.proofs.RollPlaces.{stands-first, stands-next, stands-last}
+use Rattle.cursor.proofs.RollPlaces.{stands-first, stands-next, stands-last, follows-next, follows-none}
 
 -- an allowance that suffices does all rounds: their number, and the least length of an accepting path
 pub all-rounds : {g : Graph} → WellFormed g → (rec : Record) (allowance : ℕ)
@@ -63,3 +64,21 @@ pub moved-on : {f : List ℕ} {h : Header} {l : ℕ} {w w' : List ℕ} (r : Bool
 moved-on {w' = w'} true a kept place at =
     record { prepared = prepared-kept (at .prepared) kept; current = stands-next w' (at .current) a }
 moved-on false a kept place at = stands-last (at .current) (a .0)
+
+-- from the place of a list to the next: the list there follows
+pub moved-some : {f : List ℕ} {h : Header} {l : ℕ} {xs w : List ℕ} (w' : List ℕ) (r : Bool) → PlacedAt f h l xs w
+    → MovedOn f h l w w' r → r ≡ true → following xs (roll (graphOf f)) ≡ some (upTo (graphOf f) w' l)
+moved-some {f} {l = l} w' true p m e =
+    let at = p .placed .at in
+    subst (λ (zs : List ℕ). following zs (roll (graphOf f)) ≡ some (upTo (graphOf f) w' l)) (p .list-is)
+    (follows-next w' (at .current) (m (p .placed .place) at .current))
+moved-some w' false p m e = let z : _≡_ {A = ℕ} 0 1 = cc in absurd (omega arith)
+
+-- no place is left: nothing follows
+pub moved-none : {f : List ℕ} {h : Header} {l : ℕ} {xs w : List ℕ} (w' : List ℕ) (r : Bool) → PlacedAt f h l xs w
+    → MovedOn f h l w w' r → r ≡ false → following xs (roll (graphOf f)) ≡ none
+moved-none w' true p m e = let z : _≡_ {A = ℕ} 0 1 = cc in absurd (omega arith)
+moved-none {f} w' false p m e =
+    let at = p .placed .at in
+    subst (λ (zs : List ℕ). following zs (roll (graphOf f)) ≡ none) (p .list-is)
+    (follows-none (at .current) (m (p .placed .place) at))

@@ -1,6 +1,6 @@
 -- The lists of the roll by their places: the one in region 0 and the one after it.
 use Prim.Native.Nat.{ℕ, zero, suc, _+_, _≤_, _<_}
-use mathlib.Core.Path.{_≡_, sym, _∙_, ap, subst}
+use mathlib.Core.Path.{_≡_, refl, sym, _∙_, ap, subst}
 use mathlib.Core.List.{List, [], _∷_, head?, List·Memᴰ}
 use mathlib.Core.Option.{some, none}
 use native.Mathlib.Numerals.{add-one}
@@ -38,7 +38,7 @@ stands-mem {g} {l} {place} s =
     subst (λ (xs : List ℕ). List·Memᴰ xs (roll g)) (s .list-at) (getD-mem (roll g) place [] (s .place-in))
 
 -- what follows the list is what stands at the next place
-follows-at : {g : Graph} {l place : ℕ} {w : List ℕ} → Stands g l w place → following (upTo g w l) (roll g) ≡ getElem? (roll g) (suc place)
+pub follows-at : {g : Graph} {l place : ℕ} {w : List ℕ} → Stands g l w place → following (upTo g w l) (roll g) ≡ getElem? (roll g) (suc place)
 follows-at {g} {l} {place} s =
     ap (λ (xs : List ℕ). following xs (roll g)) (sym (s .list-at)) ∙ following-at (roll g) place (roll-strict g) (s .place-in)
 
@@ -53,3 +53,36 @@ stands-next {g} {l} {place} w' s e =
 pub stands-last : {g : Graph} {l place : ℕ} {w : List ℕ} → Stands g l w place → following (upTo g w l) (roll g) ≡ none
     → length (roll g) ≡ place + 1
 stands-last {g} {l} {place} s e = omega (arith, s .place-in, none-at (roll g) (suc place) (sym (follows-at s) ∙ e))
+
+-- the list at the first place is the first
+pub stands-head : {g : Graph} {l : ℕ} {w : List ℕ} → Stands g l w 0 → head? (roll g) ≡ some (upTo g w l)
+stands-head {g} {l} {w} s = go (roll g) (s .place-in) (s .list-at)
+  where
+    go : (rs : List (List ℕ)) → 0 < length rs → getD rs 0 [] ≡ upTo g w l → head? rs ≡ some (upTo g w l)
+    go [] low e = absurd (omega arith)
+    go (r ∷ rs) low e = ap some e
+
+-- a place of a list holds its entry
+at-some : (rs : List (List ℕ)) (i : ℕ) → i < length rs → getElem? rs i ≡ some (getD rs i [])
+at-some [] i low = absurd (omega arith)
+at-some (r ∷ rs) zero low = refl
+at-some (r ∷ rs) (suc i) low = at-some rs i (omega arith)
+
+-- past the last place there is none
+at-none : (rs : List (List ℕ)) (i : ℕ) → length rs ≤ i → getElem? rs i ≡ none
+at-none [] i past = refl
+at-none (r ∷ rs) zero past = absurd (omega arith)
+at-none (r ∷ rs) (suc i) past = at-none rs i (omega arith)
+
+-- the list at the next place follows
+pub follows-next : {g : Graph} {l place : ℕ} {w : List ℕ} (w' : List ℕ) → Stands g l w place → Stands g l w' (place + 1)
+    → following (upTo g w l) (roll g) ≡ some (upTo g w' l)
+follows-next {g} {l} {place} w' s t =
+    let list : getD (roll g) (suc place) [] ≡ upTo g w' l =
+    ap (λ (i : ℕ). getD (roll g) i []) (sym (add-one place)) ∙ t .list-at in
+    follows-at s ∙ at-some (roll g) (suc place) (omega (arith, t .place-in)) ∙ ap some list
+
+-- nothing follows the list at the last place
+pub follows-none : {g : Graph} {l place : ℕ} {w : List ℕ} → Stands g l w place → length (roll g) ≡ place + 1
+    → following (upTo g w l) (roll g) ≡ none
+follows-none {g} {l} {place} s e = follows-at s ∙ at-none (roll g) (suc place) (omega arith)

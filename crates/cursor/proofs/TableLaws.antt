@@ -1,23 +1,20 @@
--- The working table of "next": prepared with the states that can start a loop, then with the earlier list in region 0, then
--- with the one that follows.
+-- The working table with a given list: prepared with the states that can start a loop, then with that list in region 0.
 use Prim.Native.Nat.{ℕ, suc, _+_, _*_, _≤_}
-use mathlib.Core.Path.{_≡_, sym, _∙_, ap, subst}
-use mathlib.Core.Bool.{Bool, true, false}
+use mathlib.Core.Path.{_≡_, _∙_, ap}
 use mathlib.Core.List.{List, List·Memᴰ}
-use mathlib.Core.Option.{some, none}
+use mathlib.Core.Option.{some}
 use native.Mathlib.Omega.{arith}
 use lib.ListN.{length, getD}
 use lib.Dec.{T, eqb, eqb→eq}
 use Rattle.lasso.specs.Graph.{Graph, edges}
 use Rattle.lasso.specs.Roll.{leastLength, roll}
-use Rattle.lasso.specs.Following.{following}
 use Rattle.lasso.proofs.Tests.{parts}
 use Rattle.lasso.proofs.RollLaws.{leastLength-range, roll-length, roll-lasso}
 use Rattle.model.specs.declared.Header.{Header}
 use Rattle.model.specs.Model.{graphOf}
 use Rattle.model.proofs.Laws.{valid-sizes}
 use Rattle.rounds.specs.Promises.{Ready}
-use Rattle.listing.specs.Promises.{StartLoops, Prepared, upTo, Advanced}
+use Rattle.listing.specs.Promises.{StartLoops, Prepared, upTo}
 use Rattle.cursor.proofs.LoadLaws.{loaded, loaded-list, loaded-after, loaded-length}
 
 module _ (g : Graph) (l : ℕ) (least : leastLength g ≡ some l) (xs : List ℕ) (m : List·Memᴰ xs (roll g)) where
@@ -36,10 +33,6 @@ module _ (g : Graph) (l : ℕ) (least : leastLength g ≡ some l) (xs : List ℕ
   pub loaded-upTo : (w w' : List ℕ) → w' ≡ loaded xs w → upTo g w' l ≡ xs
   loaded-upTo w w' e =
       ap (λ (z : List ℕ). upTo g z l) e ∙ loaded-list (g .start) xs w l (roll-length g l least xs m) roll-start
-
-  -- so the list up to place l is in the roll
-  pub loaded-mem : (w w' : List ℕ) → w' ≡ loaded xs w → List·Memᴰ (upTo g w' l) (roll g)
-  loaded-mem w w' e = subst (λ (zs : List ℕ). List·Memᴰ zs (roll g)) (sym (loaded-upTo w w' e)) m
 
 module _ {f : List ℕ} {h : Header} {w : List ℕ} (ready : Ready f h w) (l : ℕ) (least : leastLength (graphOf f) ≡ some l) where
   -- the least length fits region 0
@@ -74,12 +67,3 @@ module _ {f : List ℕ} {h : Header} {w : List ℕ} (ready : Ready f h w) (l : �
               ∙ loops .loops s low;
         };
       }
-
-module _ (g : Graph) (l : ℕ) (w w' : List ℕ) (r : Bool) (xs : List ℕ) (at : upTo g w l ≡ xs) (a : Advanced g l w w' r) where
-  -- no advance: nothing follows the list that was there
-  pub advanced-none : r ≡ false → following xs (roll g) ≡ none
-  advanced-none e = subst (λ (zs : List ℕ). following zs (roll g) ≡ none) at ((rw e at a) .0)
-
-  -- an advance: the list that is there now follows the one before
-  pub advanced-some : r ≡ true → following xs (roll g) ≡ some (upTo g w' l)
-  advanced-some e = subst (λ (zs : List ℕ). following zs (roll g) ≡ some (upTo g w' l)) at (rw e at a)

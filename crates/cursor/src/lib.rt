@@ -57,7 +57,7 @@ pub fn begin(file: &[u8], h: Header, allowance: u16, work: &mut [u16]) -> Begun
 }
 
 // Goes to the first list of the roll.
-pub fn open(file: &[u8], h: Header, length: Transitions, work: &mut [u16])
+pub fn to_first(file: &[u8], h: Header, length: Transitions, work: &mut [u16])
     requires { ⌜ Ready (now file) h (now work) ⌝ }
     requires { ⌜ leastLength (graphOf (now file)) ≡ some (length .0) ⌝ }
     ensures at { λ _. ⌜ At (now (file .entry)) h (length .0) 0 (now (work .exit)) ⌝ }
@@ -82,7 +82,7 @@ fn load(list: &[u16], work: &mut [u16])
 }
 
 // Goes to a given list of the roll.
-pub fn resume(file: &[u8], h: Header, length: Transitions, list: &[u16], work: &mut [u16])
+pub fn to_list(file: &[u8], h: Header, length: Transitions, list: &[u16], work: &mut [u16])
     requires { ⌜ Ready (now file) h (now work) ⌝ }
     requires { ⌜ leastLength (graphOf (now file)) ≡ some (length .0) ⌝ }
     requires { ⌜ List·Memᴰ (now list) (roll (graphOf (now file))) ⌝ }
@@ -94,7 +94,7 @@ pub fn resume(file: &[u8], h: Header, length: Transitions, list: &[u16], work: &
 }
 
 // Goes to the next list of the roll, and answers true; or answers false if there is none.
-pub fn advance(file: &[u8], h: Header, length: Transitions, work: &mut [u16]) -> bool
+pub fn to_next(file: &[u8], h: Header, length: Transitions, work: &mut [u16]) -> bool
     requires { ⌜ Placed (now file) h (length .0) (now work) ⌝ }
     ensures moved { λ r. ⌜ MovedOn (now (file .entry)) h (length .0) (now (work .entry)) (now (work .exit)) r ⌝ }
     ensures kept { λ _. ⌜ lib.ListN.length (now (work .exit)) ≡ lib.ListN.length (now (work .entry)) ⌝ }

@@ -2,8 +2,6 @@
 pub mod FirstLaws
 pub mod StepLaws
 pub mod SearchLaws
-pub mod PathTests
-pub mod LoopTests
 pub mod NextLaws
 pub mod OutcomeLaws
 pub mod Condition1

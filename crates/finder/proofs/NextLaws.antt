@@ -26,7 +26,7 @@ use Rattle.finder.specs.Search.{lengthDue, unlessRefused}
 use Rattle.finder.specs.Next.{notShortest, followed, dueReasons, nextReasons, nextOutcome, nextList, nextAnswer}
 use Rattle.gate.proofs.GateLaws.{broken-append, clear-append, common-clear}
 use Rattle.finder.proofs.SearchLaws.{never-too-long}
-use Rattle.finder.proofs.LoopTests.{lassoOf}
+use Rattle.paths.proofs.LoopTests.{lassoOf}
 
 -- a list of the roll is a shortest accepting path
 pub shortest-mem : (g : Graph) (xs : List ℕ) → List·Memᴰ xs (roll g) → notShortest g xs ≡ false

@@ -12,7 +12,6 @@ use Rattle.lasso.specs.Lists.{pick, someIf}
 use Rattle.lasso.specs.Graph.{Graph, WellFormed, edges, loopStart}
 use Rattle.lasso.specs.Roll.{leastLength, roll}
 use Rattle.lasso.specs.Rounds.{Record, candidates, afterRounds}
-use Rattle.lasso.proofs.RoundLaws.{afterRounds-done, afterRounds-leastLength}
 use Rattle.lasso.proofs.RollLaws.{leastLength-range, roll-empty, roll-length}
 use Rattle.gate.specs.declared.Ask.{Ask}
 use Rattle.model.specs.Model.{graphOf}
@@ -85,18 +84,6 @@ roll-first g l e = go (roll g) refl
     go [] q = let n : leastLength g ≡ none = roll-empty g .0 q in let z : _≡_ {A = ℕ} 0 1 = cc in absurd (omega arith)
     go (xs ∷ rs) q =
         (xs, refl, roll-length g l e xs (subst (λ (zs : List (List ℕ)). List·Memᴰ xs zs) (sym q) (List·Memᴰ·head refl)))
-
--- an allowance that suffices does all rounds: their number, and the least length of an accepting path
-pub all-rounds : {g : Graph} → WellFormed g → (rec : Record) (allowance : ℕ)
-    → rec ≡ afterRounds g (min allowance (length (candidates g))) → length (candidates g) ≤ allowance
-    → (rec .done ≡ length (candidates g)) × (rec .best ≡ leastLength g)
-all-rounds {g} wf rec allowance e enough =
-    let n : ℕ = length (candidates g) in
-    let all : min allowance n ≡ n = omega arith in
-    let q : rec ≡ afterRounds g n = e ∙ ap (λ (m : ℕ). afterRounds g m) all in (
-      ap (λ (r : Record). r .done) q ∙ afterRounds-done g n,
-      ap (λ (r : Record). r .best) q ∙ afterRounds-leastLength wf,
-    )
 
 module _ (f : List ℕ) (accepted : Accepted f) (ask : Ask) (answer work : ℕ) (room : 6 * states f ≤ work) where
   -- the graph of the file

@@ -1,26 +1,25 @@
 // A search on an accepted file.
 ghost use mathlib.Core.Path.{_≡_};
 ghost use mathlib.Core.Option.{some};
-ghost use Prim.Native.Nat.{ℕ, _*_, _≤_};
+ghost use Prim.Native.Nat.{_*_, _≤_};
 ghost use lib.ListN.{length};
 ghost use Rattle.lasso.specs.Roll.{leastLength};
 ghost use Rattle.lasso.specs.Rounds.{candidates};
 ghost use Rattle.model.specs.Model.{graphOf};
 ghost use Rattle.model.specs.Values.{Valid};
+ghost use Rattle.gate.specs.declared.Ask.{Ask};
 ghost use Rattle.rounds.specs.Promises.{Ready};
 ghost use Rattle.finder.specs.Outcomes.{searchOutcomeOf};
 ghost use Rattle.finder.specs.Search.{searchOutcome, searchAnswer};
 use crate::SearchAnswer;
-use lasso::Best;
+use cursor::Begun;
+use cursor::begin;
+use cursor::to_first;
+use cursor::write_list;
+use gate::Ask;
 use lasso::Entries;
 use lasso::Transitions;
-use listing::first;
-use listing::prepare;
-use listing::write_list;
 use model::Header;
-use rounds::count_candidates;
-use rounds::run_rounds;
-use rounds::start_distances;
 
 // Writes the first of the shortest accepting paths, whose length is known. All rounds are done, so that the answer is
 // that of a search with any allowance that suffices.
@@ -35,8 +34,8 @@ fn first_list(
     requires { ⌜ Ready (now file) h (now work) ⌝ }
     requires { ⌜ leastLength (graphOf (now file)) ≡ some (length .0) ⌝ }
     requires { ⌜ rounds ≡ lib.ListN.length (candidates (graphOf (now file))) ⌝ }
-    ensures outcome { λ r. ⌜ ((allowance : ℕ) → rounds ≤ allowance → searchOutcomeOf r ≡ searchOutcome (now (file .entry)) allowance (lib.ListN.length (now (answer .entry))) (lib.ListN.length (now (work .entry)))) ⌝ }
-    ensures answer { λ _. ⌜ ((allowance : ℕ) → rounds ≤ allowance → now (answer .exit) ≡ searchAnswer (now (file .entry)) allowance (now (answer .entry)) (lib.ListN.length (now (work .entry)))) ⌝ }
+    ensures outcome { λ r. ⌜ ((ask : Ask) → rounds ≤ ask .allowance → searchOutcomeOf r ≡ searchOutcome (now (file .entry)) ask (lib.ListN.length (now (answer .entry))) (lib.ListN.length (now (work .entry)))) ⌝ }
+    ensures answer { λ _. ⌜ ((ask : Ask) → rounds ≤ ask .allowance → now (answer .exit) ≡ searchAnswer (now (file .entry)) ask (now (answer .entry)) (lib.ListN.length (now (work .entry)))) ⌝ }
     ensures kept { λ _. ⌜ lib.ListN.length (now (work .exit)) ≡ lib.ListN.length (now (work .entry)) ⌝ }
 {
     if 4096 < length.0 {
@@ -47,8 +46,7 @@ fn first_list(
     if room.0 < entries.0 {
         return SearchAnswer::Refused(15);
     }
-    prepare(file, h, work, length);
-    first(file, h, work, length);
+    to_first(file, h, length, work);
     let k = write_list(h, work, length, answer);
     let loop_start = k as u16;
     SearchAnswer::Found(length, loop_start, rounds)
@@ -58,27 +56,20 @@ fn first_list(
 pub fn search_model(
     file: &[u8],
     h: Header,
-    allowance: u16,
+    ask: Ask,
     answer: &mut [u16],
     work: &mut [u16],
 ) -> SearchAnswer
     requires { ⌜ Valid (now file) h ⌝ }
     requires { ⌜ 6 * h .states ≤ length (now work) ⌝ }
-    ensures outcome { λ r. ⌜ searchOutcomeOf r ≡ searchOutcome (now (file .entry)) allowance (length (now (answer .entry))) (length (now (work .entry))) ⌝ }
-    ensures answer { λ _. ⌜ now (answer .exit) ≡ searchAnswer (now (file .entry)) allowance (now (answer .entry)) (length (now (work .entry))) ⌝ }
+    ensures outcome { λ r. ⌜ searchOutcomeOf r ≡ searchOutcome (now (file .entry)) ask (length (now (answer .entry))) (length (now (work .entry))) ⌝ }
+    ensures answer { λ _. ⌜ now (answer .exit) ≡ searchAnswer (now (file .entry)) ask (now (answer .entry)) (length (now (work .entry))) ⌝ }
     ensures kept { λ _. ⌜ length (now (work .exit)) ≡ length (now (work .entry)) ⌝ }
 {
-    start_distances(file, h, work);
-    let count = count_candidates(file, h, work);
-    let allowed = allowance as usize;
-    let record = run_rounds(file, h, work, allowed);
-    if allowed < count {
-        return SearchAnswer::Stopped(record);
-    }
-    let rounds = record.done;
-    let best = record.best;
-    match best {
-        Best::None => SearchAnswer::Empty(rounds),
-        Best::Length(length) => first_list(file, h, length, rounds, answer, work),
+    let begun = begin(file, h, ask.allowance, work);
+    match begun {
+        Begun::Stopped(record) => SearchAnswer::Stopped(record),
+        Begun::Empty(rounds) => SearchAnswer::Empty(rounds),
+        Begun::Listed(length, rounds) => first_list(file, h, length, rounds, answer, work),
     }
 }

@@ -11,13 +11,13 @@ use lib.ListN.{length}
 use lib.Seq.{length-take-le}
 use Rattle.lasso.specs.Roll.{roll}
 use Rattle.lasso.specs.Following.{following}
-use Rattle.lasso.proofs.RollLaws.{roll-length}
 use Rattle.model.specs.Model.{graphOf}
 use Rattle.model.proofs.Laws.{valid-sizes, valid-well-formed}
 use Rattle.listing.specs.Promises.{upTo}
 use Rattle.gate.proofs.GateLaws.{valid-room}
-use Rattle.finder.proofs.LoopTests.{lassoOf}
-use Rattle.finder.proofs.TableLaws.{loaded-upTo, loaded-mem, least-fits, loaded-kept, prepared-loaded, advanced-none, advanced-some}
+use Rattle.paths.proofs.LoopTests.{lassoOf}
+use Rattle.cursor.proofs.TableLaws.{least-fits}
+use Rattle.cursor.proofs.CursorLaws.{moved-none, moved-some}
 use Rattle.finder.proofs.NextLaws.{lassoOf-mem, notShortest-lasso, next-answer, next-not-shortest, next-no-more, next-no-room, following-written}
 use Rattle.finder.proofs.following.next_list.Statement.{statement}
 use Rattle.finder.proofs.following.next_list.Tie as tie
@@ -27,18 +27,15 @@ abbrev start : tie.After-is-lasso → tie.Start
 start c = c .before .before .before .before .before
 
 -- the way back from each change of the working table to the one before
-abbrev tested : tie.After-prepare → tie.Else1
+abbrev tested : tie.After-to-list → tie.Else1
 tested c = c .before .before .before .before
 
-abbrev prepared : tie.After-load → tie.After-prepare
-prepared c = c .before .before .before .before
-
-abbrev put : tie.After-advance → tie.After-load
+abbrev put : tie.After-to-next → tie.After-to-list
 put c = c .before .before .before .before
 
 -- the start, from where the list was replaced
-abbrev origin : tie.After-advance → tie.Start
-origin c = start (tested (prepared (put c)) .before)
+abbrev origin : tie.After-to-next → tie.Start
+origin c = start (tested (put c) .before)
 
 -- the test of the earlier list
 list-tested : (c : tie.After-is-lasso)
@@ -52,34 +49,22 @@ in-roll c =
     lassoOf-mem (graphOf (s .args .file .now)) (valid-well-formed (s .pre .0 .valid)) (s .args .length .0) (s .pre .1) (s .args .earlier .now)
     (list-tested (c .before) ∙ not-false _ (c .if1 .left))
 
--- the list that was replaced is the earlier one
-replaced : (c : tie.After-advance)
-    → let a = origin c .args in upTo (graphOf (a .file .now)) (put c .load .last .1 .0) (a .length .0) ≡ a .earlier .now
-replaced c =
-    let s = origin c in
-    let a = s .args in
-    loaded-upTo (graphOf (a .file .now)) (a .length .0) (s .pre .1) (a .earlier .now) (in-roll (tested (prepared (put c)))) _ _ (put c .load .ensures)
-
 -- the working table keeps its length
-kept : (c : tie.After-advance) → length (c .advance .last .1 .1 .0) ≡ length (origin c .args .work .now)
-kept c =
-    let s = origin c in
-    let done = prepared (put c) in
-    c .advance .ensures .1 .same-length
-    ∙ loaded-kept (s .pre .0) (s .args .length .0) (s .pre .1) _ _ (done .prepare .ensures .1 .same-length) (s .args .earlier .now) (in-roll (tested done)) (put c .load .ensures)
+kept : (c : tie.After-to-next) → length (c .to-next .last .1 .1 .0) ≡ length (origin c .args .work .now)
+kept c = c .to-next .ensures .1 ∙ put c .to-list .ensures .1
 
 -- the list that follows stands in region 0
 follows : (c : tie.Else3)
     → let adv = c .before .before .before in
     let a = origin adv .args in
-    following (a .earlier .now) (roll (graphOf (a .file .now))) ≡ some (upTo (graphOf (a .file .now)) (adv .advance .last .1 .1 .0) (a .length .0))
+    following (a .earlier .now) (roll (graphOf (a .file .now))) ≡ some (upTo (graphOf (a .file .now)) (adv .to-next .last .1 .1 .0) (a .length .0))
 follows c =
     let adv = c .before .before .before in
     let a = origin adv .args in
-    advanced-some (graphOf (a .file .now)) (a .length .0) _ (adv .advance .last .1 .1 .0) (adv .advance .result) (a .earlier .now) (replaced adv) (adv .advance .ensures .0) (not-false _ (c .if3 .left))
+    moved-some (adv .to-next .last .1 .1 .0) (adv .to-next .result) (put adv .to-list .ensures .0) (adv .to-next .ensures .0) (not-false _ (c .if3 .left))
 
 -- a list of the least length fits the table
-fits : (c : tie.After-advance) → origin c .args .length .0 ≤ length (c .advance .last .1 .1 .0)
+fits : (c : tie.After-to-next) → origin c .args .length .0 ≤ length (c .to-next .last .1 .1 .0)
 fits c =
     let s = origin c in
     omega (arith, kept c, least-fits (s .pre .0) (s .args .length .0) (s .pre .1), s .pre .0 .room)
@@ -101,26 +86,14 @@ returns-2 c =
     let s = start (c .before .before .before) in
     absurd (omega (arith, least-fits (s .pre .0) (s .args .length .0) (s .pre .1), c .if2 .taken))
 
-prepare-requires : tie.Need-prepare-requires
-prepare-requires c κs = search needs
+to-list-requires : tie.Need-to-list-requires
+to-list-requires c κs =
+    let enough = c .before .before .before in
+    let s = start (enough .before) in
+    (s .pre .0, (s .pre .1, in-roll enough))
 
-load-requires : tie.Need-load-requires
-load-requires c κs =
-    let done = c .before .before .before in
-    let s = start (tested done .before) in
-    let a = s .args in
-    omega (arith, roll-length (graphOf (a .file .now)) (a .length .0) (s .pre .1) (a .earlier .now) (in-roll (tested done)), least-fits (s .pre .0) (a .length .0) (s .pre .1), s .pre .0 .room, done .prepare .ensures .1 .same-length)
-
-advance-requires : tie.Need-advance-requires
-advance-requires c κs =
-    let up = c .before .before .before in
-    let done = prepared up in
-    let s = start (tested done .before) in
-    let a = s .args in
-    let m = in-roll (tested done) in (
-      prepared-loaded (s .pre .0) (a .length .0) (s .pre .1) _ _ (done .prepare .ensures .1 .same-length) (done .prepare .ensures .0) (a .earlier .now) m (up .load .ensures),
-      loaded-mem (graphOf (a .file .now)) (a .length .0) (s .pre .1) (a .earlier .now) m _ _ (up .load .ensures),
-    )
+to-next-requires : tie.Need-to-next-requires
+to-next-requires c κs = c .before .before .before .to-list .ensures .0 .placed
 
 same-length : tie.Need-same-length
 same-length c = search needs
@@ -131,8 +104,8 @@ returns-3 c =
     let s = origin adv in
     let a = s .args in
     let v = s .pre .0 .valid in
-    let last = advanced-none (graphOf (a .file .now)) (a .length .0) _ (adv .advance .last .1 .1 .0) (adv .advance .result) (a .earlier .now) (replaced adv) (adv .advance .ensures .0) (not-true _ (c .if3 .taken)) in
-    let is = next-no-more (a .file .now) (v .accepted) (a .earlier .now) (length (a .answer .now)) (length (a .work .now)) (valid-room v (s .pre .0 .room)) (in-roll (tested (prepared (put adv)))) last in
+    let last = moved-none (adv .to-next .last .1 .1 .0) (adv .to-next .result) (put adv .to-list .ensures .0) (adv .to-next .ensures .0) (not-true _ (c .if3 .taken)) in
+    let is = next-no-more (a .file .now) (v .accepted) (a .earlier .now) (length (a .answer .now)) (length (a .work .now)) (valid-room v (s .pre .0 .room)) (in-roll (tested (put adv))) last in
     (sym (is .outcome), (sym (next-answer (a .answer .now) is), kept adv))
 
 entries-requires : tie.Need-entries-requires
@@ -149,8 +122,8 @@ returns-4 c =
     let s = origin adv in
     let a = s .args in
     let v = s .pre .0 .valid in
-    let long = length-take-le (a .length .0) (adv .advance .last .1 .1 .0) (fits adv) in
-    let is = next-no-room (a .file .now) (v .accepted) (a .earlier .now) (length (a .answer .now)) (length (a .work .now)) (valid-room v (s .pre .0 .room)) (in-roll (tested (prepared (put adv)))) _ (follows more) (omega (arith, long, counted .entries .ensures, c .if4 .taken)) in
+    let long = length-take-le (a .length .0) (adv .to-next .last .1 .1 .0) (fits adv) in
+    let is = next-no-room (a .file .now) (v .accepted) (a .earlier .now) (length (a .answer .now)) (length (a .work .now)) (valid-room v (s .pre .0 .room)) (in-roll (tested (put adv))) _ (follows more) (omega (arith, long, counted .entries .ensures, c .if4 .taken)) in
     (sym (is .outcome), (sym (next-answer (a .answer .now) is), kept adv))
 
 write-list-requires : tie.Need-write-list-requires
@@ -183,7 +156,7 @@ returns-5 c =
     let v = s .pre .0 .valid in
     let is =
     following-written (a .file .now) (v .accepted) (length (a .work .now)) (valid-room v (s .pre .0 .room)) (a .earlier .now) (a .answer .now) _ _ (a .h .start) (a .length .0) (wrote .write-list .result)
-    (in-roll (tested (prepared (put adv)))) (valid-sizes v .start-is) (fits adv) (follows more) (omega (arith, counted .entries .ensures, free .if4 .left))
+    (in-roll (tested (put adv))) (valid-sizes v .start-is) (fits adv) (follows more) (omega (arith, counted .entries .ensures, free .if4 .left))
     (wrote .write-list .ensures .0 .0) (wrote .write-list .ensures .1) in
     (is .0, (is .1, kept adv))
 
@@ -194,9 +167,8 @@ next-list-spec =
     is-lasso-requires
     returns
     returns-2
-    prepare-requires
-    load-requires
-    advance-requires
+    to-list-requires
+    to-next-requires
     same-length
     returns-3
     entries-requires

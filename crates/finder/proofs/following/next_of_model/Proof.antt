@@ -1,90 +1,92 @@
--- `following::next_of_model` meets its contract: all rounds are done, so their best is the least length of an accepting path;
--- without one the answer is 13.
-use Prim.Native.Nat.{ℕ}
+-- `following::next_of_model` meets its contract: without an accepting path 13, else what next answers where the length is
+-- known. The rounds are never stopped, since no model has so many candidates.
 use mathlib.Core.Path.{_≡_, sym, _∙_, ap}
+use Prim.Native.Nat.{ℕ}
 use native.Mathlib.Omega.{arith}
 use borrow.Author.Needs.{needs}
 use lib.ListN.{length}
-use Rattle.lasso.specs.Roll.{leastLength}
-use Rattle.lasso.specs.Values.{bestOf, recordOf}
 use Rattle.model.specs.Model.{graphOf}
-use Rattle.model.proofs.Laws.{valid-sizes, valid-well-formed}
-use Rattle.finder.specs.Next.{nextOutcome, nextAnswer}
-use Rattle.gate.proofs.GateLaws.{valid-room}
-use Rattle.rounds.proofs.TableLaws.{ready-kept}
-use Rattle.finder.proofs.ReadyLaws.{ready-started}
+use Rattle.model.proofs.Laws.{valid-sizes}
 use Rattle.finder.proofs.StepLaws.{candidates-length-le}
-use Rattle.finder.proofs.SearchLaws.{all-rounds}
+use Rattle.gate.proofs.GateLaws.{valid-room}
+use Rattle.cursor.specs.Cursor.{BegunSays}
+use Rattle.cursor.specs.declared.Begun.{Begun}
+use Rattle.finder.specs.Next.{nextOutcome, nextAnswer}
 use Rattle.finder.proofs.NextLaws.{notShortest-none, next-answer, next-not-shortest}
 use Rattle.finder.proofs.following.next_of_model.Statement.{statement}
 use Rattle.finder.proofs.following.next_of_model.Tie as tie
 
--- what was done before the rounds, and the function's start
-abbrev started : tie.After-run-rounds → tie.After-start-distances
-started c = c .before .before .before .before
+-- the function's start, and what the rounds came to
+abbrev start : tie.After-begin → tie.Start
+start c = c .before .before .before .before .before .before
 
-abbrev start : tie.After-run-rounds → tie.Start
-start c = started c .before .before .before .before .before .before
+abbrev done : tie.After-slice-known3 → tie.After-begin
+done c = c .before .before
 
--- the table keeps its length up to there
-kept : (c : tie.After-run-rounds) → length (c .run-rounds .last .1 .1 .0) ≡ length (start c .args .work .now)
-kept c = c .run-rounds .ensures .1 .same-length ∙ started c .start-distances .ensures .same-length
+-- what an answer of the rounds says, by its case
+says : (c : tie.After-begin) (r : Begun) → c .begin .result ≡ r → BegunSays (graphOf (start c .args .file .now)) 65535 r
+says c r e = rw e at (c .begin .ensures .0)
 
--- the record holds the least length of an accepting path
-all-done : (c : tie.After-run-rounds) → bestOf (c .run-rounds .result .best) ≡ leastLength (graphOf (start c .args .file .now))
-all-done c =
-    let s = start c in
-    let a = s .args in
-    let sizes = valid-sizes (s .pre .0) in
-    all-rounds (valid-well-formed (s .pre .0)) (recordOf (c .run-rounds .result)) (a .h .states) (c .run-rounds .ensures .0) (omega (arith, candidates-length-le (graphOf (a .file .now)))) .1
-
-start-distances-requires : tie.Need-start-distances-requires
-start-distances-requires c κs = search needs
-
-run-rounds-requires : tie.Need-run-rounds-requires
-run-rounds-requires c κs = search needs
+begin-requires : tie.Need-begin-requires
+begin-requires c κs = search needs
 
 enum-told : tie.Need-enum-told
 enum-told c = search needs
 
-enum-known-best : tie.Need-enum-known-best
-enum-known-best c = search needs
+enum-told-2 : tie.Need-enum-told-2
+enum-told-2 c = search needs
+
+enum-known-begun : tie.Need-enum-known-begun
+enum-known-begun c = search needs
 
 next-list-requires : tie.Need-next-list-requires
 next-list-requires c κs =
-    let found = c .before .before .before in
-    let rounds = found .before .before .before .before in
-    let s = start rounds in
-    let ready = ready-kept (ready-started (s .pre .0) (s .pre .1) (started rounds .start-distances .ensures)) (rounds .run-rounds .ensures .1) in
-    (ready, sym (all-done rounds) ∙ ap bestOf (found .best .given .1))
+    let listed = c .before .before .before in
+    let begun = done (listed .before .before) in
+    let all = says begun _ (listed .begun .given .1) in
+    (begun .begin .ensures .1 .0, all .least-is)
 
 same-length : tie.Need-same-length
 same-length c = search needs
 
 returns : tie.Need-returns
 returns c =
-    let rounds = c .before .before .before .before in
-    let s = start rounds in
-    let a = s .args in
-    let none-shortest = notShortest-none (graphOf (a .file .now)) (a .earlier .now) (sym (all-done rounds) ∙ ap bestOf (c .enum-told .given .1)) in
-    let is = next-not-shortest (a .file .now) (s .pre .0 .accepted) (a .earlier .now) (length (a .answer .now)) (length (a .work .now)) (valid-room (s .pre .0) (s .pre .1)) none-shortest in
-    (sym (is .outcome), (sym (next-answer (a .answer .now) is), kept rounds))
+    let begun = done (c .before .before) in
+    let s = start begun in
+    let sizes = valid-sizes (s .pre .0) in
+    let stop = says begun _ (c .enum-told .given .1) in
+    absurd (omega (arith, stop .short, candidates-length-le (graphOf (s .args .file .now))))
 
 same-length-2 : tie.Need-same-length-2
 same-length-2 c = search needs
 
+returns-2 : tie.Need-returns-2
+returns-2 c =
+    let begun = done (c .before .before) in
+    let s = start begun in
+    let a = s .args in
+    let all = says begun _ (c .enum-told2 .given .1) in
+    let none-shortest = notShortest-none (graphOf (a .file .now)) (a .earlier .now) (all .least-is) in
+    let is = next-not-shortest (a .file .now) (s .pre .0 .accepted) (a .earlier .now) (length (a .answer .now)) (length (a .work .now)) (valid-room (s .pre .0) (s .pre .1)) none-shortest in
+    (sym (is .outcome), (sym (next-answer (a .answer .now) is), begun .begin .ensures .1 .1))
+
 same-length-3 : tie.Need-same-length-3
 same-length-3 c = search needs
 
-returns-2 : tie.Need-returns-2
-returns-2 c =
-    let listed = c .before .before .before .before in
-    let rounds = listed .before .before .before .before .before .before .before .before in
-    let a = start rounds .args in (
-      listed .next-list .ensures .0 ∙ ap (λ (n : ℕ). nextOutcome (a .file .now) (a .earlier .now) (length (a .answer .now)) n) (kept rounds),
+same-length-4 : tie.Need-same-length-4
+same-length-4 c = search needs
+
+returns-3 : tie.Need-returns-3
+returns-3 c =
+    let wrote = c .before .before .before .before in
+    let listed = wrote .before .before .before .before in
+    let begun = done (listed .before .before) in
+    let a = start begun .args in
+    let kept = begun .begin .ensures .1 .1 in (
+      wrote .next-list .ensures .0 ∙ ap (λ (n : ℕ). nextOutcome (a .file .now) (a .earlier .now) (length (a .answer .now)) n) kept,
       (
-        listed .next-list .ensures .1 .0 ∙ ap (λ (n : ℕ). nextAnswer (a .file .now) (a .earlier .now) (a .answer .now) n) (kept rounds),
-        listed .next-list .ensures .1 .1 ∙ kept rounds,
+        wrote .next-list .ensures .1 .0 ∙ ap (λ (n : ℕ). nextAnswer (a .file .now) (a .earlier .now) (a .answer .now) n) kept,
+        wrote .next-list .ensures .1 .1 ∙ kept,
       ),
     )
 
@@ -92,13 +94,15 @@ pub next-of-model-spec : {M : Type 1} → statement M
 next-of-model-spec =
     tie.close
     (tie.spec
-    start-distances-requires
-    run-rounds-requires
+    begin-requires
     enum-told
-    enum-known-best
+    enum-told-2
+    enum-known-begun
     next-list-requires
     same-length
     returns
     same-length-2
+    returns-2
     same-length-3
-    returns-2)
+    same-length-4
+    returns-3)

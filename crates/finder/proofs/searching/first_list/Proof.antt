@@ -2,7 +2,7 @@
 -- and nothing is written; else the first of the roll is written with its figures.
 use mathlib.Core.Path.{refl, sym, _∙_}
 use mathlib.Core.Option.{none}
-use Prim.Native.Nat.{ℕ, _≤_}
+use Prim.Native.Nat.{_≤_}
 use native.Mathlib.Omega.{arith}
 use borrow.Author.Needs.{needs}
 use lib.ListN.{length}
@@ -10,7 +10,9 @@ use Rattle.lasso.proofs.RollLaws.{leastLength-range}
 use Rattle.model.specs.Model.{graphOf}
 use Rattle.model.proofs.Laws.{valid-sizes}
 use Rattle.finder.specs.Outcomes.{refused}
-use Rattle.finder.proofs.ReasonLaws.{valid-room}
+use Rattle.gate.specs.declared.Ask.{Ask}
+use Rattle.gate.proofs.GateLaws.{valid-room}
+use Rattle.cursor.proofs.RollPlaces.{stands-head}
 use Rattle.finder.proofs.SearchLaws.{SearchIs, search-answer, search-no-room, first-written}
 use Rattle.finder.proofs.searching.first_list.Statement.{statement}
 use Rattle.finder.proofs.searching.first_list.Tie as tie
@@ -19,11 +21,8 @@ use Rattle.finder.proofs.searching.first_list.Tie as tie
 abbrev start : tie.After-entries → tie.Start
 start c = c .before .before .before .before .before .before
 
-abbrev roomy : tie.After-prepare → tie.Else2
+abbrev roomy : tie.After-to-first → tie.Else2
 roomy c = c .before .before
-
-abbrev prepared : tie.After-first → tie.After-prepare
-prepared c = c .before .before .before .before
 
 returns : tie.Need-returns
 returns c =
@@ -40,26 +39,22 @@ returns-2 c =
     let s = start counted in
     let a = s .args in
     let v = s .pre .0 .valid in
-    let is : (allowance : ℕ) → a .rounds ≤ allowance → SearchIs (a .file .now) allowance (length (a .answer .now)) (length (a .work .now)) (refused 15) none =
-    λ allowance enough. search-no-room (a .file .now) (v .accepted) allowance (length (a .answer .now)) (length (a .work .now)) (valid-room v (s .pre .0 .room)) (omega (arith, s .pre .1 .1)) (a .length .0) (s .pre .1 .0) (omega (arith, counted .entries .ensures, c .if2 .taken)) in (
-      λ allowance enough. sym (is allowance enough .outcome),
-      (λ allowance enough. sym (search-answer (a .answer .now) (is allowance enough)), refl),
+    let is : (ask : Ask) → a .rounds ≤ ask .allowance → SearchIs (a .file .now) ask (length (a .answer .now)) (length (a .work .now)) (refused 15) none =
+    λ ask enough. search-no-room (a .file .now) (v .accepted) ask (length (a .answer .now)) (length (a .work .now)) (valid-room v (s .pre .0 .room)) (omega (arith, s .pre .1 .1)) (a .length .0) (s .pre .1 .0) (omega (arith, counted .entries .ensures, c .if2 .taken)) in (
+      λ ask enough. sym (is ask enough .outcome),
+      (λ ask enough. sym (search-answer (a .answer .now) (is ask enough)), refl),
     )
 
-prepare-requires : tie.Need-prepare-requires
-prepare-requires c κs = search needs
-
-first-requires : tie.Need-first-requires
-first-requires c κs = search needs
+to-first-requires : tie.Need-to-first-requires
+to-first-requires c κs = search needs
 
 write-list-requires : tie.Need-write-list-requires
 write-list-requires c κs =
     let listed = c .before .before .before .before in
-    let done = prepared listed in
-    let entered = roomy done .before .before .before in
+    let entered = roomy listed .before .before .before in
     let s = start entered in
     let sizes = valid-sizes (s .pre .0 .valid) in
-    omega (arith, leastLength-range (graphOf (s .args .file .now)) (s .args .length .0) (s .pre .1 .0), s .pre .0 .room, listed .first .ensures .1 .same-length, done .prepare .ensures .1 .same-length, entered .entries .ensures, roomy done .if2 .left)
+    omega (arith, leastLength-range (graphOf (s .args .file .now)) (s .args .length .0) (s .pre .1 .0), s .pre .0 .room, listed .to-first .ensures .1, entered .entries .ensures, roomy listed .if2 .left)
 
 cast-loop-start : tie.Need-cast-loop-start
 cast-loop-start c = search needs
@@ -74,19 +69,18 @@ returns-3 : tie.Need-returns-3
 returns-3 c =
     let wrote = c .before .before in
     let listed = wrote .before .before .before .before .before in
-    let done = prepared listed in
-    let entered = roomy done .before .before .before in
+    let entered = roomy listed .before .before .before in
     let s = start entered in
     let a = s .args in
     let v = s .pre .0 .valid in
     let sizes = valid-sizes v in
     let range = leastLength-range (graphOf (a .file .now)) (a .length .0) (s .pre .1 .0) in
-    let kept = listed .first .ensures .1 .same-length ∙ done .prepare .ensures .1 .same-length in
+    let kept = listed .to-first .ensures .1 in
     let both =
     first-written (a .file .now) (v .accepted) (length (a .work .now)) (valid-room v (s .pre .0 .room)) (a .answer .now) _ _ (a .h .start) (a .length .0) (wrote .write-list .result) (a .rounds)
-    (sizes .start-is) (omega (arith, kept, s .pre .0 .room)) (listed .first .ensures .0) (omega (arith, entered .entries .ensures, roomy done .if2 .left))
+    (sizes .start-is) (omega (arith, kept, s .pre .0 .room)) (stands-head (listed .to-first .ensures .0 .current)) (omega (arith, entered .entries .ensures, roomy listed .if2 .left))
     (wrote .write-list .ensures .0 .0) (s .pre .1 .1) (wrote .write-list .ensures .1) in
-    (λ allowance enough. both allowance enough .0, (λ allowance enough. both allowance enough .1, kept))
+    (λ ask enough. both ask enough .0, (λ ask enough. both ask enough .1, kept))
 
 pub first-list-spec : {M : Type 1} → statement M
 first-list-spec =
@@ -95,8 +89,7 @@ first-list-spec =
     returns
     entries-requires
     returns-2
-    prepare-requires
-    first-requires
+    to-first-requires
     write-list-requires
     cast-loop-start
     same-length

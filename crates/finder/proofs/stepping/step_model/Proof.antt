@@ -9,7 +9,7 @@ use Rattle.lasso.specs.Rounds.{candidates}
 use Rattle.lasso.specs.Values.{recordOf}
 use Rattle.model.specs.Model.{graphOf}
 use Rattle.gate.proofs.GateLaws.{valid-clear}
-use Rattle.finder.proofs.ReadyLaws.{ready-started}
+use Rattle.cursor.proofs.ReadyLaws.{ready-started}
 use Rattle.finder.proofs.StepLaws.{step-finished, step-advanced}
 use Rattle.finder.proofs.stepping.step_model.Statement.{statement}
 use Rattle.finder.proofs.stepping.step_model.Tie as tie

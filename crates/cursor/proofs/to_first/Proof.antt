@@ -1,11 +1,11 @@
--- `open` meets its contract: the table is prepared, and the first list is put into region 0.
+-- `to_first` meets its contract: the table is prepared, and the first list is put into region 0.
 use mathlib.Core.Path.{_∙_}
 use borrow.Author.Needs.{needs}
 use Rattle.listing.specs.Promises.{Prepared}
 use Rattle.listing.proofs.PlacesTable.{prepared-kept}
 use Rattle.cursor.proofs.CursorLaws.{prepared-start, at-first}
-use Rattle.cursor.proofs.open.Statement.{statement}
-use Rattle.cursor.proofs.open.Tie as tie
+use Rattle.cursor.proofs.to_first.Statement.{statement}
+use Rattle.cursor.proofs.to_first.Tie as tie
 
 -- the function's start, from where the loop lengths were found
 abbrev start : tie.After-prepare → tie.Start
@@ -34,5 +34,5 @@ returns c =
       listed .first .ensures .1 .same-length ∙ done .prepare .ensures .1 .same-length,
     )
 
-pub open-spec : {M : Type 1} → statement M
-open-spec = tie.close (tie.spec prepare-requires first-requires same-length returns)
+pub to-first-spec : {M : Type 1} → statement M
+to-first-spec = tie.close (tie.spec prepare-requires first-requires same-length returns)

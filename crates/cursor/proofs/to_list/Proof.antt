@@ -1,12 +1,12 @@
--- `resume` meets its contract: the table is prepared, and the given list is put into region 0.
+-- `to_list` meets its contract: the table is prepared, and the given list is put into region 0.
 use native.Mathlib.Omega.{arith}
 use borrow.Author.Needs.{needs}
 use Rattle.lasso.proofs.RollLaws.{roll-length}
 use Rattle.model.specs.Model.{graphOf}
 use Rattle.cursor.proofs.TableLaws.{loaded-upTo, least-fits, loaded-kept, prepared-loaded}
 use Rattle.cursor.proofs.CursorLaws.{placed-at}
-use Rattle.cursor.proofs.resume.Statement.{statement}
-use Rattle.cursor.proofs.resume.Tie as tie
+use Rattle.cursor.proofs.to_list.Statement.{statement}
+use Rattle.cursor.proofs.to_list.Tie as tie
 
 -- the function's start, from where the loop lengths were found
 abbrev start : tie.After-prepare → tie.Start
@@ -39,5 +39,5 @@ returns c =
       loaded-kept (s .pre .0) (a .length .0) (s .pre .1 .0) _ _ same (a .list .now) m (put .load .ensures),
     )
 
-pub resume-spec : {M : Type 1} → statement M
-resume-spec = tie.close (tie.spec prepare-requires load-requires same-length returns)
+pub to-list-spec : {M : Type 1} → statement M
+to-list-spec = tie.close (tie.spec prepare-requires load-requires same-length returns)

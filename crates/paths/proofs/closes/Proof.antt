@@ -1,4 +1,4 @@
--- `following::closes` meets its contract. The loop's invariant, going down: whether there is a mark from place k on, and no
+-- `closes` meets its contract. The loop's invariant, going down: whether there is a mark from place k on, and no
 -- place from there on starts a loop.
 use Prim.Native.Nat.{ℕ, _-_}
 use mathlib.Core.Path.{_≡_, sym, _∙_, ap}
@@ -9,9 +9,9 @@ use borrow.Author.Needs.{needs}
 use Rattle.model.specs.Model.{graphOf}
 use Rattle.lasso.proofs.Walk.{path-states}
 use Rattle.model.proofs.Laws.{valid-sizes, valid-well-formed}
-use Rattle.finder.proofs.LoopTests.{markAt, Unclosed, unclosed-start, unclosed-unmarked, unclosed-apart, closed-here, unclosed-end}
-use Rattle.finder.proofs.following.closes.Statement.{statement}
-use Rattle.finder.proofs.following.closes.Tie as tie
+use Rattle.paths.proofs.LoopTests.{markAt, Unclosed, unclosed-start, unclosed-unmarked, unclosed-apart, closed-here, unclosed-end}
+use Rattle.paths.proofs.closes.Statement.{statement}
+use Rattle.paths.proofs.closes.Tie as tie
 
 abbrev Inv-loop : tie.InvT-loop
 Inv-loop file h list end last marked₀ k₀ marked k = Unclosed (graphOf file) list marked k

@@ -1,4 +1,4 @@
--- `following::is_path` meets its contract. The loop's invariant: the entry at place j is a state, and the list is a path
+-- `is_path` meets its contract. The loop's invariant: the entry at place j is a state, and the list is a path
 -- if it is one from there on.
 use Prim.Native.Nat.{_+_, _-_}
 use mathlib.Core.Path.{_≡_, sym, _∙_}
@@ -9,9 +9,9 @@ use lib.ListN.{length, getD}
 use Rattle.lasso.specs.Graph.{edgeb}
 use Rattle.model.specs.Model.{graphOf}
 use Rattle.model.proofs.Laws.{valid-sizes, valid-well-formed}
-use Rattle.finder.proofs.PathTests.{PathLeft, path-start, path-next, path-broken, path-done}
-use Rattle.finder.proofs.following.is_path.Statement.{statement}
-use Rattle.finder.proofs.following.is_path.Tie as tie
+use Rattle.paths.proofs.PathTests.{PathLeft, path-start, path-next, path-broken, path-done}
+use Rattle.paths.proofs.is_path.Statement.{statement}
+use Rattle.paths.proofs.is_path.Tie as tie
 
 abbrev Inv-loop : tie.InvT-loop
 Inv-loop file h list j₀ j = PathLeft (graphOf file) list j

@@ -1,4 +1,4 @@
--- `following::has_edge` meets its contract. The loop's invariant: the successors from place k on decide.
+-- `has_edge` meets its contract. The loop's invariant: the successors from place k on decide.
 use Prim.Native.Nat.{_-_, _≤_}
 use mathlib.Core.Path.{_≡_, refl, sym, _∙_, ap}
 use denote.Ref.{now}
@@ -9,9 +9,9 @@ use Rattle.lasso.specs.Lists.{memb}
 use Rattle.lasso.specs.Graph.{edgeb}
 use Rattle.model.specs.Bytes.{words}
 use Rattle.model.specs.Model.{graphOf}
-use Rattle.finder.proofs.PathTests.{memb-here, memb-past, memb-end}
-use Rattle.finder.proofs.following.has_edge.Statement.{statement}
-use Rattle.finder.proofs.following.has_edge.Tie as tie
+use Rattle.paths.proofs.PathTests.{memb-here, memb-past, memb-end}
+use Rattle.paths.proofs.has_edge.Statement.{statement}
+use Rattle.paths.proofs.has_edge.Tie as tie
 
 abbrev Inv-loop : tie.InvT-loop
 Inv-loop file s t part d k₀ k = (k ≤ d) × (memb t (words part) ≡ memb t (drop k (words part)))

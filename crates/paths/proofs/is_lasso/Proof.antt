@@ -1,4 +1,4 @@
--- `following::is_lasso` meets its contract: its three tests are those of a lasso of the length.
+-- `is_lasso` meets its contract: its three tests are those of a lasso of the length.
 use Prim.Native.Nat.{ℕ}
 use mathlib.Core.Path.{_≡_, sym, _∙_, ap}
 use mathlib.Core.Bool.{_&&_}
@@ -12,9 +12,9 @@ use Rattle.lasso.specs.Graph.{pathb}
 use Rattle.lasso.proofs.Tests.{parts}
 use Rattle.model.specs.Model.{graphOf}
 use Rattle.model.proofs.Laws.{valid-sizes}
-use Rattle.finder.proofs.LoopTests.{lassoOf-other, lassoOf-no-path, lassoOf-closes}
-use Rattle.finder.proofs.following.is_lasso.Statement.{statement}
-use Rattle.finder.proofs.following.is_lasso.Tie as tie
+use Rattle.paths.proofs.LoopTests.{lassoOf-other, lassoOf-no-path, lassoOf-closes}
+use Rattle.paths.proofs.is_lasso.Statement.{statement}
+use Rattle.paths.proofs.is_lasso.Tie as tie
 
 -- the function's start, from where the path was tested
 abbrev start : tie.After-is-path → tie.Start

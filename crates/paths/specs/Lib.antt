@@ -1,0 +1,1 @@
+-- The tests answer by the definitions of paths and lassos.
