@@ -17,7 +17,9 @@ use Rattle.model.specs.declared.Header.{Header}
 use Rattle.model.specs.Model.{graphOf}
 use Rattle.model.proofs.Laws.{valid-sizes}
 use Rattle.rounds.specs.Promises.{Ready}
-use Rattle.listing.specs.Promises.{StartLoops, Prepared, upTo, Advanced}
+use Rattle.listing.specs.LoopStarts.{StartLoops}
+use Rattle.listing.specs.Follow.{Prepared, upTo}
+use Rattle.listing.specs.Places.{Replaced}
 use Rattle.finder.proofs.LoadLaws.{loaded, loaded-list, loaded-after, loaded-length}
 
 module _ (g : Graph) (l : ℕ) (least : leastLength g ≡ some l) (xs : List ℕ) (m : List·Memᴰ xs (roll g)) where
@@ -75,7 +77,7 @@ module _ {f : List ℕ} {h : Header} {w : List ℕ} (ready : Ready f h w) (l : �
         };
       }
 
-module _ (g : Graph) (l : ℕ) (w w' : List ℕ) (r : Bool) (xs : List ℕ) (at : upTo g w l ≡ xs) (a : Advanced g l w w' r) where
+module _ (g : Graph) (l : ℕ) (w w' : List ℕ) (r : Bool) (xs : List ℕ) (at : upTo g w l ≡ xs) (a : Replaced g l w w' r) where
   -- no advance: nothing follows the list that was there
   pub advanced-none : r ≡ false → following xs (roll g) ≡ none
   advanced-none e = subst (λ (zs : List ℕ). following zs (roll g) ≡ none) at ((rw e at a) .0)

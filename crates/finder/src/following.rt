@@ -99,7 +99,8 @@ fn closes(file: &[u8], h: Header, list: &[u16]) -> bool
 // The list is a lasso of the given length.
 fn is_lasso(file: &[u8], h: Header, list: &[u16], length: Transitions) -> bool
     requires { ⌜ Valid (now file) h ⌝ }
-    ensures { λ r. ⌜ r ≡ (lassob (graphOf (now (file .entry))) (now (list .entry)) && eqb (edges (now (list .entry))) (length .0)) ⌝ }
+    ensures { λ r. ⌜ r
+        ≡ (lassob (graphOf (now (file .entry))) (now (list .entry)) && eqb (edges (now (list .entry))) (length .0)) ⌝ }
 {
     let entries = length.entries();
     let given = Entries(list.len());
@@ -137,8 +138,12 @@ fn next_list(
 ) -> NextAnswer
     requires { ⌜ Ready (now file) h (now work) ⌝ }
     requires { ⌜ leastLength (graphOf (now file)) ≡ some (length .0) ⌝ }
-    ensures outcome { λ r. ⌜ nextOutcomeOf r ≡ nextOutcome (now (file .entry)) (now (earlier .entry)) (lib.ListN.length (now (answer .entry))) (lib.ListN.length (now (work .entry))) ⌝ }
-    ensures answer { λ _. ⌜ now (answer .exit) ≡ nextAnswer (now (file .entry)) (now (earlier .entry)) (now (answer .entry)) (lib.ListN.length (now (work .entry))) ⌝ }
+    ensures outcome { λ r. ⌜ nextOutcomeOf r
+        ≡ nextOutcome (now (file .entry)) (now (earlier .entry)) (lib.ListN.length (now (answer .entry)))
+        (lib.ListN.length (now (work .entry))) ⌝ }
+    ensures answer { λ _. ⌜ now (answer .exit)
+        ≡ nextAnswer (now (file .entry)) (now (earlier .entry)) (now (answer .entry))
+        (lib.ListN.length (now (work .entry))) ⌝ }
     ensures kept { λ _. ⌜ lib.ListN.length (now (work .exit)) ≡ lib.ListN.length (now (work .entry)) ⌝ }
 {
     if !is_lasso(file, h, earlier, length) {

@@ -35,8 +35,11 @@ fn first_list(
     requires { ⌜ Ready (now file) h (now work) ⌝ }
     requires { ⌜ leastLength (graphOf (now file)) ≡ some (length .0) ⌝ }
     requires { ⌜ rounds ≡ lib.ListN.length (candidates (graphOf (now file))) ⌝ }
-    ensures outcome { λ r. ⌜ ((allowance : ℕ) → rounds ≤ allowance → searchOutcomeOf r ≡ searchOutcome (now (file .entry)) allowance (lib.ListN.length (now (answer .entry))) (lib.ListN.length (now (work .entry)))) ⌝ }
-    ensures answer { λ _. ⌜ ((allowance : ℕ) → rounds ≤ allowance → now (answer .exit) ≡ searchAnswer (now (file .entry)) allowance (now (answer .entry)) (lib.ListN.length (now (work .entry)))) ⌝ }
+    ensures outcome { λ r. ⌜ ((allowance : ℕ) → rounds ≤ allowance → searchOutcomeOf r
+        ≡ searchOutcome (now (file .entry)) allowance (lib.ListN.length (now (answer .entry)))
+        (lib.ListN.length (now (work .entry)))) ⌝ }
+    ensures answer { λ _. ⌜ ((allowance : ℕ) → rounds ≤ allowance → now (answer .exit)
+        ≡ searchAnswer (now (file .entry)) allowance (now (answer .entry)) (lib.ListN.length (now (work .entry)))) ⌝ }
     ensures kept { λ _. ⌜ lib.ListN.length (now (work .exit)) ≡ lib.ListN.length (now (work .entry)) ⌝ }
 {
     if 4096 < length.0 {

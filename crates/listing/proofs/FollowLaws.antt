@@ -22,9 +22,10 @@ use Rattle.lasso.proofs.Extend.{Ahead, MarkAhead, Passed, CompletesWithin, join
 use Rattle.spread.specs.Regions.{entry, entryOf}
 use Rattle.spread.specs.Through.{viaMark, loopLength}
 use Rattle.spread.proofs.ThroughLaws.{ViaMark, viaMark-least, loopLength-least}
-use Rattle.listing.specs.Promises.{startLoop, StartLoops, Decides}
+use Rattle.listing.specs.LoopStarts.{startLoop, StartLoops}
+use Rattle.listing.specs.Follow.{Decides, StartsAhead, ClosesMarked, ClosesStart}
 use Rattle.listing.proofs.StartLaws.{ClosedVia, startLoop-iff, loopLength-closed}
-use Rattle.listing.proofs.FollowTests.{StartsAhead, ClosesMarked, ClosesStart, decides-iff}
+use Rattle.listing.proofs.FollowTests.{decides-iff}
 use Rattle.listing.proofs.FollowLevels.{LevelsBelow, levels-entry, levels-value}
 
 -- a stem to s and a loop at s through a mark that have at most l edges together make s a loop's start

@@ -11,7 +11,6 @@ use lib.Seq.{length-take-le, getD-take}
 use lib.Dec.{T}
 use Rattle.lasso.specs.Graph.{Graph, pathb}
 use Rattle.lasso.specs.Distance.{dist}
-use Rattle.lasso.proofs.PlaceByPlace.{Extends}
 use Rattle.lasso.proofs.RollLaws.{leastLength-range}
 use Rattle.model.specs.declared.Header.{Header}
 use Rattle.model.specs.Model.{graphOf}
@@ -22,8 +21,8 @@ use Rattle.spread.specs.declared.Answer.{Answer}
 use Rattle.spread.specs.Promises.{SpreadFrom}
 use Rattle.spread.specs.Through.{markedSources, DistancesWithin}
 use Rattle.spread.proofs.SearchLaws.{spread-sameOutside}
-use Rattle.listing.specs.Promises.{StartLoops, Prepared, Decides, upTo}
-use Rattle.listing.proofs.FollowTests.{StartsAhead, ClosesMarked, ClosesStart}
+use Rattle.listing.specs.LoopStarts.{StartLoops}
+use Rattle.listing.specs.Follow.{Prepared, Decides, upTo, StatesTo, StartsAhead, ClosesMarked, ClosesStart, MayFollow}
 use Rattle.listing.proofs.FollowLevels.{LevelsBelow, distances-levels, marks-levels}
 use Rattle.listing.proofs.FollowLaws.{Beginning, Holds, place-state, starts-extends, marked-extends, closes-not-extends, closes-decides}
 
@@ -75,7 +74,7 @@ module _ {f : List ℕ} {h : Header} {w : List ℕ} {l place t : ℕ} (asked : A
       }
 
   -- after a search the states of the list are states
-  pub asked-states : (v : List ℕ) → SameOutside (2 * graphOf f .size) (6 * graphOf f .size) w v → (k : ℕ) → k ≤ place → getD (h .start ∷ v) k 0 < h .states
+  pub asked-states : (v : List ℕ) → SameOutside (2 * graphOf f .size) (6 * graphOf f .size) w v → StatesTo h v place
   asked-states v same k b =
       let S : Sizes f h = asked-sizes .2 in
       rw (S .start-is, S .states-are, list-same (graphOf f) w v same place (omega (arith, asked-sizes, asked .within)) k b) (place-state asked-beginning k b)
@@ -91,32 +90,32 @@ module _ {f : List ℕ} {h : Header} {w : List ℕ} {l place t : ℕ} (asked : A
     near = asked-holds v (D .outside) (distances-levels D)
 
     -- a loop start ahead: t may follow
-    pub starts-follows : StartsAhead (h .states) v (l - (place + 1)) → Extends (graphOf f) l (upTo (graphOf f) w place ++ t ∷ [])
+    pub starts-follows : StartsAhead (h .states) v (l - (place + 1)) → MayFollow (graphOf f) l w place t
     starts-follows x = starts-extends asked-beginning near (rw (asked-sizes .2 .states-are) at x)
 
     -- a loop start and a mark passed: t may follow
-    pub marked-follows : ClosesMarked (graphOf f) (h .states) (h .start) v place (l - (place + 1)) → Extends (graphOf f) l (upTo (graphOf f) w place ++ t ∷ [])
+    pub marked-follows : ClosesMarked (graphOf f) (h .states) (h .start) v place (l - (place + 1)) → MayFollow (graphOf f) l w place t
     marked-follows x = marked-extends asked-beginning near (rw (asked-sizes .2 .states-are, asked-sizes .2 .start-is) at x)
 
     -- what the search on from the marked states leaves, if its limit is that of the search from t and it has no target
-    abbrev Searched : List ℕ → Answer → Type 0
-    Searched u r = SpreadFrom (graphOf f) (markedSources (graphOf f) (l - (place + 1) + 1) v) (l - (place + 1) + 1) (h .states) v u r
+    abbrev SearchedOn : List ℕ → Answer → Type 0
+    SearchedOn u r = SpreadFrom (graphOf f) (markedSources (graphOf f) (l - (place + 1) + 1) v) (l - (place + 1) + 1) (h .states) v u r
 
     -- both searches change regions 2 to 5 only
-    pub searched-outside : (u : List ℕ) (r : Answer) → Searched u r → SameOutside (2 * graphOf f .size) (6 * graphOf f .size) w u
+    pub searched-outside : (u : List ℕ) (r : Answer) → SearchedOn u r → SameOutside (2 * graphOf f .size) (6 * graphOf f .size) w u
     searched-outside u r sp =
         sameOutside-trans (D .outside) (spread-sameOutside (graphOf f) (markedSources (graphOf f) (l - (place + 1) + 1) v) (l - (place + 1) + 1) (h .states) r sp)
 
     -- when both are ruled out
     module _ (no-start : StartsAhead (h .states) v (l - (place + 1)) → ⊥) (no-mark : ClosesMarked (graphOf f) (h .states) (h .start) v place (l - (place + 1)) → ⊥) where
       -- no state of the list that can start the loop is near enough: t may not follow
-      pub far-not-follows : (ClosesStart (h .states) (h .start) v place (l - (place + 1)) → ⊥) → Extends (graphOf f) l (upTo (graphOf f) w place ++ t ∷ []) → ⊥
+      pub far-not-follows : (ClosesStart (h .states) (h .start) v place (l - (place + 1)) → ⊥) → MayFollow (graphOf f) l w place t → ⊥
       far-not-follows far =
           let S : Sizes f h = asked-sizes .2 in
           closes-not-extends asked-beginning near (rw (S .states-are) at no-start) (rw (S .states-are, S .start-is) at no-mark) (rw (S .states-are, S .start-is) at far)
 
       -- the search on from the marked states decides whether t may follow
-      pub via-decides : (u : List ℕ) (r : Answer) → Searched u r → (b : Bool) → Decides (ClosesStart (h .states) (h .start) u place (l - (place + 1))) b → Decides (Extends (graphOf f) l (upTo (graphOf f) w place ++ t ∷ [])) b
+      pub via-decides : (u : List ℕ) (r : Answer) → SearchedOn u r → (b : Bool) → Decides (ClosesStart (h .states) (h .start) u place (l - (place + 1))) b → Decides (MayFollow (graphOf f) l w place t) b
       via-decides u r sp b known =
           let S : Sizes f h = asked-sizes .2 in
           let levels = marks-levels D (asked-beginning .well-formed) u r (rw (S .states-are) at sp) in

@@ -1,5 +1,5 @@
--- What the three tests of a next state look for, by states and places, and the entries that they read.
-use Prim.Native.Nat.{ℕ, zero, suc, _+_, _*_, _-_, _≤_, _<_}
+-- The entries that the three tests of a next state read, and the marks of the list from a place on.
+use Prim.Native.Nat.{ℕ, zero, suc, _+_, _*_, _-_, _≤_}
 use mathlib.Core.Path.{_≡_, _∙_, ap}
 use mathlib.Core.Logic.{inl, inr}
 use mathlib.Core.Bool.{Bool, true, false}
@@ -10,22 +10,7 @@ use lib.Dec.{T}
 use Rattle.lasso.specs.Graph.{Graph}
 use Rattle.lasso.proofs.Tests.{lt-or-ge}
 use Rattle.spread.specs.Regions.{entry}
-use Rattle.listing.specs.Promises.{Decides}
-
--- a state that can start the loop is reached soon enough: b is the length of its loop, a the way to it
-abbrev pub StartsAhead : ℕ → List ℕ → ℕ → Type 0
-StartsAhead n w left =
-    (s : ℕ) × (a : ℕ) × (b : ℕ) × (s < n) × (entry 1 n w s ≡ suc b) × (entry 2 n w s ≡ suc a) × (a + b ≤ left)
-
--- the state at a place k of the list is reached soon enough, and the one at a place r from k on is marked
-abbrev pub ClosesMarked : Graph → ℕ → ℕ → List ℕ → ℕ → ℕ → Type 0
-ClosesMarked g n start w place left =
-    (k : ℕ) × (r : ℕ) × (a : ℕ) × (k ≤ r) × (r ≤ place) × T (g .marked (getD (start ∷ w) r 0)) × (entry 2 n w (getD (start ∷ w) k 0) ≡ suc a) × (a ≤ left)
-
--- the state at a place k of the list can start the loop and is reached soon enough
-abbrev pub ClosesStart : ℕ → ℕ → List ℕ → ℕ → ℕ → Type 0
-ClosesStart n start w place left =
-    (k : ℕ) × (a : ℕ) × (k ≤ place) × (1 ≤ entry 1 n w (getD (start ∷ w) k 0)) × (entry 2 n w (getD (start ∷ w) k 0) ≡ suc a) × (a ≤ left)
+use Rattle.listing.specs.Follow.{Decides}
 
 -- the states of the list from place 1 on are the table's entries from 0 on
 pub list-place : (start : ℕ) (w : List ℕ) (i : ℕ) → 1 ≤ i → getD (start ∷ w) i 0 ≡ getD w (i - 1) 0

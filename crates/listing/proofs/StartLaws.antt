@@ -17,7 +17,7 @@ use Rattle.lasso.proofs.RollLaws.{leastLength-le}
 use Rattle.spread.specs.Through.{loopLength}
 use Rattle.spread.proofs.UnderLaws.{under-some, some-under}
 use Rattle.spread.proofs.ThroughLaws.{ViaMark, loopLength-least}
-use Rattle.listing.specs.Promises.{loopWithin, startLoop}
+use Rattle.listing.specs.LoopStarts.{loopWithin, startLoop}
 
 -- k is the length of a closed walk from x through a mark
 abbrev pub ClosedVia : Graph → ℕ → ℕ → Type 0

@@ -12,7 +12,7 @@ use Rattle.spread.specs.Regions.{entryOf}
 use Rattle.spread.specs.Hit.{under}
 use Rattle.spread.specs.Through.{loopLength}
 use Rattle.rounds.specs.Promises.{StartDistances}
-use Rattle.listing.specs.Promises.{startLoop}
+use Rattle.listing.specs.LoopStarts.{startLoop}
 use Rattle.listing.proofs.StartLaws.{loopLength-closed, dist-state, startLoop-iff}
 
 -- what region 0 holds for a state is the entry of its distance from the initial state

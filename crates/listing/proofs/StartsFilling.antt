@@ -8,8 +8,7 @@ use mathlib.Core.Option.{some}
 use native.Mathlib.Omega.{arith}
 use lib.ListN.{length, getD, set}
 use lib.Seq.{getD-set-same, getD-set-other}
-use lib.Dec.{T}
-use Rattle.lasso.specs.Graph.{Graph, WellFormed, edgeb}
+use Rattle.lasso.specs.Graph.{Graph, WellFormed}
 use Rattle.lasso.specs.Roll.{leastLength}
 use Rattle.lasso.proofs.Tests.{lt-or-ge}
 use Rattle.model.specs.declared.Header.{Header}
@@ -18,7 +17,8 @@ use Rattle.table.specs.Changes.{SameOutside}
 use Rattle.table.proofs.Laws.{sameOutside-refl, sameOutside-widen, sameOutside-trans, sameOutside-set}
 use Rattle.spread.specs.Regions.{entryOf}
 use Rattle.rounds.specs.Promises.{StartDistances, Ready}
-use Rattle.listing.specs.Promises.{startLoop, StartLoops}
+use Rattle.listing.specs.LoopStarts.{startLoop, StartLoops}
+use Rattle.listing.specs.Flags.{FlagsStarts}
 use Rattle.listing.proofs.StartLaws.{dist-state, startLoop-entered}
 use Rattle.listing.proofs.StartsEntries.{start-distance, none-entryOf}
 
@@ -30,16 +30,15 @@ pub record Filling (g : Graph) (l i n : ℕ) (v w : List ℕ) : Type 0 where
 
 -- each state is flagged that an edge enters from a reached state no nearer to the initial state: the others start no loop
 pub flags-start : {g : Graph} {l n : ℕ} {v w : List ℕ} → WellFormed g → leastLength g ≡ some l → StartDistances g v
-    → ((u t : ℕ) → T (edgeb g u t) → 1 ≤ getD v u 0 → getD v t 0 ≤ getD v u 0 → 1 ≤ getD w (n + t) 0)
-    → Filling g l 0 n w w
-flags-start {g} {l} {n} {v} {w} wf least at flagged = record {
+    → FlagsStarts g n v w → Filling g l 0 n w w
+flags-start {g} {l} {n} {v} {w} wf least at flags = record {
   same = sameOutside-refl n (6 * n) w;
   done = λ s h. absurd (omega arith);
   left = λ s h k z. none-entryOf (startLoop g l s) (λ b q.
       let (u, d, e, edge, to-u, to-s, le) = startLoop-entered wf l s b least q in
       let from : getD v u 0 ≡ suc e = start-distance at u (dist-state wf to-u) ∙ ap entryOf to-u in
       let to : getD v s 0 ≡ suc d = start-distance at s (dist-state wf to-s) ∙ ap entryOf to-s in
-      omega (arith, flagged u s edge (omega arith) (omega arith)));
+      omega (arith, flags .flagged u s (omega arith) (record { edge = edge; low = omega arith })));
 }
 
 -- one more state: its entry is stored, after a change of the regions behind

@@ -17,12 +17,7 @@ use Rattle.model.specs.Model.{graphOf}
 use Rattle.model.proofs.Laws.{valid-sizes, valid-well-formed}
 use Rattle.table.specs.Changes.{SameOutside}
 use Rattle.table.proofs.Laws.{sameOutside-refl, sameOutside-trans, set-sameOutside}
-
--- region 1 alone changed, no entry became nothing, and each state with the property is flagged
-pub record Flagging (n : ℕ) (P : ℕ → Type 0) (w w' : List ℕ) : Type 0 where
-  pub same : SameOutside n (2 * n) w w'
-  pub kept : (i : ℕ) → 1 ≤ getD w i 0 → 1 ≤ getD w' i 0
-  pub flagged : (t : ℕ) → P t → 1 ≤ getD w' (n + t) 0
+use Rattle.listing.specs.Flags.{LowEdge, Flagging, FlagsRow, FlagsStarts}
 
 -- where no state has the property, nothing has to change
 pub flagging-none : {P : ℕ → Type 0} (n : ℕ) (w : List ℕ) → ((t : ℕ) → P t → ⊥) → Flagging n P w w
@@ -92,14 +87,9 @@ row-state {f} {ss} {t = t} u k valid row l e =
     let edge : T (edgeb (graphOf f) u t) = rw (e, ← row) (at-memb ss k l) in
     omega (arith, valid-well-formed valid .edge-states u t edge, valid-sizes valid .states-are)
 
--- an edge enters t from u, whose entry in region 0 is no less than that of t
-pub record LowEdge (g : Graph) (w : List ℕ) (u t : ℕ) : Type 0 where
-  pub edge : T (edgeb g u t)
-  pub low : getD w t 0 ≤ getD w u 0
-
 -- a state's row is done: each successor whose entry is no greater is flagged
 pub row-flagged : {ss w w' : List ℕ} {n d k : ℕ} (g : Graph) (u : ℕ) → ss ≡ g .succs u → length ss ≤ k → d ≡ getD w u 0
-    → Flagging n (LowBefore ss w d k) w w' → Flagging n (LowEdge g w u) w w'
+    → Flagging n (LowBefore ss w d k) w w' → FlagsRow g n u w w'
 row-flagged {ss} g u row long e a =
     flagging-by (λ t l.
     let (j, h, q) = memb-at t ss (rw row (l .edge)) in
@@ -125,7 +115,7 @@ entered-last {g} {w} {i} {t} l =
 
 -- one more state: its row is flagged
 pub entered-row : {g : Graph} {n i : ℕ} {v w w' : List ℕ} → WellFormed g → n ≡ g .size
-    → Flagging n (EnteredBefore g v i) v w → Flagging n (LowEdge g w i) w w' → Flagging n (EnteredBefore g v (i + 1)) v w'
+    → Flagging n (EnteredBefore g v i) v w → FlagsRow g n i w w' → Flagging n (EnteredBefore g v (i + 1)) v w'
 entered-row {g} {n} {i} {v} {w} wf size a b =
     flagging-by (λ t l. elim (entered-last l) [ inl e ↦ inl e | inr (r, e) ↦ inr (later t e) ]) (flagging-or a b)
   where
@@ -143,17 +133,19 @@ entered-pass {i = i} h none a =
       | inr (r, e) ↦ absurd (omega (arith, a .same .same-before i h))
     ]) a
 
--- all states are done: each state is flagged that an edge enters from a reached state whose entry is no less
+-- all states are done, and region 1 alone changed before: the states that may start the loop are flagged
 pub all-flagged : {g : Graph} {n i : ℕ} {v w w' : List ℕ} → WellFormed g → n ≡ g .size → n ≤ i → SameOutside n (2 * n) v w
-    → Flagging n (EnteredBefore g w i) w w'
-    → (u t : ℕ) → T (edgeb g u t) → 1 ≤ getD v u 0 → getD v t 0 ≤ getD v u 0 → 1 ≤ getD w' (n + t) 0
-all-flagged {g} {n} {i} wf size all same a u t e reached low =
-    let states : (u < g .size) × (t < g .size) = wf .edge-states u t e in
-    let from = same .same-before u (omega arith) in
-    let to = same .same-before t (omega arith) in
-    a .flagged t (record {
-      from = u;
-      before = omega arith;
-      reached = omega arith;
-      entering = record { edge = e; low = omega arith };
-    })
+    → Flagging n (EnteredBefore g w i) w w' → FlagsStarts g n v w'
+all-flagged {g} {n} {i} wf size all same a = record {
+  same = sameOutside-trans same (a .same);
+  flagged = λ u t reached e.
+      let states : (u < g .size) × (t < g .size) = wf .edge-states u t (e .edge) in
+      let from = same .same-before u (omega arith) in
+      let to = same .same-before t (omega arith) in
+      a .flagged t (record {
+        from = u;
+        before = omega arith;
+        reached = omega arith;
+        entering = record { edge = e .edge; low = omega (arith, e .low) };
+      });
+}

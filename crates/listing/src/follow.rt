@@ -1,16 +1,15 @@
 // Which state may stand at the next place of the list.
 ghost use mathlib.Core.Path.{_≡_};
 ghost use mathlib.Core.List.{[], _∷_, _++_};
-ghost use Prim.Native.Nat.{ℕ, suc, _+_, _*_, _≤_, _<_};
-ghost use lib.ListN.{length, getD};
+ghost use Prim.Native.Nat.{_*_, _≤_, _<_};
+ghost use lib.ListN.{length};
 ghost use lib.Dec.{T};
 ghost use Rattle.lasso.specs.Graph.{pathb};
-ghost use Rattle.lasso.proofs.PlaceByPlace.{Extends};
 ghost use Rattle.model.specs.Model.{graphOf};
 ghost use Rattle.model.specs.Values.{Valid};
-ghost use Rattle.spread.specs.Regions.{entry};
 ghost use Rattle.table.specs.Changes.{SameOutside};
-ghost use Rattle.listing.specs.Promises.{Prepared, Decides, upTo};
+ghost use Rattle.listing.specs.Follow.{upTo, stateAt, StatesTo, Prepared, Decides};
+ghost use Rattle.listing.specs.Follow.{StartsAhead, ClosesMarked, ClosesStart, MayFollow};
 use lasso::Transitions;
 use model::Header;
 use model::is_marked;
@@ -21,7 +20,7 @@ use table::get;
 // The state at a place of the list.
 pub fn list_at(h: Header, work: &[u16], place: usize) -> usize
     requires { ⌜ place ≤ length (now work) ⌝ }
-    ensures { λ r. ⌜ r ≡ getD (h .start ∷ now (work .entry)) place 0 ⌝ }
+    ensures { λ r. ⌜ r ≡ stateAt h (now (work .entry)) place ⌝ }
 {
     if place == 0 {
         return h.start;
@@ -33,7 +32,7 @@ pub fn list_at(h: Header, work: &[u16], place: usize) -> usize
 fn starts_ahead(work: &[u16], n: usize, left: usize) -> bool
     requires { ⌜ 3 * n ≤ length (now work) ⌝ }
     requires { ⌜ left ≤ n ⌝ }
-    ensures { λ r. ⌜ Decides ((s : ℕ) × (a : ℕ) × (b : ℕ) × (s < n) × (entry 1 n (now (work .entry)) s ≡ suc b) × (entry 2 n (now (work .entry)) s ≡ suc a) × (a + b ≤ left)) r ⌝ }
+    ensures { λ r. ⌜ Decides (StartsAhead n (now (work .entry)) left) r ⌝ }
 {
     let mut s = 0;
     while s < n {
@@ -57,8 +56,9 @@ fn closes_marked(file: &[u8], h: Header, work: &[u16], place: usize, left: usize
     requires { ⌜ 3 * h .states ≤ length (now work) ⌝ }
     requires { ⌜ place < h .states ⌝ }
     requires { ⌜ left ≤ h .states ⌝ }
-    requires { ⌜ ((k : ℕ) → k ≤ place → getD (h .start ∷ now work) k 0 < h .states) ⌝ }
-    ensures { λ b. ⌜ Decides ((k : ℕ) × (r : ℕ) × (a : ℕ) × (k ≤ r) × (r ≤ place) × T (graphOf (now (file .entry)) .marked (getD (h .start ∷ now (work .entry)) r 0)) × (entry 2 (h .states) (now (work .entry)) (getD (h .start ∷ now (work .entry)) k 0) ≡ suc a) × (a ≤ left)) b ⌝ }
+    requires { ⌜ StatesTo h (now work) place ⌝ }
+    ensures { λ b. ⌜ Decides
+        (ClosesMarked (graphOf (now (file .entry))) (h .states) (h .start) (now (work .entry)) place left) b ⌝ }
 {
     let n = h.states;
     let mut marked = false;
@@ -86,8 +86,8 @@ fn closes_start(h: Header, work: &[u16], place: usize, left: usize) -> bool
     requires { ⌜ 3 * h .states ≤ length (now work) ⌝ }
     requires { ⌜ place < h .states ⌝ }
     requires { ⌜ left ≤ h .states ⌝ }
-    requires { ⌜ ((k : ℕ) → k ≤ place → getD (h .start ∷ now work) k 0 < h .states) ⌝ }
-    ensures { λ b. ⌜ Decides ((k : ℕ) × (a : ℕ) × (k ≤ place) × (1 ≤ entry 1 (h .states) (now (work .entry)) (getD (h .start ∷ now (work .entry)) k 0)) × (entry 2 (h .states) (now (work .entry)) (getD (h .start ∷ now (work .entry)) k 0) ≡ suc a) × (a ≤ left)) b ⌝ }
+    requires { ⌜ StatesTo h (now work) place ⌝ }
+    ensures { λ b. ⌜ Decides (ClosesStart (h .states) (h .start) (now (work .entry)) place left) b ⌝ }
 {
     let n = h.states;
     let mut k = 0;
@@ -120,7 +120,7 @@ pub fn may_follow(
     requires { ⌜ place < length .0 ⌝ }
     requires { ⌜ t < h .states ⌝ }
     requires { ⌜ T (pathb (graphOf (now file)) (upTo (graphOf (now file)) (now work) place ++ t ∷ [])) ⌝ }
-    ensures { λ r. ⌜ Decides (Extends (graphOf (now (file .entry))) (length .0) (upTo (graphOf (now (file .entry))) (now (work .entry)) place ++ t ∷ [])) r ⌝ }
+    ensures { λ r. ⌜ Decides (MayFollow (graphOf (now (file .entry))) (length .0) (now (work .entry)) place t) r ⌝ }
     ensures same { λ r. ⌜ SameOutside (2 * h .states) (6 * h .states) (now (work .entry)) (now (work .exit)) ⌝ }
 {
     let n = h.states;

@@ -1,17 +1,16 @@
 // Which states can start the loop of a shortest lasso, and the length of that loop.
 ghost use mathlib.Core.Path.{_≡_};
 ghost use mathlib.Core.Option.{some};
-ghost use Prim.Native.Nat.{ℕ, _+_, _*_, _≤_, _<_};
-ghost use lib.ListN.{length, getD};
-ghost use lib.Dec.{T};
-ghost use Rattle.lasso.specs.Graph.{edgeb};
+ghost use Prim.Native.Nat.{_*_, _≤_, _<_};
+ghost use lib.ListN.{length};
 ghost use Rattle.lasso.specs.Roll.{leastLength};
 ghost use Rattle.model.specs.Values.{Valid};
 ghost use Rattle.model.specs.Model.{graphOf};
 ghost use Rattle.table.specs.Changes.{SameOutside};
 ghost use Rattle.spread.specs.Regions.{entryOf};
 ghost use Rattle.rounds.specs.Promises.{Ready};
-ghost use Rattle.listing.specs.Promises.{startLoop, StartLoops};
+ghost use Rattle.listing.specs.LoopStarts.{startLoop, StartLoops};
+ghost use Rattle.listing.specs.Flags.{FlagsRow, FlagsStarts};
 use lasso::Transitions;
 use model::Header;
 use model::degree;
@@ -28,9 +27,7 @@ fn flag_row(file: &[u8], h: Header, work: &mut [u16], u: usize)
     requires { ⌜ Valid (now file) h ⌝ }
     requires { ⌜ 2 * h .states ≤ length (now work) ⌝ }
     requires { ⌜ u < h .states ⌝ }
-    ensures same { λ _. ⌜ SameOutside (h .states) (2 * h .states) (now (work .entry)) (now (work .exit)) ⌝ }
-    ensures kept { λ _. ⌜ ((i : ℕ) → 1 ≤ getD (now (work .entry)) i 0 → 1 ≤ getD (now (work .exit)) i 0) ⌝ }
-    ensures flagged { λ _. ⌜ ((t : ℕ) → T (edgeb (graphOf (now (file .entry))) u t) → getD (now (work .entry)) t 0 ≤ getD (now (work .entry)) u 0 → 1 ≤ getD (now (work .exit)) (h .states + t) 0) ⌝ }
+    ensures { λ _. ⌜ FlagsRow (graphOf (now (file .entry))) (h .states) u (now (work .entry)) (now (work .exit)) ⌝ }
 {
     let n = h.states;
     let distance = get(work, u);
@@ -51,8 +48,7 @@ fn flag_row(file: &[u8], h: Header, work: &mut [u16], u: usize)
 fn flag_starts(file: &[u8], h: Header, work: &mut [u16])
     requires { ⌜ Valid (now file) h ⌝ }
     requires { ⌜ 2 * h .states ≤ length (now work) ⌝ }
-    ensures same { λ _. ⌜ SameOutside (h .states) (2 * h .states) (now (work .entry)) (now (work .exit)) ⌝ }
-    ensures flagged { λ _. ⌜ ((u t : ℕ) → T (edgeb (graphOf (now (file .entry))) u t) → 1 ≤ getD (now (work .entry)) u 0 → getD (now (work .entry)) t 0 ≤ getD (now (work .entry)) u 0 → 1 ≤ getD (now (work .exit)) (h .states + t) 0) ⌝ }
+    ensures { λ _. ⌜ FlagsStarts (graphOf (now (file .entry))) (h .states) (now (work .entry)) (now (work .exit)) ⌝ }
 {
     let n = h.states;
     clear(work, n, 2 * n);

@@ -2,8 +2,9 @@
 ghost use mathlib.Core.Path.{_≡_};
 ghost use mathlib.Core.List.{_∷_, _++_};
 ghost use Prim.Native.Nat.{_+_, _≤_, _<_};
-ghost use lib.ListN.{length, take, drop};
+ghost use lib.ListN.{length, drop};
 ghost use Rattle.lasso.specs.Graph.{loopStart};
+ghost use Rattle.listing.specs.Writing.{listIn, overFront};
 use crate::follow::list_at;
 use lasso::Entries;
 use lasso::Transitions;
@@ -12,7 +13,7 @@ use model::Header;
 // The place where the loop starts: the first place that holds the last state.
 fn loop_start(h: Header, work: &[u16], length: Transitions) -> usize
     requires { ⌜ length .0 ≤ lib.ListN.length (now work) ⌝ }
-    ensures { λ k. ⌜ (k ≡ loopStart (h .start ∷ take (length .0) (now (work .entry)))) × (k ≤ length .0) ⌝ }
+    ensures { λ k. ⌜ (k ≡ loopStart (listIn h (now (work .entry)) (length .0))) × (k ≤ length .0) ⌝ }
 {
     let end = length.number();
     let last = list_at(h, work, end);
@@ -28,7 +29,8 @@ fn write_part(h: Header, work: &[u16], from: usize, entries: Entries, part: &mut
     requires { ⌜ from + entries .0 ≤ length (now work) + 1 ⌝ }
     requires { ⌜ entries .0 ≤ length (now part) ⌝ }
     requires { ⌜ h .start < 65536 ⌝ }
-    ensures { λ _. ⌜ now (part .exit) ≡ take (entries .0) (drop from (h .start ∷ now (work .entry))) ++ drop (entries .0) (now (part .entry)) ⌝ }
+    ensures { λ _. ⌜ now (part .exit)
+        ≡ overFront (entries .0) (drop from (h .start ∷ now (work .entry))) (now (part .entry)) ⌝ }
 {
     let mut i = 0;
     while i < entries.0 {
@@ -42,8 +44,9 @@ pub fn write_list(h: Header, work: &[u16], length: Transitions, answer: &mut [u1
     requires { ⌜ length .0 ≤ lib.ListN.length (now work) ⌝ }
     requires { ⌜ length .0 < lib.ListN.length (now answer) ⌝ }
     requires { ⌜ h .start < 65536 ⌝ }
-    ensures start { λ k. ⌜ (k ≡ loopStart (h .start ∷ take (length .0) (now (work .entry)))) × (k ≤ length .0) ⌝ }
-    ensures list { λ k. ⌜ now (answer .exit) ≡ (h .start ∷ take (length .0) (now (work .entry))) ++ drop (length .0 + 1) (now (answer .entry)) ⌝ }
+    ensures start { λ k. ⌜ (k ≡ loopStart (listIn h (now (work .entry)) (length .0))) × (k ≤ length .0) ⌝ }
+    ensures list { λ k. ⌜ now (answer .exit)
+        ≡ listIn h (now (work .entry)) (length .0) ++ drop (length .0 + 1) (now (answer .entry)) ⌝ }
 {
     let k = loop_start(h, work, length);
     let entries = length.entries();

@@ -12,7 +12,8 @@ use Rattle.lasso.specs.Roll.{roll}
 use Rattle.lasso.specs.Following.{following}
 use Rattle.lasso.proofs.OrderLaws.{getD-mem, head-at, following-at}
 use Rattle.lasso.proofs.RollLaws.{roll-strict}
-use Rattle.listing.specs.Promises.{upTo, Advanced}
+use Rattle.listing.specs.Follow.{upTo}
+use Rattle.listing.specs.Places.{Replaced}
 
 -- the list in region 0 is the one at a place of the roll
 pub record Stands (g : Graph) (l : ℕ) (w : List ℕ) (place : ℕ) : Type 0 where
@@ -60,12 +61,12 @@ pub stands-last : {g : Graph} {l place : ℕ} {w : List ℕ} → Stands g l w pl
 stands-last {g} {l} {place} s e = omega (arith, s .place-in, none-at (roll g) (suc place) (sym (follows-at s) ∙ e))
 
 -- the list was not replaced: none follows
-pub advanced-none : (g : Graph) (l : ℕ) (w w' : List ℕ) (b : Bool) → Advanced g l w w' b → not b ≡ true → following (upTo g w l) (roll g) ≡ none
+pub advanced-none : (g : Graph) (l : ℕ) (w w' : List ℕ) (b : Bool) → Replaced g l w w' b → not b ≡ true → following (upTo g w l) (roll g) ≡ none
 advanced-none g l w w' true a e = let z : _≡_ {A = ℕ} 0 1 = cc in absurd (omega arith)
 advanced-none g l w w' false a e = a .0
 
 -- the list was replaced by the one that follows
-pub advanced-some : (g : Graph) (l : ℕ) (w w' : List ℕ) (b : Bool) → Advanced g l w w' b → not b ≡ false
+pub advanced-some : (g : Graph) (l : ℕ) (w w' : List ℕ) (b : Bool) → Replaced g l w w' b → not b ≡ false
     → following (upTo g w l) (roll g) ≡ some (upTo g w' l)
 advanced-some g l w w' true a e = a
 advanced-some g l w w' false a e = let z : _≡_ {A = ℕ} 0 1 = cc in absurd (omega arith)

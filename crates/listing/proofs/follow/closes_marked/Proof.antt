@@ -9,7 +9,7 @@ use native.Mathlib.Omega.{arith}
 use lib.ListN.{getD}
 use Rattle.model.specs.Model.{graphOf}
 use Rattle.spread.specs.Regions.{entry}
-use Rattle.listing.specs.Promises.{Decides}
+use Rattle.listing.specs.Follow.{Decides}
 use Rattle.listing.proofs.FollowTests.{MarkFrom, markFrom-here, markFrom-skip, from-more, read-two}
 use Rattle.listing.proofs.follow.closes_marked.Statement.{statement}
 use Rattle.listing.proofs.follow.closes_marked.Tie as tie

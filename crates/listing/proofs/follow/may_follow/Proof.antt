@@ -1,15 +1,15 @@
 -- `may_follow` meets its contract. After the search from t each test that is passed completes the list, and what is left
 -- when the first two fail is decided by the search on from the marked states.
 use Prim.Native.Nat.{ℕ, _+_, _*_, _-_, _≤_, _<_}
-use mathlib.Core.List.{List, _∷_}
+use mathlib.Core.List.{List}
 use native.Mathlib.Omega.{arith}
-use lib.ListN.{length, getD}
+use lib.ListN.{length}
 use borrow.Author.Tests.{not-true}
 use borrow.Author.Needs.{needs}
 use Rattle.model.specs.Model.{graphOf}
 use Rattle.table.specs.Changes.{SameOutside}
 use Rattle.spread.specs.Through.{DistancesWithin}
-use Rattle.listing.proofs.FollowTests.{StartsAhead, ClosesMarked}
+use Rattle.listing.specs.Follow.{StatesTo, StartsAhead, ClosesMarked}
 use Rattle.listing.proofs.FollowTable.{Asked, asked-sizes, asked-states, asked-same, starts-follows, marked-follows, far-not-follows, searched-outside, via-decides}
 use Rattle.listing.proofs.follow.may_follow.Statement.{statement}
 use Rattle.listing.proofs.follow.may_follow.Tie as tie
@@ -48,7 +48,7 @@ room c = omega (arith, asked-sizes (asked (measured c)), asked (measured c) .wit
 
 -- the states of the list are states
 states : (c : tie.After-distances) → let a = entered c .args in
-    (k : ℕ) → k ≤ a .place → getD (a .h .start ∷ searched c) k 0 < a .h .states
+    StatesTo (a .h) (searched c) (a .place)
 states c = asked-states (asked (measured c)) (searched c) (distances-left c .outside)
 
 -- the place after the first search, from the place where the loop start ahead is ruled out

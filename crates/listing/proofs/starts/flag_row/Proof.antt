@@ -9,7 +9,8 @@ use borrow.Author.Tests.{leb-false}
 use borrow.Author.Needs.{needs}
 use Rattle.model.specs.Model.{graphOf}
 use Rattle.model.specs.Bytes.{words}
-use Rattle.listing.proofs.StartsFlags.{Flagging, LowBefore, flagging-none, low-put, low-pass, row-state, row-flagged}
+use Rattle.listing.specs.Flags.{Flagging}
+use Rattle.listing.proofs.StartsFlags.{LowBefore, flagging-none, low-put, low-pass, row-state, row-flagged}
 use Rattle.listing.proofs.starts.flag_row.Statement.{statement}
 use Rattle.listing.proofs.starts.flag_row.Tie as tie
 
@@ -87,8 +88,7 @@ returns c =
     let s = start (c .before) in
     let row = c .before .before .before .row-part .ensures in
     let d = c .before .before .before .before .get .ensures .0 in
-    let done = row-flagged (graphOf (s .args .file .now)) (s .args .u) row (omega (arith, c .before .before .degree .ensures)) d (c .before .loop .inv .1) in
-    (done .same, (done .kept, λ t e low. done .flagged t (record { edge = e; low = low })))
+    row-flagged (graphOf (s .args .file .now)) (s .args .u) row (omega (arith, c .before .before .degree .ensures)) d (c .before .loop .inv .1)
 
 pub flag-row-spec : {M : Type 1} → statement M
 flag-row-spec =

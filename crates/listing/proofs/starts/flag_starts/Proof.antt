@@ -8,8 +8,8 @@ use borrow.Author.Tests.{eqb-true}
 use Rattle.model.specs.Model.{graphOf}
 use Rattle.model.proofs.Laws.{valid-sizes, valid-well-formed}
 use Rattle.table.specs.Changes.{Cleared}
-use Rattle.table.proofs.Laws.{sameOutside-trans}
-use Rattle.listing.proofs.StartsFlags.{Flagging, EnteredBefore, LowEdge, flagging-none, entered-row, entered-pass, all-flagged}
+use Rattle.listing.specs.Flags.{Flagging, FlagsRow}
+use Rattle.listing.proofs.StartsFlags.{EnteredBefore, flagging-none, entered-row, entered-pass, all-flagged}
 use Rattle.listing.proofs.starts.flag_starts.Statement.{statement}
 use Rattle.listing.proofs.starts.flag_starts.Tie as tie
 
@@ -37,8 +37,8 @@ state-passed c =
     elim (c .if1 .came) [
       | inl w ↦
           let e = w .5 in
-          let row : Flagging (s .args .h .states) (LowEdge (graphOf (s .args .file .now)) (l .loop .work) (l .loop .u)) (l .loop .work) (c .if1 .work) =
-          rw e (record { same = w .2 .ensures .0; kept = w .2 .ensures .1 .0; flagged = λ t q. w .2 .ensures .1 .1 t (q .edge) (q .low) }) in
+          let row : FlagsRow (graphOf (s .args .file .now)) (s .args .h .states) (l .loop .u) (l .loop .work) (c .if1 .work) =
+          rw e (w .2 .ensures) in
           entered-row (valid-well-formed (s .pre .0)) (valid-sizes (s .pre .0) .states-are) (l .loop .inv .1) row
       | inr w ↦
           let e : c .if1 .work ≡ l .loop .work = w .1 in
@@ -76,10 +76,7 @@ returns : tie.Need-returns Inv-loop μ-loop
 returns c =
     let s = start (c .before) in
     let size = valid-sizes (s .pre .0) .states-are in
-    let same = cleared (c .before) .others in (
-      sameOutside-trans same (c .before .loop .inv .1 .same),
-      all-flagged (valid-well-formed (s .pre .0)) size (omega arith) same (c .before .loop .inv .1),
-    )
+    all-flagged (valid-well-formed (s .pre .0)) size (omega arith) (cleared (c .before) .others) (c .before .loop .inv .1)
 
 pub flag-starts-spec : {M : Type 1} → statement M
 flag-starts-spec =

@@ -28,7 +28,7 @@ start c = c .before .before .before .before .before .before .before
 changed : (c : tie.At-loop Inv-loop μ-loop) → SameOutside (start c .args .h .states) (6 * start c .args .h .states) (start c .args .work .now) (c .loop .work)
 changed c =
     let n = start c .args .h .states in
-    let flags = c .before .before .before .flag-starts .ensures .0 in
+    let flags = c .before .before .before .flag-starts .ensures .same in
     sameOutside-trans (sameOutside-widen n (6 * n) (omega arith) (omega arith) flags) (c .loop .inv .1 .same)
 
 -- the table stays ready
@@ -66,7 +66,7 @@ flag-starts-requires c κs =
 loop-holds : tie.Need-loop-holds Inv-loop μ-loop
 loop-holds c =
     let s = c .before .before .before .before .before .before in
-    (omega arith, flags-start (valid-well-formed (s .pre .0 .valid)) (s .pre .1) (s .pre .0 .start-distances) (c .before .before .flag-starts .ensures .1))
+    (omega arith, flags-start (valid-well-formed (s .pre .0 .valid)) (s .pre .1) (s .pre .0 .start-distances) (c .before .before .flag-starts .ensures))
 
 add-get : tie.Need-add-get Inv-loop μ-loop
 add-get c = omega (arith, ready (c .before .before) .room)

@@ -14,7 +14,7 @@ use Rattle.table.proofs.Laws.{sameOutside-refl}
 use Rattle.spread.specs.Regions.{entryOf}
 use Rattle.spread.specs.Hit.{under}
 use Rattle.spread.specs.Through.{loopLength}
-use Rattle.listing.specs.Promises.{startLoop}
+use Rattle.listing.specs.LoopStarts.{startLoop}
 use Rattle.listing.proofs.StartLaws.{startLoop-iff}
 use Rattle.listing.proofs.StartsEntries.{start-distance, startLoop-unreached, startLoop-far, startLoop-reached}
 use Rattle.listing.proofs.starts.start_loop.Statement.{statement}
