@@ -1,5 +1,5 @@
 -- The entries that the three tests of a next state read, and the marks of the list from a place on.
-use Prim.Native.Nat.{ℕ, zero, suc, _+_, _*_, _-_, _≤_}
+use Prim.Native.Nat.{ℕ, _+_, _*_, _-_, _≤_}
 use mathlib.Core.Path.{_≡_, _∙_, ap}
 use mathlib.Core.Logic.{inl, inr}
 use mathlib.Core.Bool.{Bool, true, false}
@@ -11,11 +11,6 @@ use Rattle.lasso.specs.Graph.{Graph}
 use Rattle.lasso.proofs.Tests.{lt-or-ge}
 use Rattle.spread.specs.Regions.{entry}
 use Rattle.listing.specs.Follow.{Decides}
-
--- the states of the list from place 1 on are the table's entries from 0 on
-pub list-place : (start : ℕ) (w : List ℕ) (i : ℕ) → 1 ≤ i → getD (start ∷ w) i 0 ≡ getD w (i - 1) 0
-list-place start w zero l = absurd (omega arith)
-list-place start w (suc i) l = let e : i ≡ suc i - 1 = omega arith in ap (λ (j : ℕ). getD w j 0) e
 
 -- what the code reads for a state in region 1 is its entry
 pub read-one : (n : ℕ) (w : List ℕ) (s x : ℕ) → s ≡ x → getD w (n + s) 0 ≡ entry 1 n w x

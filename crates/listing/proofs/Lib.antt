@@ -1,4 +1,5 @@
 -- The laws of the listing: where loops start, which state may follow, and the lists place by place.
+pub mod CurrentLaws
 pub mod StartLaws
 pub mod StartsFlags
 pub mod StartsEntries
@@ -13,4 +14,3 @@ pub mod PlacesRow
 pub mod PlacesFollower
 pub mod PlacesComplete
 pub mod PlacesRoll
-pub mod WriteLaws

@@ -13,15 +13,12 @@ use Rattle.model.specs.declared.Header.{Header}
 use Rattle.model.specs.Values.{Valid}
 use Rattle.model.specs.Model.{graphOf}
 use Rattle.spread.specs.Regions.{entry}
+use Rattle.listing.specs.Current.{stateAt}
 use Rattle.listing.specs.LoopStarts.{StartLoops}
 
 -- the list up to a place: the start, and then what region 0 holds
 abbrev pub upTo : Graph → List ℕ → ℕ → List ℕ
 upTo g w place = g .start ∷ take place w
-
--- the state at a place of the list
-abbrev pub stateAt : Header → List ℕ → ℕ → ℕ
-stateAt h w place = getD (h .start ∷ w) place 0
 
 -- what stands in the list up to a place are states
 abbrev pub StatesTo : Header → List ℕ → ℕ → Type 0

@@ -1,5 +1,4 @@
 // Which state may stand at the next place of the list.
-ghost use mathlib.Core.Path.{_≡_};
 ghost use mathlib.Core.List.{[], _∷_, _++_};
 ghost use Prim.Native.Nat.{_*_, _≤_, _<_};
 ghost use lib.ListN.{length};
@@ -8,25 +7,15 @@ ghost use Rattle.lasso.specs.Graph.{pathb};
 ghost use Rattle.model.specs.Model.{graphOf};
 ghost use Rattle.model.specs.Values.{Valid};
 ghost use Rattle.table.specs.Changes.{SameOutside};
-ghost use Rattle.listing.specs.Follow.{upTo, stateAt, StatesTo, Prepared, Decides};
+ghost use Rattle.listing.specs.Follow.{upTo, StatesTo, Prepared, Decides};
 ghost use Rattle.listing.specs.Follow.{StartsAhead, ClosesMarked, ClosesStart, MayFollow};
+use crate::current::list_at;
 use lasso::Transitions;
 use model::Header;
 use model::is_marked;
 use spread::distances;
 use spread::from_marks;
 use table::get;
-
-// The state at a place of the list.
-pub fn list_at(h: Header, work: &[u16], place: usize) -> usize
-    requires { ⌜ place ≤ length (now work) ⌝ }
-    ensures { λ r. ⌜ r ≡ stateAt h (now (work .entry)) place ⌝ }
-{
-    if place == 0 {
-        return h.start;
-    }
-    get(work, place - 1)
-}
 
 // A state that can start the loop of a shortest lasso is reached soon enough.
 fn starts_ahead(work: &[u16], n: usize, left: usize) -> bool

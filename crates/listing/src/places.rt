@@ -9,7 +9,7 @@ ghost use Rattle.model.specs.Model.{graphOf};
 ghost use Rattle.table.specs.Changes.{SameOutside};
 ghost use Rattle.listing.specs.Follow.{upTo, Prepared};
 ghost use Rattle.listing.specs.Places.{Kept, FirstFollower, FollowerOf, Completed, HoldsFirst, Replaced};
-use crate::follow::list_at;
+use crate::current::list_at;
 use crate::follow::may_follow;
 use lasso::Transitions;
 use model::Header;

@@ -8,7 +8,7 @@ ghost use lib.ListN.{length, take, drop};
 ghost use Rattle.lasso.specs.Roll.{leastLength, roll};
 ghost use Rattle.model.specs.Model.{graphOf};
 ghost use Rattle.rounds.specs.Promises.{Ready};
-ghost use Rattle.listing.specs.Writing.{listIn};
+ghost use Rattle.listing.specs.Current.{listIn};
 ghost use Rattle.finder.specs.Tables.{written};
 ghost use Rattle.sheet.specs.Sheet.{line, mostLists, closingLine, listsText, lastOf, listsRoom};
 ghost use Rattle.sheet.specs.Writing.{Wrote};

@@ -2,9 +2,9 @@
 use mathlib.Core.Path.{sym, _∙_}
 use native.Mathlib.Omega.{arith}
 use borrow.Author.Needs.{needs}
-use Rattle.listing.proofs.FollowTests.{list-place}
-use Rattle.listing.proofs.follow.list_at.Statement.{statement}
-use Rattle.listing.proofs.follow.list_at.Tie as tie
+use Rattle.listing.proofs.CurrentLaws.{list-place}
+use Rattle.listing.proofs.current.list_at.Statement.{statement}
+use Rattle.listing.proofs.current.list_at.Tie as tie
 
 returns : tie.Need-returns
 returns c = search needs

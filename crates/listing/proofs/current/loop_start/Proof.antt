@@ -1,4 +1,4 @@
--- `writing::loop_start` meets its contract. The loop's invariant: no place before k holds the last state.
+-- `current::loop_start` meets its contract. The loop's invariant: no place before k holds the last state.
 use Prim.Native.Nat.{ℕ, _-_, _≤_, _<_}
 use mathlib.Core.Path.{_≡_, sym, _∙_}
 use mathlib.Core.List.{_∷_}
@@ -6,9 +6,9 @@ use native.Mathlib.Omega.{arith}
 use borrow.Author.Count.{below-more}
 use borrow.Author.Needs.{needs}
 use lib.ListN.{getD}
-use Rattle.listing.proofs.WriteLaws.{loopStart-is, before-last}
-use Rattle.listing.proofs.writing.loop_start.Statement.{statement}
-use Rattle.listing.proofs.writing.loop_start.Tie as tie
+use Rattle.listing.proofs.CurrentLaws.{loopStart-is, before-last}
+use Rattle.listing.proofs.current.loop_start.Statement.{statement}
+use Rattle.listing.proofs.current.loop_start.Tie as tie
 
 abbrev Inv-loop : tie.InvT-loop
 Inv-loop h work end last k₀ k =

@@ -1,12 +1,12 @@
--- `writing::write_part` meets its contract. The loop's invariant: the first i entries are written.
+-- `current::write_part` meets its contract. The loop's invariant: the first i entries are written.
 use Prim.Native.Nat.{ℕ, _+_, _-_, _≤_}
 use mathlib.Core.Path.{_≡_, refl, _∙_, ap}
 use mathlib.Core.List.{List, _∷_, _++_}
 use native.Mathlib.Omega.{arith}
 use lib.ListN.{length, take, drop, length-drop}
-use Rattle.listing.proofs.WriteLaws.{front-store, front-length, entries-fit}
-use Rattle.listing.proofs.writing.write_part.Statement.{statement}
-use Rattle.listing.proofs.writing.write_part.Tie as tie
+use Rattle.listing.proofs.CurrentLaws.{front-store, front-length, entries-fit}
+use Rattle.listing.proofs.current.write_part.Statement.{statement}
+use Rattle.listing.proofs.current.write_part.Tie as tie
 
 abbrev Inv-loop : tie.InvT-loop
 Inv-loop h work from entries part₀ i₀ part i =

@@ -1,14 +1,25 @@
-// Writing the list of region 0 to the answer table.
+// The current list, in region 0 of the working table: the state at a place, and writing the list to the answer table.
 ghost use mathlib.Core.Path.{_≡_};
 ghost use mathlib.Core.List.{_∷_, _++_};
 ghost use Prim.Native.Nat.{_+_, _≤_, _<_};
 ghost use lib.ListN.{length, drop};
 ghost use Rattle.lasso.specs.Graph.{loopStart};
-ghost use Rattle.listing.specs.Writing.{listIn, overFront};
-use crate::follow::list_at;
+ghost use Rattle.listing.specs.Current.{stateAt, listIn, overFront};
 use lasso::Entries;
 use lasso::Transitions;
 use model::Header;
+use table::get;
+
+// The state at a place of the list.
+pub fn list_at(h: Header, work: &[u16], place: usize) -> usize
+    requires { ⌜ place ≤ length (now work) ⌝ }
+    ensures { λ r. ⌜ r ≡ stateAt h (now (work .entry)) place ⌝ }
+{
+    if place == 0 {
+        return h.start;
+    }
+    get(work, place - 1)
+}
 
 // The place where the loop starts: the first place that holds the last state.
 fn loop_start(h: Header, work: &[u16], length: Transitions) -> usize

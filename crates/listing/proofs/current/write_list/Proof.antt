@@ -1,8 +1,8 @@
--- `writing::write_list` meets its contract: the stem is written to the front, the loop to the part from the loop's start on.
+-- `current::write_list` meets its contract: the stem is written to the front, the loop to the part from the loop's start on.
 use borrow.Author.Needs.{needs}
-use Rattle.listing.proofs.WriteLaws.{list-written}
-use Rattle.listing.proofs.writing.write_list.Statement.{statement}
-use Rattle.listing.proofs.writing.write_list.Tie as tie
+use Rattle.listing.proofs.CurrentLaws.{list-written}
+use Rattle.listing.proofs.current.write_list.Statement.{statement}
+use Rattle.listing.proofs.current.write_list.Tie as tie
 
 loop-start-requires : tie.Need-loop-start-requires
 loop-start-requires c κs = search needs
