@@ -34,7 +34,7 @@ before-end : (c : tie.Then1 Inv-loop μ-loop) → c .before .before .loop .k < c
 before-end c =
     let a = c .before .before .before .before .before .before .args in
     before-last (a .h .start ∷ a .work .now) (c .before .before .loop .k) (c .before .before .before .before .number .result) _ _ (c .before .before .loop .inv .0)
-    (c .before .list-at2 .ensures) (c .before .before .before .list-at .ensures) (c .if1 .taken)
+    (c .before .list-at2 .ensures) (c .before .before .before .list-at .ensures) (omega (arith, c .if1 .taken))
 
 add-k : tie.Need-add-k Inv-loop μ-loop
 add-k c = omega (arith, before-end c)
@@ -45,7 +45,7 @@ loop-less c = omega (arith, before-end c)
 loop-again : tie.Need-loop-again Inv-loop μ-loop
 loop-again c = (
   omega (arith, before-end c),
-  below-more _ _ (c .before .before .loop .inv .1) (λ e. c .if1 .taken (c .before .list-at2 .ensures ∙ e)),
+  below-more _ _ (c .before .before .loop .inv .1) (λ e. omega (arith, c .if1 .taken, c .before .list-at2 .ensures, e)),
 )
 
 returns : tie.Need-returns Inv-loop μ-loop
@@ -55,7 +55,7 @@ returns c =
     let last = c .before .before .before .list-at .ensures in
     let (within, before) = c .before .before .loop .inv in (
       rw (end .ensures) at (loopStart-is (s .args .h .start) (s .args .work .now) (end .result) _ (omega (arith, s .pre, end .ensures)) within
-          (sym (c .before .list-at2 .ensures) ∙ c .if1 .left ∙ last)
+          (omega (arith, c .before .list-at2 .ensures, c .if1 .left, last))
           (λ i less e. before i less (e ∙ sym last))),
       omega (arith, within, end .ensures),
     )
