@@ -17,8 +17,8 @@ use Rattle.model.specs.declared.Header.{Header}
 use Rattle.model.specs.Model.{graphOf}
 use Rattle.model.proofs.Laws.{valid-sizes}
 use Rattle.rounds.specs.Promises.{Ready}
-use Rattle.listing.specs.LoopStarts.{StartLoops}
-use Rattle.listing.specs.Follow.{Prepared, upTo}
+use Rattle.starts.specs.LoopStarts.{StartLoops}
+use Rattle.follow.specs.Follow.{Prepared, upTo}
 use Rattle.listing.specs.Places.{Replaced}
 use Rattle.finder.proofs.LoadLaws.{loaded, loaded-list, loaded-after, loaded-length}
 

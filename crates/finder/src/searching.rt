@@ -11,16 +11,16 @@ ghost use Rattle.rounds.specs.Promises.{Ready};
 ghost use Rattle.finder.specs.Outcomes.{searchOutcomeOf};
 ghost use Rattle.finder.specs.Search.{searchOutcome, searchAnswer};
 use crate::SearchAnswer;
+use current::write_list;
 use lasso::Best;
 use lasso::Entries;
 use lasso::Transitions;
 use listing::first;
-use listing::prepare;
-use listing::write_list;
 use model::Header;
 use rounds::count_candidates;
 use rounds::run_rounds;
 use rounds::start_distances;
+use starts::prepare;
 
 // Writes the first of the shortest accepting paths, whose length is known. All rounds are done, so that the answer is
 // that of a search with any allowance that suffices.

@@ -11,7 +11,7 @@ use Rattle.model.specs.declared.Header.{Header}
 use Rattle.model.specs.Model.{graphOf}
 use Rattle.model.proofs.Laws.{Sizes, valid-sizes}
 use Rattle.table.specs.Changes.{SameOutside}
-use Rattle.listing.specs.Follow.{Prepared}
+use Rattle.follow.specs.Follow.{Prepared}
 use Rattle.listing.specs.Places.{Kept, LeastFollower}
 
 -- a table keeps what it holds

@@ -1,6 +1,2 @@
--- What the working table holds while the shortest accepting paths are listed, and what each function leaves there.
-pub mod Current
-pub mod LoopStarts
-pub mod Flags
-pub mod Follow
+-- The first list, and the list after a given one.
 pub mod Places

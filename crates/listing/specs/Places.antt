@@ -10,7 +10,7 @@ use Rattle.lasso.specs.Graph.{Graph, edges, lassob}
 use Rattle.lasso.specs.Roll.{roll}
 use Rattle.lasso.specs.Following.{following}
 use Rattle.lasso.proofs.PlaceByPlace.{Extends}
-use Rattle.listing.specs.Follow.{upTo}
+use Rattle.follow.specs.Follow.{upTo}
 use Rattle.listing.specs.declared.places.Follower.{Follower}
 use Rattle.listing.specs.declared.places.Follower.the-variants.{State, Nothing}
 

@@ -12,7 +12,7 @@ use Rattle.lasso.specs.Roll.{roll}
 use Rattle.lasso.specs.Following.{following}
 use Rattle.lasso.proofs.OrderLaws.{getD-mem, head-at, following-at}
 use Rattle.lasso.proofs.RollLaws.{roll-strict}
-use Rattle.listing.specs.Follow.{upTo}
+use Rattle.follow.specs.Follow.{upTo}
 use Rattle.listing.specs.Places.{Replaced}
 
 -- the list in region 0 is the one at a place of the roll

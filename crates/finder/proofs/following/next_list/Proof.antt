@@ -14,7 +14,7 @@ use Rattle.lasso.specs.Following.{following}
 use Rattle.lasso.proofs.RollLaws.{roll-length}
 use Rattle.model.specs.Model.{graphOf}
 use Rattle.model.proofs.Laws.{valid-sizes, valid-well-formed}
-use Rattle.listing.specs.Follow.{upTo}
+use Rattle.follow.specs.Follow.{upTo}
 use Rattle.finder.proofs.ReasonLaws.{valid-room}
 use Rattle.finder.proofs.LoopTests.{lassoOf}
 use Rattle.finder.proofs.TableLaws.{loaded-upTo, loaded-mem, least-fits, loaded-kept, prepared-loaded, advanced-none, advanced-some}
