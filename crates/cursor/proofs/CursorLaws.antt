@@ -14,7 +14,9 @@ use Rattle.lasso.proofs.RoundLaws.{afterRounds-done, afterRounds-leastLength}
 use Rattle.model.specs.declared.Header.{Header}
 use Rattle.model.specs.Model.{graphOf}
 use Rattle.rounds.specs.Promises.{Ready}
-use Rattle.listing.specs.Promises.{StartLoops, Prepared, Kept, Advanced, upTo}
+use Rattle.starts.specs.LoopStarts.{StartLoops}
+use Rattle.follow.specs.Follow.{Prepared, upTo}
+use Rattle.listing.specs.Places.{Kept, Replaced}
 use Rattle.listing.proofs.PlacesTable.{prepared-kept}
 use Rattle.cursor.specs.Cursor.{At, PlacedAt, MovedOn}
 use Rattle.cursor.proofs.RollPlaces.{stands-first, stands-next, stands-last, follows-next, follows-none}
@@ -59,7 +61,7 @@ placed-at {f} xs p e m =
     }
 
 -- a step of the listing is one to the next place, or there is none
-pub moved-on : {f : List ℕ} {h : Header} {l : ℕ} {w w' : List ℕ} (r : Bool) → Advanced (graphOf f) l w w' r
+pub moved-on : {f : List ℕ} {h : Header} {l : ℕ} {w w' : List ℕ} (r : Bool) → Replaced (graphOf f) l w w' r
     → Kept (h .states) w w' → MovedOn f h l w w' r
 moved-on {w' = w'} true a kept place at =
     record { prepared = prepared-kept (at .prepared) kept; current = stands-next w' (at .current) a }

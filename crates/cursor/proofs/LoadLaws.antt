@@ -6,7 +6,7 @@ use native.Mathlib.Omega.{arith}
 use lib.ListN.{length, getD, take, drop, set, length-append, length-drop}
 use lib.Seq.{take-all, take-at, getD-append-add, getD-drop}
 use Rattle.lasso.specs.Graph.{edges}
-use Rattle.listing.proofs.WriteLaws.{front-store, front-length}
+use Rattle.current.proofs.CurrentLaws.{front-store, front-length}
 
 -- the table with the entries of xs from place 1 up to j in front
 abbrev pub loadedTo : ℕ → List ℕ → List ℕ → List ℕ

@@ -11,7 +11,7 @@ use Rattle.lasso.specs.Roll.{roll}
 use Rattle.lasso.specs.Following.{following}
 use Rattle.lasso.proofs.OrderLaws.{getD-mem, head-at, following-at}
 use Rattle.lasso.proofs.RollLaws.{roll-strict}
-use Rattle.listing.specs.Promises.{upTo}
+use Rattle.follow.specs.Follow.{upTo}
 use Rattle.cursor.specs.Cursor.{Stands}
 
 -- an entry that is there

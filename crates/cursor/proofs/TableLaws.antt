@@ -14,7 +14,8 @@ use Rattle.model.specs.declared.Header.{Header}
 use Rattle.model.specs.Model.{graphOf}
 use Rattle.model.proofs.Laws.{valid-sizes}
 use Rattle.rounds.specs.Promises.{Ready}
-use Rattle.listing.specs.Promises.{StartLoops, Prepared, upTo}
+use Rattle.starts.specs.LoopStarts.{StartLoops}
+use Rattle.follow.specs.Follow.{Prepared, upTo}
 use Rattle.cursor.proofs.LoadLaws.{loaded, loaded-list, loaded-after, loaded-length}
 
 module _ (g : Graph) (l : ℕ) (least : leastLength g ≡ some l) (xs : List ℕ) (m : List·Memᴰ xs (roll g)) where

@@ -12,7 +12,7 @@ use Rattle.lasso.specs.Values.{recordOf}
 use Rattle.lasso.specs.declared.RoundRecord.{RoundRecord}
 use Rattle.model.specs.declared.Header.{Header}
 use Rattle.model.specs.Model.{graphOf}
-use Rattle.listing.specs.Promises.{Prepared, upTo}
+use Rattle.follow.specs.Follow.{Prepared, upTo}
 use Rattle.cursor.specs.declared.Begun.{Begun}
 use Rattle.cursor.specs.declared.Begun.the-variants as Begins
 

@@ -12,16 +12,16 @@ ghost use Rattle.model.specs.Values.{Valid};
 ghost use Rattle.model.specs.Model.{graphOf};
 ghost use Rattle.rounds.specs.Promises.{Ready};
 ghost use Rattle.cursor.specs.Cursor.{BegunSays, At, Placed, PlacedAt, MovedOn};
+pub use current::write_list;
 use lasso::Best;
 use lasso::RoundRecord;
 use lasso::Transitions;
 use listing::first;
-use listing::prepare;
-pub use listing::write_list;
 use model::Header;
 use rounds::count_candidates;
 use rounds::run_rounds;
 use rounds::start_distances;
+use starts::prepare;
 use table::get;
 use table::put;
 

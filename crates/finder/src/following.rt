@@ -34,8 +34,12 @@ fn next_list(
 ) -> NextAnswer
     requires { ⌜ Ready (now file) h (now work) ⌝ }
     requires { ⌜ leastLength (graphOf (now file)) ≡ some (length .0) ⌝ }
-    ensures outcome { λ r. ⌜ nextOutcomeOf r ≡ nextOutcome (now (file .entry)) (now (earlier .entry)) (lib.ListN.length (now (answer .entry))) (lib.ListN.length (now (work .entry))) ⌝ }
-    ensures answer { λ _. ⌜ now (answer .exit) ≡ nextAnswer (now (file .entry)) (now (earlier .entry)) (now (answer .entry)) (lib.ListN.length (now (work .entry))) ⌝ }
+    ensures outcome { λ r. ⌜ nextOutcomeOf r
+        ≡ nextOutcome (now (file .entry)) (now (earlier .entry)) (lib.ListN.length (now (answer .entry)))
+        (lib.ListN.length (now (work .entry))) ⌝ }
+    ensures answer { λ _. ⌜ now (answer .exit)
+        ≡ nextAnswer (now (file .entry)) (now (earlier .entry)) (now (answer .entry))
+        (lib.ListN.length (now (work .entry))) ⌝ }
     ensures kept { λ _. ⌜ lib.ListN.length (now (work .exit)) ≡ lib.ListN.length (now (work .entry)) ⌝ }
 {
     if !is_lasso(file, h, earlier, length) {

@@ -14,7 +14,8 @@ use Rattle.model.specs.declared.Header.{Header}
 use Rattle.model.specs.Model.{graphOf}
 use Rattle.model.proofs.Laws.{Sizes, valid-sizes}
 use Rattle.table.specs.Changes.{SameOutside}
-use Rattle.listing.specs.Promises.{Prepared, Kept, LeastFollower, Completed, upTo}
+use Rattle.follow.specs.Follow.{Prepared, upTo}
+use Rattle.listing.specs.Places.{Kept, LeastFollower, Completed}
 use Rattle.listing.proofs.PlacesExtend.{extends-whole}
 use Rattle.listing.proofs.PlacesTable.{length-fits, kept-refl, kept-trans, prepared-kept, same-take, stored-kept, stored-take}
 

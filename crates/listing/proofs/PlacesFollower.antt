@@ -17,7 +17,8 @@ use Rattle.model.specs.Model.{graphOf}
 use Rattle.model.proofs.Laws.{valid-well-formed}
 use Rattle.table.specs.Changes.{SameOutside}
 use Rattle.table.proofs.Laws.{sameOutside-refl, sameOutside-trans}
-use Rattle.listing.specs.Promises.{LeastFollower, upTo}
+use Rattle.follow.specs.Follow.{upTo}
+use Rattle.listing.specs.Places.{LeastFollower}
 use Rattle.listing.proofs.PlacesExtend.{extends-edge, extends-step}
 use Rattle.listing.proofs.PlacesRow.{Row, successor-state}
 

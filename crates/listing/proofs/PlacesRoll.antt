@@ -20,7 +20,8 @@ use Rattle.model.specs.Model.{graphOf}
 use Rattle.model.proofs.Laws.{valid-sizes, valid-well-formed}
 use Rattle.table.specs.Changes.{SameOutside}
 use Rattle.table.proofs.Laws.{sameOutside-refl, sameOutside-trans}
-use Rattle.listing.specs.Promises.{Prepared, Kept, LeastFollower, Completed, upTo}
+use Rattle.follow.specs.Follow.{Prepared, upTo}
+use Rattle.listing.specs.Places.{Kept, LeastFollower, Completed}
 use Rattle.listing.proofs.PlacesExtend.{lasso-path, path-begin, extends-start}
 use Rattle.listing.proofs.PlacesTable.{length-fits, kept-trans, same-kept, prepared-kept, same-take, stored-kept, stored-take}
 

@@ -16,7 +16,7 @@ use Rattle.model.specs.declared.Header.{Header}
 use Rattle.model.specs.Model.{graphOf}
 use Rattle.model.proofs.Laws.{Sizes, valid-sizes, valid-well-formed}
 use Rattle.table.specs.Changes.{SameOutside}
-use Rattle.listing.specs.Promises.{Prepared, Decides, upTo}
+use Rattle.follow.specs.Follow.{Prepared, Decides, upTo}
 use Rattle.listing.proofs.PlacesExtend.{path-snoc}
 use Rattle.listing.proofs.PlacesTable.{length-fits, prepared-kept, same-kept, same-take, upTo-last}
 

@@ -11,7 +11,8 @@ use Rattle.model.specs.declared.Header.{Header}
 use Rattle.model.specs.Model.{graphOf}
 use Rattle.model.proofs.Laws.{Sizes, valid-sizes}
 use Rattle.table.specs.Changes.{SameOutside}
-use Rattle.listing.specs.Promises.{Kept, Prepared, LeastFollower}
+use Rattle.follow.specs.Follow.{Prepared}
+use Rattle.listing.specs.Places.{Kept, LeastFollower}
 
 -- a table keeps what it holds
 pub kept-refl : (n : ℕ) (w : List ℕ) → Kept n w w

@@ -1,2 +1,2 @@
--- What the working table holds while the shortest accepting paths are listed, and what each function leaves there.
-pub mod Promises
+-- The first list, and the list after a given one.
+pub mod Places

@@ -1,13 +1,5 @@
 // The list of all shortest accepting paths, place by place, once their length is known.
-// Region 1 of the working table holds the loop length of each state that can start the loop of a shortest lasso.
-// Region 0 holds the entries of the current list from place 1 on; the entry at place 0 is the start.
-mod follow;
 mod places;
-mod starts;
-mod writing;
 
-pub use follow::list_at;
 pub use places::advance;
 pub use places::first;
-pub use starts::prepare;
-pub use writing::write_list;

@@ -1,17 +1,16 @@
 // The first list, and the list after a given one.
-ghost use mathlib.Core.Path.{_≡_};
-ghost use mathlib.Core.List.{List·Memᴰ, head?};
-ghost use mathlib.Core.Option.{some};
-ghost use Prim.Native.Nat.{_+_, _*_, _≤_, _<_};
+ghost use mathlib.Core.List.{List·Memᴰ};
+ghost use Prim.Native.Nat.{_*_, _≤_, _<_};
 ghost use lib.Dec.{T};
 ghost use Rattle.lasso.specs.Graph.{pathb};
 ghost use Rattle.lasso.specs.Roll.{roll};
 ghost use Rattle.lasso.proofs.PlaceByPlace.{Extends};
 ghost use Rattle.model.specs.Model.{graphOf};
 ghost use Rattle.table.specs.Changes.{SameOutside};
-ghost use Rattle.listing.specs.Promises.{Prepared, Kept, LeastFollower, FollowerOf, Completed, Advanced, upTo};
-use crate::follow::list_at;
-use crate::follow::may_follow;
+ghost use Rattle.follow.specs.Follow.{upTo, Prepared};
+ghost use Rattle.listing.specs.Places.{Kept, FirstFollower, FollowerOf, Completed, HoldsFirst, Replaced};
+use current::list_at;
+use follow::may_follow;
 use lasso::Transitions;
 use model::Header;
 use model::degree;
@@ -38,7 +37,7 @@ fn least_follower(
     requires { ⌜ Prepared (now file) h (now work) (length .0) ⌝ }
     requires { ⌜ place < length .0 ⌝ }
     requires { ⌜ T (pathb (graphOf (now file)) (upTo (graphOf (now file)) (now work) place)) ⌝ }
-    ensures { λ r. ⌜ FollowerOf (graphOf (now (file .entry))) (length .0) (upTo (graphOf (now (file .entry))) (now (work .entry)) place) bound r ⌝ }
+    ensures { λ r. ⌜ FollowerOf (graphOf (now (file .entry))) (length .0) (now (work .entry)) place bound r ⌝ }
     ensures same { λ r. ⌜ SameOutside (2 * h .states) (6 * h .states) (now (work .entry)) (now (work .exit)) ⌝ }
 {
     let s = list_at(h, work, place);
@@ -68,7 +67,7 @@ fn first_follower(
     requires { ⌜ Prepared (now file) h (now work) (length .0) ⌝ }
     requires { ⌜ place < length .0 ⌝ }
     requires { ⌜ Extends (graphOf (now file)) (length .0) (upTo (graphOf (now file)) (now work) place) ⌝ }
-    ensures { λ r. ⌜ LeastFollower (graphOf (now (file .entry))) (length .0) (upTo (graphOf (now (file .entry))) (now (work .entry)) place) 0 r ⌝ }
+    ensures { λ r. ⌜ FirstFollower (graphOf (now (file .entry))) (length .0) (now (work .entry)) place r ⌝ }
     ensures same { λ r. ⌜ SameOutside (2 * h .states) (6 * h .states) (now (work .entry)) (now (work .exit)) ⌝ }
 {
     let s = list_at(h, work, place);
@@ -90,7 +89,8 @@ fn complete(file: &[u8], h: Header, work: &mut [u16], length: Transitions, from:
     requires { ⌜ Prepared (now file) h (now work) (length .0) ⌝ }
     requires { ⌜ from ≤ length .0 ⌝ }
     requires { ⌜ Extends (graphOf (now file)) (length .0) (upTo (graphOf (now file)) (now work) from) ⌝ }
-    ensures { λ _. ⌜ Completed (graphOf (now (file .entry))) (length .0) from (now (work .entry)) (now (work .exit)) ⌝ }
+    ensures { λ _. ⌜ Completed (graphOf (now (file .entry))) (length .0) from
+        (now (work .entry)) (now (work .exit)) ⌝ }
 {
     let last = length.number();
     let mut place = from;
@@ -104,7 +104,7 @@ fn complete(file: &[u8], h: Header, work: &mut [u16], length: Transitions, from:
 // Puts the first of the shortest accepting paths into region 0.
 pub fn first(file: &[u8], h: Header, work: &mut [u16], length: Transitions)
     requires { ⌜ Prepared (now file) h (now work) (length .0) ⌝ }
-    ensures { λ _. ⌜ head? (roll (graphOf (now (file .entry)))) ≡ some (upTo (graphOf (now (file .entry))) (now (work .exit)) (length .0)) ⌝ }
+    ensures { λ _. ⌜ HoldsFirst (graphOf (now (file .entry))) (length .0) (now (work .exit)) ⌝ }
     ensures kept { λ _. ⌜ Kept (h .states) (now (work .entry)) (now (work .exit)) ⌝ }
 {
     complete(file, h, work, length, 0);
@@ -114,7 +114,7 @@ pub fn first(file: &[u8], h: Header, work: &mut [u16], length: Transitions)
 pub fn advance(file: &[u8], h: Header, work: &mut [u16], length: Transitions) -> bool
     requires { ⌜ Prepared (now file) h (now work) (length .0) ⌝ }
     requires { ⌜ List·Memᴰ (upTo (graphOf (now file)) (now work) (length .0)) (roll (graphOf (now file))) ⌝ }
-    ensures { λ r. ⌜ Advanced (graphOf (now (file .entry))) (length .0) (now (work .entry)) (now (work .exit)) r ⌝ }
+    ensures { λ r. ⌜ Replaced (graphOf (now (file .entry))) (length .0) (now (work .entry)) (now (work .exit)) r ⌝ }
     ensures kept { λ _. ⌜ Kept (h .states) (now (work .entry)) (now (work .exit)) ⌝ }
 {
     let mut place = length.number();

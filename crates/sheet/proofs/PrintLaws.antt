@@ -15,7 +15,9 @@ use Rattle.model.specs.declared.Header.{Header}
 use Rattle.model.specs.Model.{graphOf}
 use Rattle.model.proofs.Laws.{valid-sizes, valid-well-formed}
 use Rattle.rounds.specs.Promises.{Ready}
-use Rattle.listing.specs.Promises.{StartLoops, Prepared, Kept, upTo}
+use Rattle.starts.specs.LoopStarts.{StartLoops}
+use Rattle.follow.specs.Follow.{Prepared, upTo}
+use Rattle.listing.specs.Places.{Kept}
 use Rattle.listing.proofs.PlacesTable.{prepared-kept, length-fits}
 use Rattle.finder.specs.Tables.{written}
 use Rattle.sheet.specs.Sheet.{line, mostLists, closingLine, listsText, lastOf, listsRoom}

@@ -1,24 +1,25 @@
 // The lists of a sheet: one after the other in region 0 of the working table, each written to the answer table and as a
 // line of the text.
 ghost use mathlib.Core.Path.{_≡_};
-ghost use mathlib.Core.List.{_∷_, _++_};
+ghost use mathlib.Core.List.{_++_};
 ghost use mathlib.Core.Option.{some};
 ghost use Prim.Native.Nat.{_+_, _≤_, _<_};
 ghost use lib.ListN.{length, take, drop};
 ghost use Rattle.lasso.specs.Roll.{leastLength, roll};
 ghost use Rattle.model.specs.Model.{graphOf};
 ghost use Rattle.rounds.specs.Promises.{Ready};
+ghost use Rattle.current.specs.Current.{listIn};
 ghost use Rattle.finder.specs.Tables.{written};
 ghost use Rattle.sheet.specs.Sheet.{line, mostLists, closingLine, listsText, lastOf, listsRoom};
 ghost use Rattle.sheet.specs.Writing.{Wrote};
 use crate::lines::write_line;
 use crate::writing::write_figure;
+use current::write_list;
 use lasso::Transitions;
 use listing::advance;
 use listing::first;
-use listing::prepare;
-use listing::write_list;
 use model::Header;
+use starts::prepare;
 
 // Writes the line of the list in region 0, and the list itself to the answer table.
 fn write_current(
@@ -32,9 +33,11 @@ fn write_current(
     requires { ⌜ length .0 ≤ lib.ListN.length (now work) ⌝ }
     requires { ⌜ length .0 < lib.ListN.length (now answer) ⌝ }
     requires { ⌜ h .start < 65536 ⌝ }
-    requires { ⌜ at + lib.ListN.length (line (h .start ∷ take (length .0) (now work))) ≤ lib.ListN.length (now text) ⌝ }
-    ensures line { λ r. ⌜ Wrote (now (text .entry)) at (line (h .start ∷ take (length .0) (now (work .entry)))) (now (text .exit)) r ⌝ }
-    ensures list { λ _. ⌜ now (answer .exit) ≡ (h .start ∷ take (length .0) (now (work .entry))) ++ drop (length .0 + 1) (now (answer .entry)) ⌝ }
+    requires { ⌜ at + lib.ListN.length (line (listIn h (now work) (length .0))) ≤ lib.ListN.length (now text) ⌝ }
+    ensures line { λ r. ⌜ Wrote (now (text .entry)) at
+        (line (listIn h (now (work .entry)) (length .0))) (now (text .exit)) r ⌝ }
+    ensures list { λ _. ⌜ now (answer .exit)
+        ≡ listIn h (now (work .entry)) (length .0) ++ drop (length .0 + 1) (now (answer .entry)) ⌝ }
 {
     let k = write_list(h, work, length, answer);
     write_line(text, at, answer, k, length)
@@ -66,8 +69,10 @@ pub fn write_lists(
     requires { ⌜ leastLength (graphOf (now file)) ≡ some (length .0) ⌝ }
     requires { ⌜ length .0 < lib.ListN.length (now answer) ⌝ }
     requires { ⌜ at + listsRoom ≤ lib.ListN.length (now text) ⌝ }
-    ensures text { λ r. ⌜ Wrote (now (text .entry)) at (listsText (roll (graphOf (now (file .entry))))) (now (text .exit)) r ⌝ }
-    ensures answer { λ _. ⌜ now (answer .exit) ≡ written (lastOf (take mostLists (roll (graphOf (now (file .entry)))))) (now (answer .entry)) ⌝ }
+    ensures text { λ r. ⌜ Wrote (now (text .entry)) at
+        (listsText (roll (graphOf (now (file .entry))))) (now (text .exit)) r ⌝ }
+    ensures answer { λ _. ⌜ now (answer .exit)
+        ≡ written (lastOf (take mostLists (roll (graphOf (now (file .entry)))))) (now (answer .entry)) ⌝ }
     ensures kept { λ _. ⌜ lib.ListN.length (now (work .exit)) ≡ lib.ListN.length (now (work .entry)) ⌝ }
 {
     prepare(file, h, work, length);

@@ -1,7 +1,7 @@
 -- `to_first` meets its contract: the table is prepared, and the first list is put into region 0.
 use mathlib.Core.Path.{_∙_}
 use borrow.Author.Needs.{needs}
-use Rattle.listing.specs.Promises.{Prepared}
+use Rattle.follow.specs.Follow.{Prepared}
 use Rattle.listing.proofs.PlacesTable.{prepared-kept}
 use Rattle.cursor.proofs.CursorLaws.{prepared-start, at-first}
 use Rattle.cursor.proofs.to_first.Statement.{statement}

@@ -42,7 +42,7 @@ returns : tie.Need-returns
 returns c =
     let counted = c .before .before .before in
     let a = counted .before .before .before .args in
-    sym (lassoOf-other (graphOf (now (a .file))) (now (a .list)) (a .length .0) (λ e. c .if1 .taken (e ∙ sym (counted .entries .ensures))))
+    sym (lassoOf-other (graphOf (now (a .file))) (now (a .list)) (a .length .0) (λ e. omega (arith, c .if1 .taken, counted .entries .ensures, e)))
 
 is-path-requires : tie.Need-is-path-requires
 is-path-requires c κs = search needs
@@ -63,7 +63,7 @@ returns-3 : tie.Need-returns-3
 returns-3 c =
     let tested = c .before .before in
     let a = start tested .args in
-    c .closes .ensures ∙ lassoOf-closes (graphOf (now (a .file))) (now (a .list)) (a .length .0) (tested .before .if1 .left ∙ tested .before .before .before .before .entries .ensures) (is-path (c .before))
+    c .closes .ensures ∙ lassoOf-closes (graphOf (now (a .file))) (now (a .list)) (a .length .0) (omega (arith, tested .before .if1 .left, tested .before .before .before .before .entries .ensures)) (is-path (c .before))
 
 pub is-lasso-spec : {M : Type 1} → statement M
 is-lasso-spec =

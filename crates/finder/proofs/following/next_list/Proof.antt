@@ -13,7 +13,7 @@ use Rattle.lasso.specs.Roll.{roll}
 use Rattle.lasso.specs.Following.{following}
 use Rattle.model.specs.Model.{graphOf}
 use Rattle.model.proofs.Laws.{valid-sizes, valid-well-formed}
-use Rattle.listing.specs.Promises.{upTo}
+use Rattle.follow.specs.Follow.{upTo}
 use Rattle.gate.proofs.GateLaws.{valid-room}
 use Rattle.paths.proofs.LoopTests.{lassoOf}
 use Rattle.cursor.proofs.TableLaws.{least-fits}

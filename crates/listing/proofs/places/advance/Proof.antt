@@ -6,7 +6,8 @@ use mathlib.Core.Path.{ap}
 use native.Mathlib.Omega.{arith}
 use lib.ListN.{set}
 use Rattle.model.specs.Model.{graphOf}
-use Rattle.listing.specs.Promises.{LeastFollower, Completed, upTo}
+use Rattle.follow.specs.Follow.{upTo}
+use Rattle.listing.specs.Places.{LeastFollower, Completed}
 use Rattle.listing.proofs.PlacesTable.{length-fits, put-asks, same-kept}
 use Rattle.listing.proofs.PlacesRoll.{Retreating, retreating-none, retreating-all, Raising, raising, raising-asks, raising-nothing, raised-asks, raised-kept, raised-follows}
 use Rattle.listing.proofs.places.advance.Statement.{statement}

@@ -9,7 +9,7 @@ use Rattle.lasso.proofs.PlaceByPlace.{Extends}
 use Rattle.model.specs.Bytes.{words}
 use Rattle.model.specs.Model.{graphOf}
 use Rattle.table.proofs.Laws.{sameOutside-trans}
-use Rattle.listing.specs.Promises.{Decides, upTo}
+use Rattle.follow.specs.Follow.{Decides, upTo}
 use Rattle.listing.proofs.PlacesExtend.{extends-path}
 use Rattle.listing.proofs.PlacesFollower.{Tried, tried-none, tried-more, tried-found, some-successor, tried-last}
 use Rattle.listing.proofs.PlacesTable.{length-fits}

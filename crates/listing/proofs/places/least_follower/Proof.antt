@@ -9,7 +9,7 @@ use lib.ListN.{length, getD}
 use Rattle.lasso.proofs.PlaceByPlace.{Extends}
 use Rattle.model.specs.Model.{graphOf}
 use Rattle.table.proofs.Laws.{sameOutside-refl, sameOutside-trans}
-use Rattle.listing.specs.Promises.{Decides, upTo}
+use Rattle.follow.specs.Follow.{Decides, upTo}
 use Rattle.listing.proofs.PlacesFollower.{Tried, tried-none, tried-more, tried-found, tried-all}
 use Rattle.listing.proofs.PlacesTable.{length-fits}
 use Rattle.listing.proofs.PlacesRow.{Row, read-row, test-asks, test-answers}

@@ -1,0 +1,2 @@
+-- The current list, and what writing it leaves in the answer table.
+pub mod Current

@@ -1,0 +1,59 @@
+-- The list in the working table, and which state may stand at its next place.
+use Prim.Native.Nat.{ℕ, suc, _+_, _*_, _≤_, _<_}
+use mathlib.Core.Path.{_≡_}
+use mathlib.Core.Bool.{Bool, true, false}
+use mathlib.Core.List.{List, [], _∷_, _++_}
+use mathlib.Core.Option.{some}
+use lib.ListN.{length, getD, take}
+use lib.Dec.{T}
+use Rattle.lasso.specs.Graph.{Graph}
+use Rattle.lasso.specs.Roll.{leastLength}
+use Rattle.lasso.proofs.PlaceByPlace.{Extends}
+use Rattle.model.specs.declared.Header.{Header}
+use Rattle.model.specs.Values.{Valid}
+use Rattle.model.specs.Model.{graphOf}
+use Rattle.spread.specs.Regions.{entry}
+use Rattle.current.specs.Current.{stateAt}
+use Rattle.starts.specs.LoopStarts.{StartLoops}
+
+-- the list up to a place: the start, and then what region 0 holds
+abbrev pub upTo : Graph → List ℕ → ℕ → List ℕ
+upTo g w place = g .start ∷ take place w
+
+-- what stands in the list up to a place are states
+abbrev pub StatesTo : Header → List ℕ → ℕ → Type 0
+StatesTo h w place = (k : ℕ) → k ≤ place → stateAt h w k < h .states
+
+-- what the listing asks: an accepted file with its header, room for the regions, the least length of an accepting
+-- path, and the loop lengths in region 1
+pub record Prepared (f : List ℕ) (h : Header) (w : List ℕ) (l : ℕ) : Type 0 where
+  pub valid : Valid f h
+  pub room : 6 * h .states ≤ length w
+  pub least : leastLength (graphOf f) ≡ some l
+  pub start-loops : StartLoops (graphOf f) l w
+
+-- the test's answer is right: true if P holds, false if it does not
+abbrev pub Decides : Type 0 → Bool → Type 0
+Decides P true = P
+Decides P false = P → ⊥
+
+-- a state that can start the loop is reached soon enough: b is the length of its loop, a the way to it
+abbrev pub StartsAhead : ℕ → List ℕ → ℕ → Type 0
+StartsAhead n w left =
+    (s : ℕ) × (a : ℕ) × (b : ℕ) × (s < n) × (entry 1 n w s ≡ suc b) × (entry 2 n w s ≡ suc a) × (a + b ≤ left)
+
+-- the state at a place k of the list is reached soon enough, and the one at a place r from k on is marked
+abbrev pub ClosesMarked : Graph → ℕ → ℕ → List ℕ → ℕ → ℕ → Type 0
+ClosesMarked g n start w place left =
+    (k : ℕ) × (r : ℕ) × (a : ℕ) × (k ≤ r) × (r ≤ place) × T (g .marked (getD (start ∷ w) r 0))
+    × (entry 2 n w (getD (start ∷ w) k 0) ≡ suc a) × (a ≤ left)
+
+-- the state at a place k of the list can start the loop and is reached soon enough
+abbrev pub ClosesStart : ℕ → ℕ → List ℕ → ℕ → ℕ → Type 0
+ClosesStart n start w place left =
+    (k : ℕ) × (a : ℕ) × (k ≤ place) × (1 ≤ entry 1 n w (getD (start ∷ w) k 0))
+    × (entry 2 n w (getD (start ∷ w) k 0) ≡ suc a) × (a ≤ left)
+
+-- state t may stand after the list up to a place: the two begin a lasso with l transitions
+abbrev pub MayFollow : Graph → ℕ → List ℕ → ℕ → ℕ → Type 0
+MayFollow g l w place t = Extends g l (upTo g w place ++ t ∷ [])

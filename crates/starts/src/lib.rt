@@ -1,0 +1,105 @@
+// Which states can start the loop of a shortest lasso, and the length of that loop. Region 1 of the working table holds
+// it for each such state.
+ghost use mathlib.Core.Path.{_≡_};
+ghost use mathlib.Core.Option.{some};
+ghost use Prim.Native.Nat.{_*_, _≤_, _<_};
+ghost use lib.ListN.{length};
+ghost use Rattle.lasso.specs.Roll.{leastLength};
+ghost use Rattle.model.specs.Values.{Valid};
+ghost use Rattle.model.specs.Model.{graphOf};
+ghost use Rattle.table.specs.Changes.{SameOutside};
+ghost use Rattle.spread.specs.Regions.{entryOf};
+ghost use Rattle.rounds.specs.Promises.{Ready};
+ghost use Rattle.starts.specs.LoopStarts.{startLoop, StartLoops};
+ghost use Rattle.starts.specs.Flags.{FlagsRow, FlagsStarts};
+use lasso::Transitions;
+use model::Header;
+use model::degree;
+use model::row_part;
+use model::successor;
+use spread::Answer;
+use spread::loop_length;
+use table::clear;
+use table::get;
+use table::put;
+
+// Flags in region 1 each successor of u that is no further from the start than u, and takes no flag away.
+fn flag_row(file: &[u8], h: Header, work: &mut [u16], u: usize)
+    requires { ⌜ Valid (now file) h ⌝ }
+    requires { ⌜ 2 * h .states ≤ length (now work) ⌝ }
+    requires { ⌜ u < h .states ⌝ }
+    ensures { λ _. ⌜ FlagsRow (graphOf (now (file .entry))) (h .states) u (now (work .entry)) (now (work .exit)) ⌝ }
+{
+    let n = h.states;
+    let distance = get(work, u);
+    let part = row_part(file, h, u);
+    let d = degree(part);
+    let mut k = 0;
+    while k < d {
+        let t = successor(part, k);
+        if get(work, t) <= distance {
+            put(work, n + t, 1);
+        }
+        k += 1;
+    }
+}
+
+// Flags in region 1 each state that an edge enters from a reached state no nearer to the start. The loop of a shortest
+// lasso can start at no other: the state before it on the loop would start a shorter one.
+fn flag_starts(file: &[u8], h: Header, work: &mut [u16])
+    requires { ⌜ Valid (now file) h ⌝ }
+    requires { ⌜ 2 * h .states ≤ length (now work) ⌝ }
+    ensures { λ _. ⌜ FlagsStarts (graphOf (now (file .entry))) (h .states) (now (work .entry)) (now (work .exit)) ⌝ }
+{
+    let n = h.states;
+    clear(work, n, 2 * n);
+    let mut u = 0;
+    while u < n {
+        if get(work, u) != 0 {
+            flag_row(file, h, work, u);
+        }
+        u += 1;
+    }
+}
+
+// The entry of region 1 for state s.
+fn start_loop(file: &[u8], h: Header, work: &mut [u16], length: Transitions, s: usize) -> usize
+    requires { ⌜ Ready (now file) h (now work) ⌝ }
+    requires { ⌜ length .0 ≤ h .states ⌝ }
+    requires { ⌜ s < h .states ⌝ }
+    ensures { λ r. ⌜ (r ≡ entryOf (startLoop (graphOf (now (file .entry))) (length .0) s)) × (r < 65536) ⌝ }
+    ensures same { λ r. ⌜ SameOutside (2 * h .states) (6 * h .states) (now (work .entry)) (now (work .exit)) ⌝ }
+{
+    let reached = get(work, s);
+    if reached == 0 {
+        return 0;
+    }
+    let most = length.number();
+    if most < reached {
+        return 0;
+    }
+    let answer = loop_length(file, h, work, s, most + 1 - reached);
+    match answer {
+        Answer::Length(transitions) => transitions + 1,
+        Answer::Nothing(_) => 0,
+    }
+}
+
+// Puts the loop length of each state that can start the loop of a shortest lasso into region 1.
+pub fn prepare(file: &[u8], h: Header, work: &mut [u16], length: Transitions)
+    requires { ⌜ Ready (now file) h (now work) ⌝ }
+    requires { ⌜ leastLength (graphOf (now file)) ≡ some (length .0) ⌝ }
+    ensures { λ _. ⌜ StartLoops (graphOf (now (file .entry))) (length .0) (now (work .exit)) ⌝ }
+    ensures same { λ _. ⌜ SameOutside (h .states) (6 * h .states) (now (work .entry)) (now (work .exit)) ⌝ }
+{
+    let n = h.states;
+    flag_starts(file, h, work);
+    let mut s = 0;
+    while s < n {
+        if get(work, n + s) != 0 {
+            let value = start_loop(file, h, work, length, s);
+            put(work, n + s, value);
+        }
+        s += 1;
+    }
+}
