@@ -1,8 +1,8 @@
 -- What was to be shown about paths is so.
-use Prim.Native.Nat.{ℕ, suc, _+_, _-_, _≤_, _<_}
+use Prim.Native.Nat.{ℕ, _+_, _-_, _≤_, _<_}
 use mathlib.Core.Path.{_≡_, refl, sym, _∙_, ap, subst}
 use mathlib.Core.Logic.{inl, inr}
-use mathlib.Core.List.{List, []}
+use mathlib.Core.List.{List, [], List·Memᴰ}
 use mathlib.Core.Option.{Option}
 use native.Mathlib.Omega.{arith}
 use lib.ListN.{getD}
@@ -13,7 +13,7 @@ use Rattle.lasso.specs.Roll.{leastLength}
 use Rattle.lasso.specs.Shown.{HasLength, OfLeastLength, ToBeShown, NoEdgeOut}
 use Rattle.lasso.proofs.Tests.{parts, join, memb-at, eq→eqb, eq-or-apart, range-upFrom, some-anyb}
 use Rattle.lasso.proofs.Least.{IsLeast, isLeast-by, isLeast-bounds}
-use Rattle.lasso.proofs.Walk.{Walk, walk-uncons, walk-length, seg}
+use Rattle.lasso.proofs.Walk.{walk-uncons, walk-length, seg}
 use Rattle.lasso.proofs.Lasso.{Lasso, accepting-iff, accepting-length, loop-start}
 use Rattle.lasso.proofs.Cut.{lasso-accepting, least-lasso-accepting}
 use Rattle.lasso.proofs.RollLaws.{accepting-lasso, leastLength-least}
@@ -55,8 +55,10 @@ loops-there g xs acc =
     let (q, mark, (l, different)) = accepting-iff g xs .0 acc in
     let e : l .k ≡ loopStart xs = unique (l .k) (omega arith) (sym (l .closes)) in
     let marked : T (g .marked (getD xs (l .r) 0)) = rw (l .holds) mark in
-    let marks : T (anyb (λ r. g .marked (getD xs r 0)) (upFrom (loopStart xs) (edges xs - loopStart xs))) =
-    some-anyb (λ r. g .marked (getD xs r 0)) (range-upFrom (loopStart xs) (edges xs - loopStart xs) (l .r) (omega arith) (omega arith)) marked in
+    let k : ℕ = loopStart xs in
+    let n : ℕ = edges xs - loopStart xs in
+    let in-r : List·Memᴰ (l .r) (upFrom k n) = range-upFrom k n (l .r) (omega arith) (omega arith) in
+    let marks : T (anyb (λ r. g .marked (getD xs r 0)) (upFrom k n)) = some-anyb (λ r. g .marked (getD xs r 0)) in-r marked in
     let closed : T (eqb (getD xs (edges xs) 0) (getD xs (loopStart xs) 0)) = eq→eqb _ _ (sym closes) in
     search join
 
@@ -83,8 +85,8 @@ to-be-shown g wf = record {
 -- a path that goes on from a place leaves its state by an edge
 path-edge : (g : Graph) (xs : List ℕ) (j : ℕ) → T (pathb g xs) → j < edges xs → (t : ℕ) × T (edgeb g (getD xs j 0) t)
 path-edge g xs j h less =
-    let w : Walk g (getD xs j 0) (getD xs (j + 1) 0) (suc 0) = walk-length (omega arith) (seg g xs h j (j + 1) (omega arith) (omega arith)) in
-    let (t, e, rest) = walk-uncons w in
+    let w = seg g xs h j (j + 1) (omega arith) (omega arith) in
+    let (t, e, rest) = walk-uncons {m = 0} (walk-length (omega arith) w) in
     (t, e)
 
 -- a path does not go on from a state with no edge out
