@@ -11,7 +11,7 @@ use lib.Seq.{length-take-le}
 use Rattle.lasso.specs.Lists.{pick, someIf}
 use Rattle.lasso.specs.Graph.{Graph, WellFormed, edges, loopStart}
 use Rattle.lasso.specs.Roll.{leastLength, roll}
-use Rattle.lasso.specs.Rounds.{Record, candidates, afterRounds}
+use Rattle.lasso.specs.Rounds.{Record, candidates, bestLength, afterRounds, afterAllowed}
 use Rattle.lasso.proofs.RoundLaws.{afterRounds-done, afterRounds-leastLength}
 use Rattle.lasso.proofs.RollLaws.{leastLength-range, roll-empty, roll-length}
 use Rattle.model.specs.Model.{graphOf}
@@ -86,14 +86,14 @@ roll-first g l e = go (roll g) refl
 
 -- an allowance that suffices does all rounds: their number, and the least length of an accepting path
 pub all-rounds : {g : Graph} → WellFormed g → (rec : Record) (allowance : ℕ)
-    → rec ≡ afterRounds g (min allowance (length (candidates g))) → length (candidates g) ≤ allowance
-    → (rec .done ≡ length (candidates g)) × (rec .best ≡ leastLength g)
+    → rec ≡ afterAllowed g allowance → length (candidates g) ≤ allowance
+    → (rec .done ≡ length (candidates g)) × (bestLength rec ≡ leastLength g)
 all-rounds {g} wf rec allowance e enough =
     let n : ℕ = length (candidates g) in
     let all : min allowance n ≡ n = omega arith in
     let q : rec ≡ afterRounds g n = e ∙ ap (λ (m : ℕ). afterRounds g m) all in (
       ap (λ (r : Record). r .done) q ∙ afterRounds-done g n,
-      ap (λ (r : Record). r .best) q ∙ afterRounds-leastLength wf,
+      ap bestLength q ∙ afterRounds-leastLength wf,
     )
 
 module _ (f : List ℕ) (accepted : Accepted f) (allowance answer work : ℕ) (room : 6 * states f ≤ work) where

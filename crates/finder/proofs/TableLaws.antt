@@ -16,7 +16,7 @@ use Rattle.lasso.proofs.RollLaws.{leastLength-range, roll-length, roll-lasso}
 use Rattle.model.specs.declared.Header.{Header}
 use Rattle.model.specs.Model.{graphOf}
 use Rattle.model.proofs.Laws.{valid-sizes}
-use Rattle.rounds.specs.Promises.{Ready}
+use Rattle.rounds.specs.Promises.{RoundsReady}
 use Rattle.listing.specs.Promises.{StartLoops, Prepared, upTo, Advanced}
 use Rattle.finder.proofs.LoadLaws.{loaded, loaded-list, loaded-after, loaded-length}
 
@@ -41,7 +41,7 @@ module _ (g : Graph) (l : ℕ) (least : leastLength g ≡ some l) (xs : List ℕ
   pub loaded-mem : (w w' : List ℕ) → w' ≡ loaded xs w → List·Memᴰ (upTo g w' l) (roll g)
   loaded-mem w w' e = subst (λ (zs : List ℕ). List·Memᴰ zs (roll g)) (sym (loaded-upTo w w' e)) m
 
-module _ {f : List ℕ} {h : Header} {w : List ℕ} (ready : Ready f h w) (l : ℕ) (least : leastLength (graphOf f) ≡ some l) where
+module _ {f : List ℕ} {h : Header} {w : List ℕ} (ready : RoundsReady f h w) (l : ℕ) (least : leastLength (graphOf f) ≡ some l) where
   -- the least length fits region 0
   pub least-fits : (1 ≤ l) × (l ≤ h .states) × (h .states ≤ 4096)
   least-fits =

@@ -11,7 +11,7 @@ ghost use Rattle.lasso.specs.Graph.{edgeb, edges, pathb, loopsb, lassob};
 ghost use Rattle.lasso.specs.Roll.{leastLength};
 ghost use Rattle.model.specs.Model.{graphOf};
 ghost use Rattle.model.specs.Values.{Valid};
-ghost use Rattle.rounds.specs.Promises.{Ready};
+ghost use Rattle.rounds.specs.Promises.{RoundsReady};
 ghost use Rattle.finder.specs.Outcomes.{nextOutcomeOf};
 ghost use Rattle.finder.specs.Next.{nextOutcome, nextAnswer};
 use crate::NextAnswer;
@@ -133,7 +133,7 @@ fn next_list(
     answer: &mut [u16],
     work: &mut [u16],
 ) -> NextAnswer
-    requires { ⌜ Ready (now file) h (now work) ⌝ }
+    requires { ⌜ RoundsReady (now file) h (now work) ⌝ }
     requires { ⌜ leastLength (graphOf (now file)) ≡ some (best .0) ⌝ }
     ensures outcome { λ r. ⌜ nextOutcomeOf r ≡ nextOutcome (now (file .entry)) (now (earlier .entry)) (length (now (answer .entry))) (length (now (work .entry))) ⌝ }
     ensures answer { λ _. ⌜ now (answer .exit) ≡ nextAnswer (now (file .entry)) (now (earlier .entry)) (now (answer .entry)) (length (now (work .entry))) ⌝ }

@@ -7,7 +7,7 @@ ghost use Rattle.lasso.specs.Roll.{leastLength};
 ghost use Rattle.lasso.specs.Rounds.{candidates};
 ghost use Rattle.model.specs.Model.{graphOf};
 ghost use Rattle.model.specs.Values.{Valid};
-ghost use Rattle.rounds.specs.Promises.{Ready};
+ghost use Rattle.rounds.specs.Promises.{RoundsReady};
 ghost use Rattle.finder.specs.Outcomes.{searchOutcomeOf};
 ghost use Rattle.finder.specs.Search.{searchOutcome, searchAnswer};
 use crate::SearchAnswer;
@@ -31,7 +31,7 @@ fn first_list(
     answer: &mut [u16],
     work: &mut [u16],
 ) -> SearchAnswer
-    requires { ⌜ Ready (now file) h (now work) ⌝ }
+    requires { ⌜ RoundsReady (now file) h (now work) ⌝ }
     requires { ⌜ leastLength (graphOf (now file)) ≡ some (best .0) ⌝ }
     requires { ⌜ rounds ≡ length (candidates (graphOf (now file))) ⌝ }
     ensures outcome { λ r. ⌜ ((allowance : ℕ) → rounds ≤ allowance → searchOutcomeOf r ≡ searchOutcome (now (file .entry)) allowance (length (now (answer .entry))) (length (now (work .entry)))) ⌝ }

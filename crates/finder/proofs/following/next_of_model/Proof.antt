@@ -6,6 +6,7 @@ use native.Mathlib.Omega.{arith}
 use borrow.Author.Needs.{needs}
 use lib.ListN.{length}
 use Rattle.lasso.specs.Roll.{leastLength}
+use Rattle.lasso.specs.Rounds.{bestLength}
 use Rattle.lasso.specs.Values.{bestOf, recordOf}
 use Rattle.model.specs.Model.{graphOf}
 use Rattle.model.proofs.Laws.{valid-sizes, valid-well-formed}
@@ -31,7 +32,7 @@ kept : (c : tie.After-run-rounds) → length (c .run-rounds .last .1 .1 .0) ≡ 
 kept c = c .run-rounds .ensures .1 .same-length ∙ started c .start-distances .ensures .same-length
 
 -- the record holds the least length of an accepting path
-all-done : (c : tie.After-run-rounds) → bestOf (c .run-rounds .result .best) ≡ leastLength (graphOf (start c .args .file .now))
+all-done : (c : tie.After-run-rounds) → bestLength (recordOf (c .run-rounds .result)) ≡ leastLength (graphOf (start c .args .file .now))
 all-done c =
     let s = start c in
     let a = s .args in

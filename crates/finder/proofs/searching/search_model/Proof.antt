@@ -6,7 +6,7 @@ use native.Mathlib.Omega.{arith}
 use borrow.Author.Needs.{needs}
 use lib.ListN.{length}
 use Rattle.lasso.specs.Roll.{leastLength}
-use Rattle.lasso.specs.Rounds.{Record, candidates, afterRounds}
+use Rattle.lasso.specs.Rounds.{Record, candidates, bestLength, afterRounds}
 use Rattle.lasso.specs.Values.{bestOf, recordOf}
 use Rattle.model.specs.Model.{graphOf}
 use Rattle.model.proofs.Laws.{valid-well-formed}
@@ -44,7 +44,7 @@ enough c = omega (arith, counted (rounds c) .count-candidates .ensures, c .if1 .
 -- the record holds the number of candidates and the least length of an accepting path
 all-done : (c : tie.Else1)
     → let g = graphOf (start (rounds c) .args .file .now) in
-    (rounds c .run-rounds .result .done ≡ length (candidates g)) × (bestOf (rounds c .run-rounds .result .best) ≡ leastLength g)
+    (rounds c .run-rounds .result .done ≡ length (candidates g)) × (bestLength (recordOf (rounds c .run-rounds .result)) ≡ leastLength g)
 all-done c =
     let s = start (rounds c) in
     all-rounds (valid-well-formed (s .pre .0)) (recordOf (rounds c .run-rounds .result)) (s .args .allowance) (rounds c .run-rounds .ensures .0) (enough c)
