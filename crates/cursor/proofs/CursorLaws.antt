@@ -9,11 +9,11 @@ use lib.ListN.{length, getD}
 use Rattle.lasso.specs.Graph.{Graph, WellFormed}
 use Rattle.lasso.specs.Roll.{leastLength, roll}
 use Rattle.lasso.specs.Following.{following}
-use Rattle.lasso.specs.Rounds.{Record, candidates, afterRounds}
+use Rattle.lasso.specs.Rounds.{Record, candidates, bestLength, afterRounds, afterAllowed}
 use Rattle.lasso.proofs.RoundLaws.{afterRounds-done, afterRounds-leastLength}
 use Rattle.model.specs.declared.Header.{Header}
 use Rattle.model.specs.Model.{graphOf}
-use Rattle.rounds.specs.Promises.{Ready}
+use Rattle.rounds.specs.Promises.{RoundsReady}
 use Rattle.starts.specs.LoopStarts.{StartLoops}
 use Rattle.follow.specs.Follow.{Prepared, upTo}
 use Rattle.listing.specs.Places.{Kept, Replaced}
@@ -23,18 +23,18 @@ use Rattle.cursor.proofs.RollPlaces.{stands-first, stands-next, stands-
 
 -- an allowance that suffices does all rounds: their number, and the least length of an accepting path
 pub all-rounds : {g : Graph} → WellFormed g → (rec : Record) (allowance : ℕ)
-    → rec ≡ afterRounds g (min allowance (length (candidates g))) → length (candidates g) ≤ allowance
-    → (rec .done ≡ length (candidates g)) × (rec .best ≡ leastLength g)
+    → rec ≡ afterAllowed g allowance → length (candidates g) ≤ allowance
+    → (rec .done ≡ length (candidates g)) × (bestLength rec ≡ leastLength g)
 all-rounds {g} wf rec allowance e enough =
     let n : ℕ = length (candidates g) in
     let all : min allowance n ≡ n = omega arith in
     let q : rec ≡ afterRounds g n = e ∙ ap (λ (m : ℕ). afterRounds g m) all in (
       ap (λ (r : Record). r .done) q ∙ afterRounds-done g n,
-      ap (λ (r : Record). r .best) q ∙ afterRounds-leastLength wf,
+      ap bestLength q ∙ afterRounds-leastLength wf,
     )
 
 -- the loop lengths are there: the table is prepared
-pub prepared-start : {f : List ℕ} {h : Header} {l : ℕ} {w w' : List ℕ} → Ready f h w → leastLength (graphOf f) ≡ some l
+pub prepared-start : {f : List ℕ} {h : Header} {l : ℕ} {w w' : List ℕ} → RoundsReady f h w → leastLength (graphOf f) ≡ some l
     → StartLoops (graphOf f) l w' → length w' ≡ length w → Prepared f h w' l
 prepared-start r e loops same =
     record { valid = r .valid; room = omega (arith, r .room); least = e; start-loops = loops }

@@ -6,10 +6,10 @@ use lib.ListN.{length}
 use Rattle.model.specs.declared.Header.{Header}
 use Rattle.model.specs.Values.{Valid}
 use Rattle.model.specs.Model.{graphOf}
-use Rattle.rounds.specs.Promises.{Started, Ready}
+use Rattle.rounds.specs.Promises.{StartDistancesPut, RoundsReady}
 
 -- with the distances from the start the table is ready
 pub ready-started : {f : List ℕ} {h : Header} {w w' : List ℕ} → Valid f h → 6 * h .states ≤ length w
-    → Started (graphOf f) w w' → Ready f h w'
+    → StartDistancesPut (graphOf f) w w' → RoundsReady f h w'
 ready-started v room s =
     record { valid = v; room = omega (arith, s .same-length); start-distances = s .start-distances }

@@ -13,7 +13,7 @@ use Rattle.lasso.proofs.RollLaws.{leastLength-range, roll-length, roll-lasso}
 use Rattle.model.specs.declared.Header.{Header}
 use Rattle.model.specs.Model.{graphOf}
 use Rattle.model.proofs.Laws.{valid-sizes}
-use Rattle.rounds.specs.Promises.{Ready}
+use Rattle.rounds.specs.Promises.{RoundsReady}
 use Rattle.starts.specs.LoopStarts.{StartLoops}
 use Rattle.follow.specs.Follow.{Prepared, upTo}
 use Rattle.cursor.proofs.LoadLaws.{loaded, loaded-list, loaded-after, loaded-length}
@@ -35,7 +35,7 @@ module _ (g : Graph) (l : ℕ) (least : leastLength g ≡ some l) (xs : List ℕ
   loaded-upTo w w' e =
       ap (λ (z : List ℕ). upTo g z l) e ∙ loaded-list (g .start) xs w l (roll-length g l least xs m) roll-start
 
-module _ {f : List ℕ} {h : Header} {w : List ℕ} (ready : Ready f h w) (l : ℕ) (least : leastLength (graphOf f) ≡ some l) where
+module _ {f : List ℕ} {h : Header} {w : List ℕ} (ready : RoundsReady f h w) (l : ℕ) (least : leastLength (graphOf f) ≡ some l) where
   -- the least length fits region 0
   pub least-fits : (1 ≤ l) × (l ≤ h .states) × (h .states ≤ 4096)
   least-fits =

@@ -10,7 +10,7 @@ ghost use Rattle.lasso.specs.Graph.{edges};
 ghost use Rattle.lasso.specs.Roll.{leastLength, roll};
 ghost use Rattle.model.specs.Values.{Valid};
 ghost use Rattle.model.specs.Model.{graphOf};
-ghost use Rattle.rounds.specs.Promises.{Ready};
+ghost use Rattle.rounds.specs.Promises.{RoundsReady};
 ghost use Rattle.cursor.specs.Cursor.{BegunSays, At, Placed, PlacedAt, MovedOn};
 pub use current::write_list;
 use lasso::Best;
@@ -38,7 +38,7 @@ pub fn begin(file: &[u8], h: Header, allowance: u16, work: &mut [u16]) -> Begun
     requires { ⌜ Valid (now file) h ⌝ }
     requires { ⌜ 6 * h .states ≤ lib.ListN.length (now work) ⌝ }
     ensures says { λ r. ⌜ BegunSays (graphOf (now (file .entry))) allowance r ⌝ }
-    ensures ready { λ _. ⌜ Ready (now (file .entry)) h (now (work .exit)) ⌝ }
+    ensures ready { λ _. ⌜ RoundsReady (now (file .entry)) h (now (work .exit)) ⌝ }
     ensures kept { λ _. ⌜ lib.ListN.length (now (work .exit)) ≡ lib.ListN.length (now (work .entry)) ⌝ }
 {
     start_distances(file, h, work);
@@ -58,7 +58,7 @@ pub fn begin(file: &[u8], h: Header, allowance: u16, work: &mut [u16]) -> Begun
 
 // Goes to the first list of the roll.
 pub fn to_first(file: &[u8], h: Header, length: Transitions, work: &mut [u16])
-    requires { ⌜ Ready (now file) h (now work) ⌝ }
+    requires { ⌜ RoundsReady (now file) h (now work) ⌝ }
     requires { ⌜ leastLength (graphOf (now file)) ≡ some (length .0) ⌝ }
     ensures at { λ _. ⌜ At (now (file .entry)) h (length .0) 0 (now (work .exit)) ⌝ }
     ensures kept { λ _. ⌜ lib.ListN.length (now (work .exit)) ≡ lib.ListN.length (now (work .entry)) ⌝ }
@@ -83,7 +83,7 @@ fn load(list: &[u16], work: &mut [u16])
 
 // Goes to a given list of the roll.
 pub fn to_list(file: &[u8], h: Header, length: Transitions, list: &[u16], work: &mut [u16])
-    requires { ⌜ Ready (now file) h (now work) ⌝ }
+    requires { ⌜ RoundsReady (now file) h (now work) ⌝ }
     requires { ⌜ leastLength (graphOf (now file)) ≡ some (length .0) ⌝ }
     requires { ⌜ List·Memᴰ (now list) (roll (graphOf (now file))) ⌝ }
     ensures at { λ _. ⌜ PlacedAt (now (file .entry)) h (length .0) (now (list .entry)) (now (work .exit)) ⌝ }

@@ -1,33 +1,20 @@
 -- What a step answers: refused, finished, or the record after one more round.
-use Prim.Native.Nat.{ℕ, zero, suc, _≤_, _<_}
+use Prim.Native.Nat.{ℕ, _≤_, _<_}
 use mathlib.Core.Path.{_≡_, sym, _∙_, ap}
-use mathlib.Core.Bool.{Bool, true, false}
+use mathlib.Core.Bool.{Bool}
 use mathlib.Core.List.{List}
 use mathlib.Core.Option.{Option, some, none}
-use native.Mathlib.Omega.{arith}
 use borrow.Author.Tests.{le-leb, lt-leb}
 use lib.ListN.{length}
-use Rattle.lasso.specs.Lists.{consIf, keep, upFrom, pick}
+use Rattle.lasso.specs.Lists.{pick}
 use Rattle.lasso.specs.Graph.{Graph}
-use Rattle.lasso.specs.Rounds.{Record, candidateb, candidates, afterRound}
+use Rattle.lasso.specs.Rounds.{Record, candidates, afterRound}
+pub use Rattle.lasso.proofs.RoundLaws.{candidates-length-le}
 use Rattle.model.specs.Model.{graphOf}
 use Rattle.model.specs.Rules.{firstBroken}
 use Rattle.finder.specs.Outcomes.{refused, answered, outcome, Stepped, finished, advanced}
 use Rattle.gate.specs.Gate.{commonRules}
 use Rattle.finder.specs.Step.{stepped, stepOutcome}
-
--- no more of n numbers in a row are kept than there are
-keep-upFrom-le : (p : ℕ → Bool) (a n : ℕ) → length (keep p (upFrom a n)) ≤ n
-keep-upFrom-le p a zero = omega arith
-keep-upFrom-le p a (suc n) =
-    elim (p a) as (λ b. length (consIf b a (keep p (upFrom (suc a) n))) ≤ suc n) [
-      | true ↦ omega (arith, keep-upFrom-le p (suc a) n)
-      | false ↦ omega (arith, keep-upFrom-le p (suc a) n)
-    ]
-
--- there are no more candidates than states
-pub candidates-length-le : (g : Graph) → length (candidates g) ≤ g .size
-candidates-length-le g = keep-upFrom-le (candidateb g) 0 (g .size)
 
 module _ (f : List ℕ) (rec : Record) (work : ℕ) where
   -- refused with the first reason that holds

@@ -6,7 +6,7 @@ ghost use lib.ListN;
 ghost use Rattle.lasso.specs.Roll.{leastLength};
 ghost use Rattle.model.specs.Model.{graphOf};
 ghost use Rattle.model.specs.Values.{Valid};
-ghost use Rattle.rounds.specs.Promises.{Ready};
+ghost use Rattle.rounds.specs.Promises.{RoundsReady};
 ghost use Rattle.finder.specs.Outcomes.{nextOutcomeOf};
 ghost use Rattle.finder.specs.Next.{nextOutcome, nextAnswer};
 use crate::NextAnswer;
@@ -32,7 +32,7 @@ fn next_list(
     answer: &mut [u16],
     work: &mut [u16],
 ) -> NextAnswer
-    requires { ⌜ Ready (now file) h (now work) ⌝ }
+    requires { ⌜ RoundsReady (now file) h (now work) ⌝ }
     requires { ⌜ leastLength (graphOf (now file)) ≡ some (length .0) ⌝ }
     ensures outcome { λ r. ⌜ nextOutcomeOf r
         ≡ nextOutcome (now (file .entry)) (now (earlier .entry)) (lib.ListN.length (now (answer .entry)))

@@ -1,5 +1,5 @@
--- What it means to be the least number with a property, if there is one; and that `seek`, `lesser`, `sum` and `leastOf`
--- give least numbers.
+-- Laws of the least number with a property, if there is one; and that `seek`, `lesser`, `sum` and `leastOf` give least
+-- numbers.
 use Prim.Native.Nat.{ℕ, zero, suc, _+_, _≤_, _<_, min}
 use mathlib.Core.Path.{_≡_, refl, ap}
 use mathlib.Core.Logic.{_⊎_, inl, inr}
@@ -9,13 +9,9 @@ use mathlib.Core.Option.{Option, some, none}
 use native.Mathlib.Omega.{arith}
 use lib.Dec.{T, T-not}
 use Rattle.lasso.specs.Lists.{seek}
+pub use Rattle.lasso.specs.Least.{IsLeast}
 use Rattle.lasso.specs.Rounds.{lesser, sum, leastOf}
 use Rattle.lasso.proofs.Tests.{decide, lt-or-ge, T-true, T-false}
-
--- no number has the property, or m has it and no number below m does
-abbrev pub IsLeast : (ℕ → Type 0) → Option ℕ → Type 0
-IsLeast P none = (n : ℕ) → P n → ⊥
-IsLeast P (some m) = P m × ((n : ℕ) → P n → m ≤ n)
 
 -- what a number with the property says about the least one: there is one, and it is not greater
 pub isLeast-le : (P : ℕ → Type 0) (a : Option ℕ) → IsLeast P a → (n : ℕ) → P n → (m : ℕ) × (a ≡ some m) × (m ≤ n)

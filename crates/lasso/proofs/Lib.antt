@@ -12,3 +12,4 @@ pub mod RollLaws
 pub mod PlaceByPlace
 pub mod Extend
 pub mod RoundLaws
+pub mod ShownLaws

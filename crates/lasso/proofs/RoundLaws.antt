@@ -3,17 +3,17 @@
 use Prim.Native.Nat.{ℕ, zero, suc, _+_, _-_, _≤_, _<_}
 use mathlib.Core.Path.{_≡_, refl, sym, _∙_, ap, subst}
 use mathlib.Core.Logic.{inl, inr}
-use mathlib.Core.Bool.{_&&_}
+use mathlib.Core.Bool.{Bool, true, false, _&&_}
 use mathlib.Core.List.{List, List·Memᴰ}
 use native.Mathlib.Omega.{arith}
 use lib.ListN.{length, getD, take, length-take, length-drop}
 use lib.Seq.{getD-take, getD-drop, take-suc, take-length}
 use lib.Dec.{T}
-use Rattle.lasso.specs.Lists.{memb, below, isSome}
+use Rattle.lasso.specs.Lists.{memb, keep, consIf, upFrom, below, isSome}
 use Rattle.lasso.specs.Graph.{Graph, WellFormed, edges, acceptingb, loopStart, loop}
 use Rattle.lasso.specs.Distance.{dist, distPlus}
 use Rattle.lasso.specs.Roll.{leastLength}
-use Rattle.lasso.specs.Rounds.{candidates, sum, leastOf, roundLength, afterRounds}
+use Rattle.lasso.specs.Rounds.{candidateb, candidates, sum, leastOf, roundLength, bestLength, afterRounds}
 use Rattle.lasso.proofs.Tests.{join, fst, memb-at, at-memb, memb-mem, mem-memb, keep-mem, mem-keep, below-lt, lt-below, lt-or-ge}
 use Rattle.lasso.proofs.Least.{IsLeast, isLeast-unique, Sums, OfEntry, isLeast-bounds, isLeast-iff, sum-least, leastOf-least, leastOf-append, lesser-none}
 use Rattle.lasso.proofs.Walk.{Walk, walk-here, walk-append, walk-end-state, walk-zero, walk-length, walk-to}
@@ -124,11 +124,29 @@ loop-lasso {g} r xs acc m =
 abbrev pub ThroughLength : Graph → ℕ → ℕ → Type 0
 ThroughLength g r l = (xs : List ℕ) × T (acceptingb g xs) × T (memb r (loop xs)) × (edges xs ≡ l)
 
+-- no more of n numbers in a row are kept than there are
+keep-upFrom-le : (p : ℕ → Bool) (a n : ℕ) → length (keep p (upFrom a n)) ≤ n
+keep-upFrom-le p a zero = omega arith
+keep-upFrom-le p a (suc n) =
+    elim (p a) as (λ b. length (consIf b a (keep p (upFrom (suc a) n))) ≤ suc n) [
+      | true ↦ omega (arith, keep-upFrom-le p (suc a) n)
+      | false ↦ omega (arith, keep-upFrom-le p (suc a) n)
+    ]
+
+-- there are no more candidates than states
+pub candidates-length-le : (g : Graph) → length (candidates g) ≤ g .size
+candidates-length-le g = keep-upFrom-le (candidateb g) 0 (g .size)
+
 -- a candidate is a marked state
 pub candidate-marked : (g : Graph) (r : ℕ) → List·Memᴰ r (candidates g) → (r < g .size) × T (g .marked r)
 candidate-marked g r m =
     let (in-below, test) = keep-mem (λ s. g .marked s && isSome (dist g (g .start) s)) (below (g .size)) m in
     (below-lt (g .size) in-below, fst (g .marked r) (isSome (dist g (g .start) r)) test)
+
+-- the candidate at a place is a state
+pub candidate-at-state : (g : Graph) (place : ℕ) → place < length (candidates g) → getD (candidates g) place 0 < g .size
+candidate-at-state g place l =
+    candidate-marked g (getD (candidates g) place 0) (memb-mem _ _ (at-memb (candidates g) place l)) .0
 
 -- a marked state to which a walk leads from the initial state is a candidate
 pub walk-candidate : {g : Graph} {r m : ℕ} → WellFormed g → T (g .marked r) → Walk g (g .start) r m
@@ -181,14 +199,14 @@ afterRounds-done g zero = refl
 afterRounds-done g (suc n) = omega (arith, afterRounds-done g n)
 
 -- the record after n rounds holds the least of the first n candidates' round lengths
-pub afterRounds-best : (g : Graph) (n : ℕ) → n ≤ length (candidates g)
-    → (afterRounds g n) .best ≡ leastOf (roundLength g) (take n (candidates g))
-afterRounds-best g zero h = refl
-afterRounds-best g (suc n) h =
-    rw (take-suc (candidates g) n 0 (omega arith), leastOf-append, lesser-none, afterRounds-done g n, afterRounds-best g n (omega arith))
+pub afterRounds-bestLength : (g : Graph) (n : ℕ) → n ≤ length (candidates g)
+    → bestLength (afterRounds g n) ≡ leastOf (roundLength g) (take n (candidates g))
+afterRounds-bestLength g zero h = refl
+afterRounds-bestLength g (suc n) h =
+    rw (take-suc (candidates g) n 0 (omega arith), leastOf-append, lesser-none, afterRounds-done g n, afterRounds-bestLength g n (omega arith))
 
 -- the record after all rounds holds the least length of an accepting path
 pub afterRounds-leastLength : {g : Graph} → WellFormed g
-    → (afterRounds g (length (candidates g))) .best ≡ leastLength g
+    → bestLength (afterRounds g (length (candidates g))) ≡ leastLength g
 afterRounds-leastLength {g} wf =
-    rw (afterRounds-best g (length (candidates g)) (omega arith), take-length) (rounds-leastLength wf)
+    rw (afterRounds-bestLength g (length (candidates g)) (omega arith), take-length) (rounds-leastLength wf)

@@ -45,6 +45,10 @@ pub record Record : Type 0 where
   pub done : ℕ
   pub best : Option ℕ
 
+-- the length of the best so far, if there is one
+abbrev pub bestLength : Record → Option ℕ
+bestLength rec = rec .best
+
 -- the record after one more round, given that round's length
 abbrev pub withRound : Record → Option ℕ → Record
 withRound rec length = record { done = rec .done + 1; best = lesser (rec .best) length }
@@ -61,3 +65,7 @@ afterRound g rec = withRound rec (roundLength g (getD (candidates g) (rec .done)
 abbrev pub afterRounds : Graph → ℕ → Record
 afterRounds g zero = record { done = 0; best = none }
 afterRounds g (suc n) = afterRound g (afterRounds g n)
+
+-- the record of a search after all rounds that the allowance admits
+abbrev pub afterAllowed : Graph → ℕ → Record
+afterAllowed g allowance = afterRounds g (min allowance (length (candidates g)))

@@ -3,7 +3,7 @@
 ghost use mathlib.Core.Path.{_≡_};
 ghost use Prim.Native.Nat.{_+_, _<_};
 ghost use Rattle.lasso.specs.Rounds.{withRound};
-ghost use Rattle.lasso.specs.Values.{recordOf, bestOf};
+ghost use Rattle.lasso.specs.Values.{recordOf, bestOf, foundOf};
 
 // A count of transitions: the length of a path.
 pub struct Transitions(pub u16);
@@ -27,6 +27,12 @@ impl Transitions {
     }
 }
 
+// The length that a round found: none, or a length.
+pub enum LengthFound {
+    None,
+    Length(Transitions),
+}
+
 // The best length so far: none, or a length.
 pub enum Best {
     None,
@@ -39,29 +45,35 @@ pub struct RoundRecord {
     pub best: Best,
 }
 
-// The lesser of two lengths, where none counts as more than every length.
-pub fn lesser(a: Best, b: Best) -> Best
-    ensures { λ r. ⌜ bestOf r ≡ Rattle.lasso.specs.Rounds.lesser (bestOf a) (bestOf b) ⌝ }
+// The lesser of the best so far and the length that a round found, where none counts as more than every length.
+pub fn lesser(best: Best, found: LengthFound) -> Best
+    ensures { λ r. ⌜ bestOf r ≡ Rattle.lasso.specs.Rounds.lesser (bestOf best) (foundOf found) ⌝ }
 {
-    match a {
-        Best::None => b,
-        Best::Length(x) => match b {
-            Best::None => a,
-            Best::Length(y) => { if x.0 <= y.0 { a } else { b } }
+    match found {
+        LengthFound::None => best,
+        LengthFound::Length(length) => match best {
+            Best::None => Best::Length(length),
+            Best::Length(old) => {
+                if old.0 <= length.0 {
+                    best
+                } else {
+                    Best::Length(length)
+                }
+            }
         },
     }
 }
 
 impl RoundRecord {
-    // The record after one more round, given that round's length.
-    pub fn with_round(self, length: Best) -> RoundRecord
+    // The record after one more round, given the length that it found.
+    pub fn with_round(self, found: LengthFound) -> RoundRecord
         requires { ⌜ self .done < 65535 ⌝ }
-        ensures { λ r. ⌜ recordOf r ≡ withRound (recordOf self) (bestOf length) ⌝ }
+        ensures { λ r. ⌜ recordOf r ≡ withRound (recordOf self) (foundOf found) ⌝ }
     {
         let best = self.best;
         RoundRecord {
             done: self.done + 1,
-            best: lesser(best, length),
+            best: lesser(best, found),
         }
     }
 }

@@ -1,6 +1,7 @@
 -- Candidates, counted while going up through the states: those from a state on, and how many are below it.
 use Prim.Native.Nat.{ℕ, suc, _+_, _-_, _≤_, _<_}
 use mathlib.Core.Path.{_≡_, _∙_, ap}
+use mathlib.Core.Logic.{inl, inr}
 use mathlib.Core.Bool.{Bool, true, false}
 use mathlib.Core.List.{List, [], _∷_}
 use native.Mathlib.Omega.{arith}
@@ -8,6 +9,7 @@ use lib.ListN.{length, getD}
 use Rattle.lasso.specs.Lists.{keep, consIf, upFrom}
 use Rattle.lasso.specs.Graph.{Graph}
 use Rattle.lasso.specs.Rounds.{candidateb, candidates}
+use Rattle.lasso.proofs.Tests.{lt-or-ge}
 
 -- the candidates from s on
 abbrev pub candidatesFrom : Graph → ℕ → List ℕ
@@ -83,9 +85,20 @@ counted-at {g} {d} {s} l e c =
     ap (λ (i : ℕ). getD (candidates g) i 0) q ∙ c .entries 0
     ∙ ap (λ (xs : List ℕ). getD xs 0 0) (candidatesFrom-yes g s l e)
 
+-- a candidate's place is below the number of candidates
+pub counted-left : {g : Graph} {d s : ℕ} → s < g .size → candidateb g s ≡ true → Counted g d s → d < length (candidates g)
+counted-left {g} {d} {s} l e c = omega (arith, c .lengths, ap length (candidatesFrom-yes g s l e))
+
 -- all candidates are below the number of states
 pub counted-all : {g : Graph} {d s : ℕ} → g .size ≤ s → Counted g d s → d ≡ length (candidates g)
 counted-all {g} {d} {s} l c = omega (arith, c .lengths, ap length (candidatesFrom-size g s l))
+
+-- while a candidate is to come, the states are not passed
+pub counted-inside : {g : Graph} {d s : ℕ} → d < length (candidates g) → Counted g d s → s < g .size
+counted-inside {g} {d} {s} l c = elim (lt-or-ge s (g .size)) [
+  | inl less ↦ less
+  | inr past ↦ absurd (omega (arith, counted-all past c))
+]
 
 -- no more candidates are below a state than there are
 pub counted-le : {g : Graph} {d s : ℕ} → Counted g d s → d ≤ length (candidates g)

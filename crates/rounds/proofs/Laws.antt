@@ -7,7 +7,7 @@ use mathlib.Core.Option.{Option, some, none}
 use native.Mathlib.Omega.{arith}
 use Rattle.lasso.specs.Graph.{Graph, WellFormed, edges}
 use Rattle.lasso.specs.Distance.{dist}
-use Rattle.lasso.specs.Rounds.{lesser, sum, roundLength, Record, withRound}
+use Rattle.lasso.specs.Rounds.{lesser, sum, roundLength, Record, bestLength, withRound}
 use Rattle.lasso.proofs.Tests.{lt-or-ge}
 use Rattle.lasso.proofs.Least.{IsLeast, isLeast-le, isLeast-has}
 use Rattle.lasso.proofs.Lasso.{Knot, lasso→knot, knot→lasso, through-length}
@@ -84,7 +84,7 @@ round-none {g} wf r = go (roundLength g r) refl
     go (some l) e = under-ge 1 l (roundLength-pos wf r l e)
 
 -- lengths above the limit do not change the best, if the limit is the lesser of the best and a bound on the lengths
-pub limit-enough : (best x : Option ℕ) (n limit : ℕ) → lesser best (some n) ≡ some limit
+limit-enough : (best x : Option ℕ) (n limit : ℕ) → lesser best (some n) ≡ some limit
     → ((l : ℕ) → x ≡ some l → l ≤ n) → lesser best (under (suc limit) x) ≡ lesser best x
 limit-enough best none n limit e h = refl
 limit-enough none (some l) n limit e h =
@@ -105,9 +105,9 @@ limit-le none n limit e = let q : n ≡ limit = cc in omega arith
 limit-le (some b) n limit e = let q : min b n ≡ limit = cc in omega arith
 
 -- lengths above that limit do not change the record
-pub withRound-limit : (rec : Record) (x : Option ℕ) (n limit : ℕ) → lesser (rec .best) (some n) ≡ some limit
+pub withRound-limit : (rec : Record) (x : Option ℕ) (n limit : ℕ) → lesser (bestLength rec) (some n) ≡ some limit
     → ((l : ℕ) → x ≡ some l → l ≤ n) → withRound rec (under (suc limit) x) ≡ withRound rec x
-withRound-limit rec x n limit e h = ap (λ (b : Option ℕ). next b) (limit-enough (rec .best) x n limit e h)
+withRound-limit rec x n limit e h = ap (λ (b : Option ℕ). next b) (limit-enough (bestLength rec) x n limit e h)
   where
     next : Option ℕ → Record
     next b = record { done = rec .done + 1; best = b }

@@ -25,7 +25,7 @@ use Rattle.spread.specs.Hit.{under, hitLength}
 use Rattle.spread.specs.Through.{DistancesWithin}
 use Rattle.spread.specs.Promises.{FoundFrom, ExhaustedFrom, sources}
 use Rattle.spread.proofs.UnderLaws.{under-all, under-some}
-use Rattle.rounds.specs.Promises.{StartDistances, Started, Ready}
+use Rattle.rounds.specs.Promises.{StartDistances, StartDistancesPut, RoundsReady, SumsFit, SumsPut}
 use Rattle.rounds.proofs.Laws.{valueOf-entryOf, entryOf-le, under-sum, round-found}
 
 -- an entry of region 0 stands at the state's own place
@@ -34,7 +34,7 @@ entry-zero n w s = let e : 0 * n + s ≡ s = omega arith in ap (λ (i : ℕ). ge
 
 -- the distances from the start, found in region 2 and copied to region 0
 pub started : {g : Graph} {n x : ℕ} {w w₁ w' : List ℕ} → n ≡ g .size → x ≡ g .start
-    → DistancesWithin g x n w w₁ → Copied (2 * n) 0 n w₁ w' → Started g w w'
+    → DistancesWithin g x n w w₁ → Copied (2 * n) 0 n w₁ w' → StartDistancesPut g w w'
 started {g} {n} {x} {w} {w₁} {w'} en ex found copied =
     record {
       same-length = copied .others .same-length ∙ found .outside .same-length;
@@ -92,8 +92,8 @@ candidate-reached {g} d s l p =
     ∙ and-true (g .marked s)
 
 -- a change inside regions 2 to 5 leaves the table ready
-pub ready-kept : {f : List ℕ} {h : Header} {w w' : List ℕ} → Ready f h w
-    → SameOutside (2 * h .states) (6 * h .states) w w' → Ready f h w'
+pub ready-kept : {f : List ℕ} {h : Header} {w w' : List ℕ} → RoundsReady f h w
+    → SameOutside (2 * h .states) (6 * h .states) w w' → RoundsReady f h w'
 ready-kept {f} {h} {w} {w'} ready same =
     let sizes = valid-sizes (ready .valid) in
     record {
@@ -106,20 +106,16 @@ ready-kept {f} {h} {w} {w'} ready same =
     }
 
 -- after the distances from r are found, region 0 holds those from the start
-ready-start : {f : List ℕ} {h : Header} {w w₁ : List ℕ} {r limit : ℕ} → Ready f h w
+ready-start : {f : List ℕ} {h : Header} {w w₁ : List ℕ} {r limit : ℕ} → RoundsReady f h w
     → DistancesWithin (graphOf f) r limit w w₁ → (s : ℕ) → s < graphOf f .size
     → entry 0 (graphOf f .size) w₁ s ≡ entryOf (dist (graphOf f) (graphOf f .start) s)
 ready-start {f} ready found s l =
     found .outside .same-before (0 * graphOf f .size + s) (omega arith) ∙ ready .start-distances .distances s l
 
--- the entries of region 2 for the first s states are those of the sums of what regions 0 and 2 held
-abbrev pub Sums : ℕ → ℕ → List ℕ → List ℕ → Type 0
-Sums n s w w' = (t : ℕ) → t < s → entry 2 n w' t ≡ entryOf (sum (valueOf (entry 0 n w t)) (valueOf (entry 2 n w t)))
-
 -- the sums for the first s states stand in region 2, and all other entries are as before
 pub record Added (n s : ℕ) (w w' : List ℕ) : Type 0 where
   pub others : SameOutside (2 * n) (2 * n + s) w w'
-  pub sums : Sums n s w w'
+  pub sums : SumsPut n s w w'
 
 -- at first nothing is added
 pub added-none : (n : ℕ) (w : List ℕ) → Added n 0 w w
@@ -161,9 +157,8 @@ added-more {n} {s} {x} {y} {v} {w} {w'} l room a ex ey e =
         ∙ ap₂ (λ (i j : ℕ). entryOf (sum (valueOf i) (valueOf j))) (ex ∙ added-start l a) (ey ∙ added-level a)
 
 -- a distance from the start and one from r, in regions 0 and 2, are small enough to be added
-pub round-fits : {f : List ℕ} {h : Header} {w w₁ : List ℕ} {r limit : ℕ} → Ready f h w
-    → DistancesWithin (graphOf f) r limit w w₁ → (s : ℕ) → s < h .states
-    → entry 0 (h .states) w₁ s + entry 2 (h .states) w₁ s ≤ 65536
+pub round-fits : {f : List ℕ} {h : Header} {w w₁ : List ℕ} {r limit : ℕ} → RoundsReady f h w
+    → DistancesWithin (graphOf f) r limit w w₁ → SumsFit (h .states) w₁
 round-fits {f} {h} {w} {w₁} {r} {limit} ready found s l =
     let g = graphOf f in
     let sizes = valid-sizes (ready .valid) in
@@ -174,8 +169,8 @@ round-fits {f} {h} {w} {w₁} {r} {limit} ready found s l =
     rw (sizes .states-are) (omega arith)
 
 -- the start levels of the search are the sums of both distances below the limit
-round-sources : {f : List ℕ} {h : Header} {w w₁ : List ℕ} {r limit : ℕ} (w₂ : List ℕ) → Ready f h w
-    → DistancesWithin (graphOf f) r limit w w₁ → Sums (graphOf f .size) (graphOf f .size) w₁ w₂ → (s : ℕ) → s < graphOf f .size
+round-sources : {f : List ℕ} {h : Header} {w w₁ : List ℕ} {r limit : ℕ} (w₂ : List ℕ) → RoundsReady f h w
+    → DistancesWithin (graphOf f) r limit w w₁ → SumsPut (graphOf f .size) (graphOf f .size) w₁ w₂ → (s : ℕ) → s < graphOf f .size
     → sources (graphOf f .size) limit w₂ s ≡ under limit (sum (dist (graphOf f) (graphOf f .start) s) (dist (graphOf f) r s))
 round-sources {f} {r = r} {limit} w₂ ready found sums s l =
     let g = graphOf f in
@@ -188,8 +183,8 @@ round-sources {f} {r = r} {limit} w₂ ready found sums s l =
     ∙ under-sum limit a (dist g r s)
 
 -- the search from these start levels finds the round's length
-round-length : {f : List ℕ} {h : Header} {w w₁ : List ℕ} {r limit : ℕ} (w₂ : List ℕ) → Ready f h w
-    → DistancesWithin (graphOf f) r limit w w₁ → Sums (h .states) (h .states) w₁ w₂
+round-length : {f : List ℕ} {h : Header} {w w₁ : List ℕ} {r limit : ℕ} (w₂ : List ℕ) → RoundsReady f h w
+    → DistancesWithin (graphOf f) r limit w w₁ → SumsPut (h .states) (h .states) w₁ w₂
     → under (suc limit) (roundLength (graphOf f) r)
     ≡ under (suc limit) (hitLength (graphOf f) (sources (graphOf f .size) limit w₂) r)
 round-length {f} {r = r} {limit} w₂ ready found sums =
@@ -203,21 +198,21 @@ found-le {g} {source} {limit} {target} {l} searched =
     omega (arith, under-some (suc limit) (hitLength g source target) l (searched .length))
 
 -- the length that the search finds is the round's
-pub round-some : {f : List ℕ} {h : Header} {w w₁ w₂ w₃ : List ℕ} {r limit l : ℕ} → Ready f h w
-    → DistancesWithin (graphOf f) r limit w w₁ → Sums (h .states) (h .states) w₁ w₂
+pub round-some : {f : List ℕ} {h : Header} {w w₁ w₂ w₃ : List ℕ} {r limit l : ℕ} → RoundsReady f h w
+    → DistancesWithin (graphOf f) r limit w w₁ → SumsPut (h .states) (h .states) w₁ w₂
     → FoundFrom (graphOf f) (sources (graphOf f .size) limit w₂) limit r w₂ w₃ l
     → under (suc limit) (roundLength (graphOf f) r) ≡ some l
 round-some {w₂ = w₂} ready found sums searched = round-length w₂ ready found sums ∙ searched .length
 
 -- if the search finds no length, the round has none up to the limit
-pub round-nothing : {f : List ℕ} {h : Header} {w w₁ w₂ w₃ : List ℕ} {r limit count : ℕ} → Ready f h w
-    → DistancesWithin (graphOf f) r limit w w₁ → Sums (h .states) (h .states) w₁ w₂
+pub round-nothing : {f : List ℕ} {h : Header} {w w₁ w₂ w₃ : List ℕ} {r limit count : ℕ} → RoundsReady f h w
+    → DistancesWithin (graphOf f) r limit w w₁ → SumsPut (h .states) (h .states) w₁ w₂
     → ExhaustedFrom (graphOf f) (sources (graphOf f .size) limit w₂) limit r w₂ w₃ count
     → under (suc limit) (roundLength (graphOf f) r) ≡ none
 round-nothing {w₂ = w₂} ready found sums searched = round-length w₂ ready found sums ∙ searched .length
 
 -- a round changes regions 2 to 5 only
-pub round-outside : {f : List ℕ} {h : Header} {w w₁ w₂ w₃ : List ℕ} {r limit : ℕ} → Ready f h w
+pub round-outside : {f : List ℕ} {h : Header} {w w₁ w₂ w₃ : List ℕ} {r limit : ℕ} → RoundsReady f h w
     → DistancesWithin (graphOf f) r limit w w₁ → SameOutside (2 * h .states) (3 * h .states) w₁ w₂
     → SameOutside (2 * graphOf f .size) (6 * graphOf f .size) w₂ w₃
     → SameOutside (2 * h .states) (6 * h .states) w w₃

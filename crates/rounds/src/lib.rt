@@ -2,17 +2,19 @@
 // start throughout.
 ghost use mathlib.Core.Path.{_≡_};
 ghost use mathlib.Core.Option.{some};
-ghost use Prim.Native.Nat.{ℕ, suc, _+_, _*_, _≤_, _<_, min};
-ghost use lib.ListN.{length};
-ghost use Rattle.lasso.specs.Rounds.{candidateb, candidates, lesser, sum, roundLength, withRound, afterRound, afterRounds};
-ghost use Rattle.lasso.specs.Values.{bestOf, recordOf};
+ghost use Prim.Native.Nat.{suc, _+_, _*_, _≤_, _<_};
+ghost use lib.ListN.{length, getD};
+ghost use Rattle.lasso.specs.Rounds.{candidateb, candidates, roundLength};
+ghost use Rattle.lasso.specs.Rounds.{bestLength, lesser, sum, afterRound, afterAllowed};
+ghost use Rattle.lasso.specs.Values.{foundOf, recordOf};
 ghost use Rattle.model.specs.Values.{Valid};
 ghost use Rattle.model.specs.Model.{graphOf};
 ghost use Rattle.table.specs.Changes.{SameOutside};
-ghost use Rattle.spread.specs.Regions.{entry, entryOf, valueOf};
+ghost use Rattle.spread.specs.Regions.{entryOf, valueOf};
 ghost use Rattle.spread.specs.Hit.{under};
-ghost use Rattle.rounds.specs.Promises.{Started, Ready};
+ghost use Rattle.rounds.specs.Promises.{StartDistancesPut, RoundsReady, SumsFit, SumsPut};
 use lasso::Best;
+use lasso::LengthFound;
 use lasso::RoundRecord;
 use lasso::Transitions;
 use model::Header;
@@ -28,7 +30,7 @@ use table::put;
 pub fn start_distances(file: &[u8], h: Header, work: &mut [u16])
     requires { ⌜ Valid (now file) h ⌝ }
     requires { ⌜ 6 * h .states ≤ length (now work) ⌝ }
-    ensures { λ _. ⌜ Started (graphOf (now (file .entry))) (now (work .entry)) (now (work .exit)) ⌝ }
+    ensures { λ _. ⌜ StartDistancesPut (graphOf (now (file .entry))) (now (work .entry)) (now (work .exit)) ⌝ }
 {
     let n = h.states;
     let start = h.start;
@@ -38,7 +40,7 @@ pub fn start_distances(file: &[u8], h: Header, work: &mut [u16])
 
 // The state is a candidate: marked, and reached from the start.
 pub fn is_candidate(file: &[u8], h: Header, work: &[u16], s: usize) -> bool
-    requires { ⌜ Ready (now file) h (now work) ⌝ }
+    requires { ⌜ RoundsReady (now file) h (now work) ⌝ }
     requires { ⌜ s < h .states ⌝ }
     ensures { λ r. ⌜ r ≡ candidateb (graphOf (now (file .entry))) s ⌝ }
 {
@@ -50,7 +52,7 @@ pub fn is_candidate(file: &[u8], h: Header, work: &[u16], s: usize) -> bool
 
 // The number of candidates.
 pub fn count_candidates(file: &[u8], h: Header, work: &[u16]) -> usize
-    requires { ⌜ Ready (now file) h (now work) ⌝ }
+    requires { ⌜ RoundsReady (now file) h (now work) ⌝ }
     ensures { λ r. ⌜ r ≡ length (candidates (graphOf (now (file .entry)))) ⌝ }
 {
     let states = h.states;
@@ -83,8 +85,8 @@ fn sum_entry(a: usize, b: usize) -> usize
 // Adds the distances from the start to those in region 2, where there are both; elsewhere region 2 becomes nothing.
 fn add_start_distances(work: &mut [u16], n: usize)
     requires { ⌜ 3 * n ≤ length (now work) ⌝ }
-    requires { ⌜ ((s : ℕ) → s < n → entry 0 n (now work) s + entry 2 n (now work) s ≤ 65536) ⌝ }
-    ensures sums { λ _. ⌜ ((s : ℕ) → s < n → entry 2 n (now (work .exit)) s ≡ entryOf (sum (valueOf (entry 0 n (now (work .entry)) s)) (valueOf (entry 2 n (now (work .entry)) s)))) ⌝ }
+    requires { ⌜ SumsFit n (now work) ⌝ }
+    ensures sums { λ _. ⌜ SumsPut n n (now (work .entry)) (now (work .exit)) ⌝ }
     ensures same { λ _. ⌜ SameOutside (2 * n) (3 * n) (now (work .entry)) (now (work .exit)) ⌝ }
 {
     let mut s = 0;
@@ -98,81 +100,45 @@ fn add_start_distances(work: &mut [u16], n: usize)
 }
 
 // One round, for candidate r: its length, if it is at most the limit.
-fn round(file: &[u8], h: Header, work: &mut [u16], r: usize, limit: usize) -> Best
-    requires { ⌜ Ready (now file) h (now work) ⌝ }
+fn round(file: &[u8], h: Header, work: &mut [u16], r: usize, limit: usize) -> LengthFound
+    requires { ⌜ RoundsReady (now file) h (now work) ⌝ }
     requires { ⌜ r < h .states ⌝ }
     requires { ⌜ limit ≤ h .states ⌝ }
-    ensures { λ b. ⌜ bestOf b ≡ under (suc limit) (roundLength (graphOf (now (file .entry))) r) ⌝ }
+    ensures { λ found. ⌜ foundOf found ≡ under (suc limit) (roundLength (graphOf (now (file .entry))) r) ⌝ }
     ensures same { λ _. ⌜ SameOutside (2 * h .states) (6 * h .states) (now (work .entry)) (now (work .exit)) ⌝ }
 {
     if limit == 0 {
-        return Best::None;
+        return LengthFound::None;
     }
     let n = h.states;
     distances(file, h, work, r, limit);
     add_start_distances(work, n);
     let answer = spread(file, h, work, limit, r);
     match answer {
-        Answer::Length(l) => {
-            let length = l as u16;
-            Best::Length(Transitions(length))
+        Answer::Length(level) => {
+            let edges = level as u16;
+            LengthFound::Length(Transitions(edges))
         }
-        Answer::Nothing(_) => Best::None,
+        Answer::Nothing(_) => LengthFound::None,
     }
 }
 
 // The greatest length that a round needs to find: no accepting path is longer than the number of states, and none that
 // is longer than the best so far counts.
-fn limit_of(best: Best, n: usize) -> usize
-    ensures { λ r. ⌜ lesser (bestOf best) (some n) ≡ some r ⌝ }
+fn limit_of(so_far: RoundRecord, n: usize) -> usize
+    ensures { λ limit. ⌜ lesser (bestLength (recordOf «so_far»)) (some n) ≡ some limit ⌝ }
 {
+    let best = so_far.best;
     match best {
         Best::None => n,
-        Best::Length(l) => {
-            let b = l.0 as usize;
-            if b < n { b } else { n }
+        Best::Length(length) => {
+            let edges = length.0 as usize;
+            if edges < n { edges } else { n }
         }
     }
 }
 
-// The round for candidate r, as far as the best so far needs it: a length above the best may be left out.
-fn round_within(file: &[u8], h: Header, work: &mut [u16], r: usize, best: Best) -> Best
-    requires { ⌜ Ready (now file) h (now work) ⌝ }
-    requires { ⌜ r < h .states ⌝ }
-    ensures { λ b. ⌜ lesser (bestOf best) (bestOf b) ≡ lesser (bestOf best) (roundLength (graphOf (now (file .entry))) r) ⌝ }
-    ensures same { λ _. ⌜ SameOutside (2 * h .states) (6 * h .states) (now (work .entry)) (now (work .exit)) ⌝ }
-{
-    let limit = limit_of(best, h.states);
-    round(file, h, work, r, limit)
-}
-
-// The record after one more round: the one for the candidate whose place is the count.
-pub fn next_round(file: &[u8], h: Header, work: &mut [u16], so_far: RoundRecord) -> RoundRecord
-    requires { ⌜ Ready (now file) h (now work) ⌝ }
-    requires { ⌜ «so_far» .done < length (candidates (graphOf (now file))) ⌝ }
-    ensures { λ a. ⌜ recordOf a ≡ afterRound (graphOf (now (file .entry))) (recordOf «so_far») ⌝ }
-    ensures same { λ _. ⌜ SameOutside (2 * h .states) (6 * h .states) (now (work .entry)) (now (work .exit)) ⌝ }
-{
-    let n = h.states;
-    let best = so_far.best;
-    let done = so_far.done as usize;
-    let mut found = Best::None;
-    let mut place: usize = 0;
-    let mut s = 0;
-    while s < n {
-        if is_candidate(file, h, work, s) {
-            if place == done {
-                let length = round_within(file, h, work, s, best);
-                found = lasso::lesser(found, length);
-            }
-            place += 1;
-        }
-        s += 1;
-    }
-    so_far.with_round(found)
-}
-
-// The record after one more round, the one for candidate r.
+// The record after the round for candidate r, whose place is the count. A length above the best so far may be left out.
 fn after_round(
     file: &[u8],
     h: Header,
@@ -180,21 +146,52 @@ fn after_round(
     r: usize,
     so_far: RoundRecord,
 ) -> RoundRecord
-    requires { ⌜ Ready (now file) h (now work) ⌝ }
-    requires { ⌜ r < h .states ⌝ }
-    requires { ⌜ «so_far» .done < 65535 ⌝ }
-    ensures { λ a. ⌜ recordOf a ≡ withRound (recordOf «so_far») (roundLength (graphOf (now (file .entry))) r) ⌝ }
+    requires { ⌜ RoundsReady (now file) h (now work) ⌝ }
+    requires { ⌜ «so_far» .done < length (candidates (graphOf (now file))) ⌝ }
+    requires { ⌜ r ≡ getD (candidates (graphOf (now file))) («so_far» .done) 0 ⌝ }
+    ensures { λ a. ⌜ recordOf a ≡ afterRound (graphOf (now (file .entry))) (recordOf «so_far») ⌝ }
     ensures same { λ _. ⌜ SameOutside (2 * h .states) (6 * h .states) (now (work .entry)) (now (work .exit)) ⌝ }
 {
-    let best = so_far.best;
-    let length = round_within(file, h, work, r, best);
-    so_far.with_round(length)
+    let limit = limit_of(so_far, h.states);
+    let found = round(file, h, work, r, limit);
+    so_far.with_round(found)
+}
+
+// The candidate at a place, the first having place 0.
+fn candidate_at(file: &[u8], h: Header, work: &[u16], place: usize) -> usize
+    requires { ⌜ RoundsReady (now file) h (now work) ⌝ }
+    requires { ⌜ place < length (candidates (graphOf (now file))) ⌝ }
+    ensures { λ r. ⌜ r ≡ getD (candidates (graphOf (now (file .entry)))) place 0 ⌝ }
+{
+    let mut before: usize = 0;
+    let mut s = 0;
+    loop {
+        if is_candidate(file, h, work, s) {
+            if before == place {
+                return s;
+            }
+            before += 1;
+        }
+        s += 1;
+    }
+}
+
+// The record after one more round: the one for the candidate whose place is the count.
+pub fn next_round(file: &[u8], h: Header, work: &mut [u16], so_far: RoundRecord) -> RoundRecord
+    requires { ⌜ RoundsReady (now file) h (now work) ⌝ }
+    requires { ⌜ «so_far» .done < length (candidates (graphOf (now file))) ⌝ }
+    ensures { λ a. ⌜ recordOf a ≡ afterRound (graphOf (now (file .entry))) (recordOf «so_far») ⌝ }
+    ensures same { λ _. ⌜ SameOutside (2 * h .states) (6 * h .states) (now (work .entry)) (now (work .exit)) ⌝ }
+{
+    let place = so_far.done as usize;
+    let r = candidate_at(file, h, work, place);
+    after_round(file, h, work, r, so_far)
 }
 
 // The record after all rounds that the allowance admits.
 pub fn run_rounds(file: &[u8], h: Header, work: &mut [u16], allowance: usize) -> RoundRecord
-    requires { ⌜ Ready (now file) h (now work) ⌝ }
-    ensures { λ a. ⌜ recordOf a ≡ afterRounds (graphOf (now (file .entry))) (min allowance (length (candidates (graphOf (now (file .entry)))))) ⌝ }
+    requires { ⌜ RoundsReady (now file) h (now work) ⌝ }
+    ensures { λ a. ⌜ recordOf a ≡ afterAllowed (graphOf (now (file .entry))) allowance ⌝ }
     ensures same { λ _. ⌜ SameOutside (2 * h .states) (6 * h .states) (now (work .entry)) (now (work .exit)) ⌝ }
 {
     let n = h.states;

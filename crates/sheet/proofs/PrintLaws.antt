@@ -14,7 +14,7 @@ use Rattle.lasso.specs.Following.{following}
 use Rattle.model.specs.declared.Header.{Header}
 use Rattle.model.specs.Model.{graphOf}
 use Rattle.model.proofs.Laws.{valid-sizes, valid-well-formed}
-use Rattle.rounds.specs.Promises.{Ready}
+use Rattle.rounds.specs.Promises.{RoundsReady}
 use Rattle.starts.specs.LoopStarts.{StartLoops}
 use Rattle.follow.specs.Follow.{Prepared, upTo}
 use Rattle.listing.specs.Places.{Kept}
@@ -40,7 +40,7 @@ pub record Printing (f : List ℕ) (h : Header) (l : ℕ) (a₀ w₀ t₀ : List
   pub work-length : length w ≡ length w₀
 
 -- the loop lengths are there: the table is prepared
-pub prepared-start : {f : List ℕ} {h : Header} {l : ℕ} {w w' : List ℕ} → Ready f h w → leastLength (graphOf f) ≡ some l
+pub prepared-start : {f : List ℕ} {h : Header} {l : ℕ} {w w' : List ℕ} → RoundsReady f h w → leastLength (graphOf f) ≡ some l
     → StartLoops (graphOf f) l w' → length w' ≡ length w → Prepared f h w' l
 prepared-start r e loops same =
     record { valid = r .valid; room = omega (arith, r .room); least = e; start-loops = loops }

@@ -7,7 +7,7 @@ ghost use Prim.Native.Nat.{_+_, _≤_, _<_};
 ghost use lib.ListN.{length, take, drop};
 ghost use Rattle.lasso.specs.Roll.{leastLength, roll};
 ghost use Rattle.model.specs.Model.{graphOf};
-ghost use Rattle.rounds.specs.Promises.{Ready};
+ghost use Rattle.rounds.specs.Promises.{RoundsReady};
 ghost use Rattle.current.specs.Current.{listIn};
 ghost use Rattle.finder.specs.Tables.{written};
 ghost use Rattle.sheet.specs.Sheet.{line, mostLists, closingLine, listsText, lastOf, listsRoom};
@@ -65,7 +65,7 @@ pub fn write_lists(
     text: &mut [u8],
     at: usize,
 ) -> usize
-    requires { ⌜ Ready (now file) h (now work) ⌝ }
+    requires { ⌜ RoundsReady (now file) h (now work) ⌝ }
     requires { ⌜ leastLength (graphOf (now file)) ≡ some (length .0) ⌝ }
     requires { ⌜ length .0 < lib.ListN.length (now answer) ⌝ }
     requires { ⌜ at + listsRoom ≤ lib.ListN.length (now text) ⌝ }

@@ -16,7 +16,7 @@ use Rattle.model.proofs.Laws.{valid-sizes}
 use Rattle.table.specs.Changes.{SameOutside}
 use Rattle.table.proofs.Laws.{sameOutside-refl, sameOutside-widen, sameOutside-trans, sameOutside-set}
 use Rattle.spread.specs.Regions.{entryOf}
-use Rattle.rounds.specs.Promises.{StartDistances, Ready}
+use Rattle.rounds.specs.Promises.{StartDistances, RoundsReady}
 use Rattle.starts.specs.LoopStarts.{startLoop, StartLoops}
 use Rattle.starts.specs.Flags.{FlagsStarts}
 use Rattle.starts.proofs.StartLaws.{dist-state, startLoop-entered}
@@ -82,7 +82,7 @@ filling-done {g} {n = n} {w = w} size all f = record {
 }
 
 -- a table that is the same in region 0 is ready too
-pub ready-same : {f : List ℕ} {h : Header} {w w' : List ℕ} (to : ℕ) → SameOutside (h .states) to w w' → Ready f h w → Ready f h w'
+pub ready-same : {f : List ℕ} {h : Header} {w w' : List ℕ} (to : ℕ) → SameOutside (h .states) to w w' → RoundsReady f h w → RoundsReady f h w'
 ready-same {w = w} {w'} to same r = record {
   valid = r .valid;
   room = omega (arith, r .room, same .same-length);

@@ -9,7 +9,7 @@ ghost use Rattle.model.specs.Values.{Valid};
 ghost use Rattle.model.specs.Model.{graphOf};
 ghost use Rattle.table.specs.Changes.{SameOutside};
 ghost use Rattle.spread.specs.Regions.{entryOf};
-ghost use Rattle.rounds.specs.Promises.{Ready};
+ghost use Rattle.rounds.specs.Promises.{RoundsReady};
 ghost use Rattle.starts.specs.LoopStarts.{startLoop, StartLoops};
 ghost use Rattle.starts.specs.Flags.{FlagsRow, FlagsStarts};
 use lasso::Transitions;
@@ -64,7 +64,7 @@ fn flag_starts(file: &[u8], h: Header, work: &mut [u16])
 
 // The entry of region 1 for state s.
 fn start_loop(file: &[u8], h: Header, work: &mut [u16], length: Transitions, s: usize) -> usize
-    requires { ⌜ Ready (now file) h (now work) ⌝ }
+    requires { ⌜ RoundsReady (now file) h (now work) ⌝ }
     requires { ⌜ length .0 ≤ h .states ⌝ }
     requires { ⌜ s < h .states ⌝ }
     ensures { λ r. ⌜ (r ≡ entryOf (startLoop (graphOf (now (file .entry))) (length .0) s)) × (r < 65536) ⌝ }
@@ -87,7 +87,7 @@ fn start_loop(file: &[u8], h: Header, work: &mut [u16], length: Transitions, s: 
 
 // Puts the loop length of each state that can start the loop of a shortest lasso into region 1.
 pub fn prepare(file: &[u8], h: Header, work: &mut [u16], length: Transitions)
-    requires { ⌜ Ready (now file) h (now work) ⌝ }
+    requires { ⌜ RoundsReady (now file) h (now work) ⌝ }
     requires { ⌜ leastLength (graphOf (now file)) ≡ some (length .0) ⌝ }
     ensures { λ _. ⌜ StartLoops (graphOf (now (file .entry))) (length .0) (now (work .exit)) ⌝ }
     ensures same { λ _. ⌜ SameOutside (h .states) (6 * h .states) (now (work .entry)) (now (work .exit)) ⌝ }

@@ -6,11 +6,11 @@ use native.Mathlib.Omega.{arith}
 use borrow.Author.Needs.{needs}
 use lib.ListN.{length}
 use Rattle.lasso.specs.Roll.{leastLength}
-use Rattle.lasso.specs.Rounds.{Record, candidates, afterRounds}
+use Rattle.lasso.specs.Rounds.{candidates, bestLength, afterRounds}
 use Rattle.lasso.specs.Values.{bestOf, recordOf}
 use Rattle.model.specs.Model.{graphOf}
 use Rattle.model.proofs.Laws.{valid-well-formed}
-use Rattle.rounds.specs.Promises.{Ready}
+use Rattle.rounds.specs.Promises.{RoundsReady}
 use Rattle.rounds.proofs.TableLaws.{ready-kept}
 use Rattle.cursor.proofs.ReadyLaws.{ready-started}
 use Rattle.cursor.proofs.CursorLaws.{all-rounds}
@@ -36,7 +36,7 @@ kept : (c : tie.After-run-rounds) → length (c .run-rounds .last .1 .1 .0) ≡ 
 kept c = c .run-rounds .ensures .1 .same-length ∙ started c .start-distances .ensures .same-length
 
 -- it is ready for the listing
-ready : (c : tie.After-run-rounds) → Ready (start c .args .file .now) (start c .args .h) (c .run-rounds .last .1 .1 .0)
+ready : (c : tie.After-run-rounds) → RoundsReady (start c .args .file .now) (start c .args .h) (c .run-rounds .last .1 .1 .0)
 ready c =
     let s = start c in
     ready-kept (ready-started (s .pre .0) (s .pre .1) (started c .start-distances .ensures)) (c .run-rounds .ensures .1)
@@ -48,7 +48,7 @@ enough c = omega (arith, counted (rounds c) .count-candidates .ensures, c .if1 .
 -- the record holds the number of candidates and the least length of an accepting path
 all-done : (c : tie.Else1)
     → let g = graphOf (start (rounds c) .args .file .now) in
-    (rounds c .run-rounds .result .done ≡ length (candidates g)) × (bestOf (rounds c .run-rounds .result .best) ≡ leastLength g)
+    (rounds c .run-rounds .result .done ≡ length (candidates g)) × (bestLength (recordOf (rounds c .run-rounds .result)) ≡ leastLength g)
 all-done c =
     let s = start (rounds c) in
     all-rounds (valid-well-formed (s .pre .0)) (recordOf (rounds c .run-rounds .result)) (s .args .allowance) (rounds c .run-rounds .ensures .0) (enough c)

@@ -1,16 +1,39 @@
--- `rounds::after_round` meets its contract: the best is the lesser of the old one and the round's length.
-use mathlib.Core.Path.{_∙_}
+-- `rounds::after_round` meets its contract: a length above the limit does not change the record.
+use Prim.Native.Nat.{ℕ}
+use mathlib.Core.Path.{_∙_, ap}
+use mathlib.Core.Option.{Option}
 use borrow.Author.Needs.{needs}
+use native.Mathlib.Omega.{arith}
+use Rattle.lasso.specs.Rounds.{roundLength, bestLength, withRound}
 use Rattle.lasso.specs.Values.{recordOf}
-use Rattle.rounds.proofs.RecordLaws.{withRound-lesser}
+use Rattle.lasso.proofs.RoundLaws.{candidates-length-le, candidate-at-state}
+use Rattle.model.specs.Model.{graphOf}
+use Rattle.model.proofs.Laws.{valid-sizes, valid-well-formed}
+use Rattle.rounds.proofs.Laws.{limit-le, withRound-limit, roundLength-le}
 use Rattle.rounds.proofs.after_round.Statement.{statement}
 use Rattle.rounds.proofs.after_round.Tie as tie
 
-round-within-requires : tie.Need-round-within-requires
-round-within-requires c κs = search needs
+limit-of-requires : tie.Need-limit-of-requires
+limit-of-requires c κs = search needs
+
+round-requires : tie.Need-round-requires
+round-requires c κs =
+    let limit = c .before in
+    let start = limit .before .before .before in
+    let a = start .args in
+    let sizes = valid-sizes (start .pre .0 .valid) in (
+      start .pre .0,
+      (
+        omega (arith, start .pre .1 .1, candidate-at-state (graphOf (a .file .now)) (a .so-far .done) (start .pre .1 .0)),
+        limit-le (bestLength (recordOf (a .so-far))) (a .h .states) (limit .limit-of .result) (limit .limit-of .ensures),
+      ),
+    )
 
 with-round-requires : tie.Need-with-round-requires
-with-round-requires c κs = search needs
+with-round-requires c κs =
+    let start = c .before .before .before .before .before .before .before in
+    let sizes = valid-sizes (start .pre .0 .valid) in
+    omega (arith, start .pre .1 .0, candidates-length-le (graphOf (start .args .file .now)))
 
 same-length : tie.Need-same-length
 same-length c = search needs
@@ -18,10 +41,22 @@ same-length c = search needs
 returns : tie.Need-returns
 returns c =
     let done = c .before .before .before in
-    let start = done .before .before .before .before in (
-      c .with-round .ensures ∙ withRound-lesser (recordOf (start .args .so-far)) _ _ (done .round-within .ensures .0),
-      done .round-within .ensures .1,
+    let limit = done .before .before in
+    let start = limit .before .before .before in
+    let a = start .args in
+    let g = graphOf (a .file .now) in
+    let valid = start .pre .0 .valid in
+    let sizes = valid-sizes valid in
+    let at = start .pre .1 .1 in
+    let low = candidate-at-state g (a .so-far .done) (start .pre .1 .0) in (
+      c .with-round .ensures
+          ∙ ap (λ (x : Option ℕ). withRound (recordOf (a .so-far)) x) (done .round .ensures .0)
+          ∙ withRound-limit (recordOf (a .so-far)) (roundLength g (a .r)) (a .h .states)
+          (limit .limit-of .result) (limit .limit-of .ensures)
+          (λ l e. omega (arith, roundLength-le (valid-well-formed valid) (a .r) l (omega arith) e))
+          ∙ ap (λ (s : ℕ). withRound (recordOf (a .so-far)) (roundLength g s)) at,
+      done .round .ensures .1,
     )
 
 pub after-round-spec : {M : Type 1} → statement M
-after-round-spec = tie.close (tie.spec round-within-requires with-round-requires same-length returns)
+after-round-spec = tie.close (tie.spec limit-of-requires round-requires with-round-requires same-length returns)

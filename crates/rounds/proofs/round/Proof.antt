@@ -47,8 +47,8 @@ spread-requires c κs = search needs
 enum-known-answer : tie.Need-enum-known-answer
 enum-known-answer c = search needs
 
-cast-length : tie.Need-cast-length
-cast-length c =
+cast-edges : tie.Need-cast-edges
+cast-edges c =
     let searched = c .before .before .before .before .before in
     let pre = start-at searched .pre in
     let sizes = valid-sizes (pre .0 .valid) in
@@ -94,7 +94,7 @@ round-spec =
     add-start-distances-requires
     spread-requires
     enum-known-answer
-    cast-length
+    cast-edges
     enum-told
     same-length
     returns-2

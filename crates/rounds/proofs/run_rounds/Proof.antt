@@ -10,6 +10,7 @@ use Rattle.model.proofs.Laws.{valid-sizes}
 use Rattle.table.specs.Changes.{SameOutside}
 use Rattle.table.proofs.Laws.{sameOutside-refl, sameOutside-trans}
 use Rattle.rounds.proofs.TableLaws.{ready-kept}
+use Rattle.rounds.proofs.CandidateLaws.{counted-left, counted-at}
 use Rattle.rounds.proofs.RecordLaws.{Underway, underway-none, underway-yes, underway-no, underway-stopped, underway-all}
 use Rattle.rounds.proofs.run_rounds.Statement.{statement}
 use Rattle.rounds.proofs.run_rounds.Tie as tie
@@ -44,10 +45,14 @@ is-candidate-requires c κs =
 
 after-round-requires : tie.Need-after-round-requires Inv-loop μ-loop
 after-round-requires c κs =
-    let at = c .before .before .before .before .before .before .before in
+    let tested = c .before .before in
+    let at = tested .before .before .before .before .before in
     let ready = at .before .before .before .pre in
     let sizes = valid-sizes (ready .valid) in
-    (ready-kept ready (at .loop .inv .1), omega arith)
+    let test = sym (tested .is-candidate .ensures) ∙ c .before .if2 .taken in
+    let inside : at .loop .s < graphOf (at .before .before .before .args .file .now) .size = omega arith in
+    let counted = at .loop .inv .2 .counted in
+    (ready-kept ready (at .loop .inv .1), (counted-left inside test counted, sym (counted-at inside test counted)))
 
 add-s : tie.Need-add-s Inv-loop μ-loop
 add-s c = omega arith

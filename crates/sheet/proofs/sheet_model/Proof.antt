@@ -8,7 +8,7 @@ use native.Mathlib.Omega.{arith}
 use borrow.Author.Needs.{needs}
 use lib.ListN.{length, take}
 use Rattle.lasso.specs.Roll.{leastLength, roll}
-use Rattle.lasso.specs.Rounds.{candidates}
+use Rattle.lasso.specs.Rounds.{candidates, bestLength}
 use Rattle.lasso.specs.Values.{bestOf, recordOf}
 use Rattle.lasso.proofs.RollLaws.{leastLength-range}
 use Rattle.model.specs.Model.{graphOf}
@@ -47,7 +47,7 @@ kept c = c .run-rounds .ensures .1 .same-length ∙ started c .start-distances .
 -- the record holds the number of candidates and the least length of an accepting path
 all-done : (c : tie.After-run-rounds)
     → let g = graphOf (start c .args .file .now) in
-    (c .run-rounds .result .done ≡ length (candidates g)) × (bestOf (c .run-rounds .result .best) ≡ leastLength g)
+    (c .run-rounds .result .done ≡ length (candidates g)) × (bestLength (recordOf (c .run-rounds .result)) ≡ leastLength g)
 all-done c =
     let s = start c in
     let v = s .pre .0 in

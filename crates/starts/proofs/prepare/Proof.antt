@@ -10,7 +10,7 @@ use Rattle.model.specs.Model.{graphOf}
 use Rattle.model.proofs.Laws.{valid-sizes, valid-well-formed}
 use Rattle.table.specs.Changes.{SameOutside}
 use Rattle.table.proofs.Laws.{sameOutside-widen, sameOutside-trans}
-use Rattle.rounds.specs.Promises.{Ready}
+use Rattle.rounds.specs.Promises.{RoundsReady}
 use Rattle.starts.proofs.StartsFilling.{Filling, flags-start, filling-put, filling-pass, filling-done, ready-same}
 use Rattle.starts.proofs.prepare.Statement.{statement}
 use Rattle.starts.proofs.prepare.Tie as tie
@@ -32,7 +32,7 @@ changed c =
     sameOutside-trans (sameOutside-widen n (6 * n) (omega arith) (omega arith) flags) (c .loop .inv .1 .same)
 
 -- the table stays ready
-ready : (c : tie.At-loop Inv-loop μ-loop) → Ready (start c .args .file .now) (start c .args .h) (c .loop .work)
+ready : (c : tie.At-loop Inv-loop μ-loop) → RoundsReady (start c .args .file .now) (start c .args .h) (c .loop .work)
 ready c = ready-same (6 * start c .args .h .states) (changed c) (start c .pre .0)
 
 -- the length is at most the number of states
