@@ -24,7 +24,7 @@ pub record Facts (f : List ℕ) : Type 0 where
   pub states-range : (1 ≤ states f) × (states f ≤ 4096)
   pub edges-range : edgeCount f ≤ 8192
   pub initial-below : initial f < states f
-  pub file-length : length f ≡ totalOf (states f) (edgeCount f)
+  pub file-length : totalOf (states f) (edgeCount f) ≤ length f
   pub row-first : rowEntry f 0 ≡ 0
   pub rows-ascend : (s : ℕ) → s < states f → rowEntry f s ≤ rowEntry f (s + 1)
   pub row-last : rowEntry f (states f) ≡ edgeCount f
@@ -42,7 +42,7 @@ accepted-facts f a =
       states-range = states-kept f (from2 .0);
       edges-range = nltb→le 8192 (edgeCount f) (from2 .1 .0);
       initial-below = ltb→lt (initial f) (states f) (not-not (ltb (initial f) (states f)) (from2 .1 .1 .0));
-      file-length = length-kept f (from6 .0) (from6 .1 .0);
+      file-length = omega (arith, length-kept f (from6 .0) (from6 .1 .0));
       row-first = row-first-kept f (from8 .0);
       rows-ascend = rows-ascend-kept f (from8 .0);
       row-last = row-last-kept f (from8 .0);

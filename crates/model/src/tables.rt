@@ -52,7 +52,7 @@ pub fn offsets_broken(file: &[u8], n: usize, m: usize) -> bool
 // Rule 8: the first row entry is not 0, an entry is less than the one before, or the last is not m.
 pub fn rows_broken(file: &[u8], n: usize, m: usize) -> bool
     requires { ⌜ (n ≡ states (now file)) × (m ≡ edgeCount (now file)) ⌝ }
-    requires { ⌜ length (now file) ≡ totalOf n m ⌝ }
+    requires { ⌜ totalOf n m ≤ length (now file) ⌝ }
     ensures { λ r. ⌜ r ≡ badRows (now (file .entry)) ⌝ }
 {
     if entry(file, 24, 0) != 0 {
@@ -71,7 +71,7 @@ pub fn rows_broken(file: &[u8], n: usize, m: usize) -> bool
 // Rule 9: a target is not below n.
 pub fn targets_broken(file: &[u8], n: usize, m: usize) -> bool
     requires { ⌜ (n ≡ states (now file)) × (m ≡ edgeCount (now file)) ⌝ }
-    requires { ⌜ length (now file) ≡ totalOf n m ⌝ }
+    requires { ⌜ totalOf n m ≤ length (now file) ⌝ }
     ensures { λ r. ⌜ r ≡ badTargets (now (file .entry)) ⌝ }
 {
     let base = 24 + 2 * (n + 1);
@@ -103,7 +103,7 @@ pub fn ascends(part: &[u8]) -> bool
 // Rule 10: the targets in some row are not strictly ascending.
 pub fn order_broken(file: &[u8], n: usize, m: usize) -> bool
     requires { ⌜ (n ≡ states (now file)) × (m ≡ edgeCount (now file)) ⌝ }
-    requires { ⌜ length (now file) ≡ totalOf n m ⌝ }
+    requires { ⌜ totalOf n m ≤ length (now file) ⌝ }
     requires { ⌜ badRows (now file) ≡ false ⌝ }
     ensures { λ r. ⌜ r ≡ badOrder (now (file .entry)) ⌝ }
 {
@@ -120,7 +120,7 @@ pub fn order_broken(file: &[u8], n: usize, m: usize) -> bool
 // Rule 11: a spare bit of the marks is set.
 pub fn spare_set(file: &[u8], n: usize, m: usize) -> bool
     requires { ⌜ (n ≡ states (now file)) × (m ≡ edgeCount (now file)) ⌝ }
-    requires { ⌜ length (now file) ≡ totalOf n m ⌝ }
+    requires { ⌜ totalOf n m ≤ length (now file) ⌝ }
     ensures { λ r. ⌜ r ≡ badSpare (now (file .entry)) ⌝ }
 {
     let marks = 24 + 2 * (n + 1) + 2 * m;

@@ -8,7 +8,7 @@ use mathlib.Core.Option.{none}
 use borrow.Author.Tests.{eq-eqb, ne-eqb}
 use denote.Ref.{now}
 use lib.ListN.{length}
-use Prim.Native.Nat.{ℕ}
+use Prim.Native.Nat.{ℕ, _≤_}
 use Rattle.model.specs.Bytes.{long}
 use Rattle.model.specs.Layout.{states, edgeCount, totalOf}
 use Rattle.model.specs.Rules.{badOffsets, badLength, badRows, badTargets, badOrder, badSpare}
@@ -71,11 +71,11 @@ kept-10 : (c : tie.Else5) → KeptTo 10 (fileOf (from10 c))
 kept-10 c =
     passed _ (badOrder (fileOf (from10 c))) 10 _ (kept-9 (c .before .before)) (sym (c .before .order-broken .ensures) ∙ c .if5 .left)
 
--- past rule 7 the file has the length that the header gives
+-- past rule 7 the file has room for the tables of its header
 sized : (c : tie.Else2) →
     let h = from7 c .args .h in
     let file = fileOf (from7 c) in
-    ((h .states ≡ states file) × (h .edges ≡ edgeCount file)) × (length file ≡ totalOf (h .states) (h .edges))
+    ((h .states ≡ states file) × (h .edges ≡ edgeCount file)) × (totalOf (h .states) (h .edges) ≤ length file)
 sized c =
     let file = fileOf (from7 c) in
     let numbers = header-numbers file (from7 c .pre .1 .0) in
