@@ -2,18 +2,22 @@
 // The leaves speak of the graph that the file holds, never of its bytes.
 ghost use mathlib.Core.Path.{_≡_};
 ghost use Prim.Native.Nat.{_≤_, _<_};
-ghost use lib.ListN.{length, getD, drop};
+ghost use lib.ListN.{length, getD};
 ghost use Rattle.model.specs.Bytes.{words};
 ghost use Rattle.model.specs.Model.{graphOf};
-ghost use Rattle.model.specs.Rules.{firstBroken, rules};
-ghost use Rattle.model.specs.Values.{Valid, headerOf, checkOf};
+ghost use Rattle.model.specs.Layout.{totalOf};
+ghost use Rattle.model.specs.Rules.{KeptTo};
+ghost use Rattle.model.specs.Values.{Valid, headerOf, checkWith, checkOf};
 
 mod bytes;
+mod layout;
 mod tables;
 
 use bytes::bit;
 use bytes::long;
 use bytes::word;
+use layout::marks_at;
+use layout::total_of;
 use tables::offsets_broken;
 use tables::order_broken;
 use tables::row;
@@ -64,20 +68,21 @@ pub fn check(file: &[u8]) -> Checked
         edges,
         start,
     };
-    check_tables(file, header)
+    check_tables(file, header, total_of(states, edges))
 }
 
-// Applies the rules 6 to 11 to a file that keeps the rules 1 to 5.
-fn check_tables(file: &[u8], h: Header) -> Checked
+// Applies the rules 6 to 11 to a file that keeps the rules 1 to 5, by the total length that its kind is to have.
+fn check_tables(file: &[u8], h: Header, total: usize) -> Checked
     requires { ⌜ 24 ≤ length (now file) ⌝ }
     requires { ⌜ h ≡ headerOf (now file) ⌝ }
     requires { ⌜ (h .states ≤ 4096) × (h .edges ≤ 8192) ⌝ }
-    requires { ⌜ firstBroken (rules (now file)) ≡ firstBroken (drop 5 (rules (now file))) ⌝ }
-    ensures { λ r. ⌜ r ≡ checkOf (now (file .entry)) ⌝ }
+    requires { ⌜ totalOf (h .states) (h .edges) ≤ total ⌝ }
+    requires { ⌜ KeptTo 5 total (now file) ⌝ }
+    ensures { λ r. ⌜ r ≡ checkWith total (now (file .entry)) ⌝ }
 {
     let n = h.states;
     let m = h.edges;
-    if offsets_broken(file, n, m) {
+    if offsets_broken(file, n, m, total) {
         return Checked::Refused(6);
     }
     if file.len() != long(file, 20) {
@@ -131,5 +136,5 @@ pub fn is_marked(file: &[u8], h: Header, s: usize) -> bool
 {
     let states = h.states;
     let edges = h.edges;
-    bit(file, 24 + 2 * (states + 1) + 2 * edges, s)
+    bit(file, marks_at(states, edges), s)
 }
