@@ -17,7 +17,7 @@ returns c =
     let start = c .before .before .before in
     let a = start .args in
     let S = valid-sizes (start .pre .0) in
-    (rw (c .before .marks-at .ensures, S .states-are, S .edges-are) at (c .bit .ensures)) ∙ sym (marked-bit (now (a .file)) (a .s) (omega arith))
+    (rw (c .before .marks-at .ensures, S .states-are, S .edges-are) at (c .bit .ensures)) ∙ sym (marked-bit (now (a .file)) (a .h) (a .s) (omega arith))
 
 pub is-marked-spec : {M : Type 1} → statement M
 is-marked-spec =
