@@ -22,8 +22,8 @@ firstBroken [] = none
 firstBroken (r ∷ rs) = someIf (r .holds) (r .number) (firstBroken rs)
 
 -- 1. the file has fewer than 24 bytes
-abbrev pub tooShort : List ℕ → Bool
-tooShort f = ltb (length f) 24
+abbrev pub shortFile : List ℕ → Bool
+shortFile f = ltb (length f) 24
 
 -- 2. N is 0 or above 4,096
 abbrev pub badStates : List ℕ → Bool
@@ -75,7 +75,7 @@ badSpare f = anyb (markBit f) (upFrom (states f) (8 * markBytes (states f) - sta
 -- the table of reasons for a kind of file, by the total length that this kind is to have
 abbrev pub rulesWith : ℕ → List ℕ → List Reason
 rulesWith total f =
-    record { number = 1; holds = tooShort f } ∷
+    record { number = 1; holds = shortFile f } ∷
     record { number = 2; holds = badStates f } ∷
     record { number = 3; holds = badEdges f } ∷
     record { number = 4; holds = badInitial f } ∷

@@ -15,7 +15,7 @@ use Rattle.table.proofs.Laws.{sameOutside-widen, sameOutside-set}
 use Rattle.spread.specs.Regions.{entry, valueOf}
 use Rattle.spread.specs.Hit.{under}
 use Rattle.spread.specs.Promises.{sources}
-use Rattle.spread.specs.Buckets.{Greatest, Listed, withSource, Planned}
+use Rattle.spread.specs.Buckets.{Greatest, SourcesListed, withSource, Planned}
 use Rattle.spread.proofs.UnderLaws.{under-some, under-lt}
 
 -- a start level is told by the entry and is below the limit
@@ -51,7 +51,7 @@ greatest-here {source} {a} b e =
     }
 
 -- the lists stand in regions 4 and 5 alone
-pub listed-same : {source : ℕ → Option ℕ} {n limit b : ℕ} {w w' : List ℕ} → ((i : ℕ) → 4 * n ≤ i → getD w' i 0 ≡ getD w i 0) → Listed source n limit b w → Listed source n limit b w'
+pub listed-same : {source : ℕ → Option ℕ} {n limit b : ℕ} {w w' : List ℕ} → ((i : ℕ) → 4 * n ≤ i → getD w' i 0 ≡ getD w i 0) → SourcesListed source n limit b w → SourcesListed source n limit b w'
 listed-same {n = n} same L =
     record {
       firsts = λ a h. rw (same (4 * n + a) (omega arith)) (L .firsts a h);
@@ -64,7 +64,7 @@ pub record Planning (n limit s : ℕ) (w₀ w : List ℕ) : Type 0 where
   pub outside : SameOutside (2 * n) (6 * n) w₀ w
   pub clear : (i : ℕ) → i < s → entry 2 n w i ≡ 0
   pub unread : (i : ℕ) → s ≤ i → i < n → entry 2 n w i ≡ entry 2 n w₀ i
-  pub lists : Listed (sources n limit w₀) n limit s w
+  pub lists : SourcesListed (sources n limit w₀) n limit s w
 
 -- the plan of an equal table
 pub planning-same : {n limit s : ℕ} {w₀ w w' : List ℕ} → w' ≡ w → Planning n limit s w₀ w → Planning n limit s w₀ w'
@@ -96,7 +96,7 @@ planning-done {n} {limit} {s} {w₀} {w} e P =
     record {
       outside = P .outside;
       clear = λ i h. P .clear i (omega arith);
-      lists = subst (λ (b : ℕ). Listed (sources n limit w₀) n limit b w) e (P .lists);
+      lists = subst (λ (b : ℕ). SourcesListed (sources n limit w₀) n limit b w) e (P .lists);
     }
 
 module _ (n limit s : ℕ) (w₀ w : List ℕ) (inside : s < n) (fits : 6 * n ≤ length w) (P : Planning n limit s w₀ w) where

@@ -19,7 +19,7 @@ use Rattle.spread.specs.declared.Answer.{Answer}
 use Rattle.spread.specs.Regions.{entry, valueOf}
 use Rattle.spread.specs.Hit.{under}
 use Rattle.spread.specs.Promises.{sources, SpreadFrom, Spread}
-use Rattle.spread.specs.Through.{onlyIf, DistancesWithin, markedSources, Started, PlannedAt, KeptMarked}
+use Rattle.spread.specs.Through.{onlyIf, DistancesWithin, markedSources, OneSource, PlannedAt, KeptMarked}
 use Rattle.spread.specs.Buckets.{withSource, Planned}
 use Rattle.spread.proofs.BucketLaws.{source-entry, entry-source}
 use Rattle.spread.proofs.HitLaws.{Single}
@@ -31,7 +31,7 @@ region-within n s = sameOutside-widen (2 * n) (6 * n) (omega arith) (omega arith
 
 -- a cleared region with one store of 1 holds one source
 pub cleared-started : (n x : ℕ) (w u : List ℕ) → x < n → 3 * n ≤ length w → Cleared (2 * n) (3 * n) w u
-    → Started n x w (set u (2 * n + x) 1)
+    → OneSource n x w (set u (2 * n + x) 1)
 cleared-started n x w u l b c =
     record {
       outside = sameOutside-set (2 * n + x) 1 (omega arith) (omega arith) (c .others);
@@ -50,7 +50,7 @@ sameOutside-sym s =
 
 -- A table u whose region 2 says that x is the one source, and the table d that has nothing in region 2 and in the heads of
 -- the lists: with x in front of the list of level 0, it has the plan of a search from u.
-module _ {n x limit : ℕ} {w u d : List ℕ} (inside : x < n) (low : 1 ≤ limit) (limited : limit ≤ n) (fits : 6 * n ≤ length d) (st : Started n x w u) (same : SameOutside (2 * n) (6 * n) u d) (clear : (s : ℕ) → s < n → entry 2 n d s ≡ 0) (heads : (a : ℕ) → a < limit → entry 4 n d a ≡ 0) where
+module _ {n x limit : ℕ} {w u d : List ℕ} (inside : x < n) (low : 1 ≤ limit) (limited : limit ≤ n) (fits : 6 * n ≤ length d) (st : OneSource n x w u) (same : SameOutside (2 * n) (6 * n) u d) (clear : (s : ℕ) → s < n → entry 2 n d s ≡ 0) (heads : (a : ℕ) → a < limit → entry 4 n d a ≡ 0) where
   -- the table with the list
   abbrev one : List ℕ
   one = withSource n 0 x d
@@ -127,7 +127,7 @@ module _ {n x limit : ℕ} {w u d : List ℕ} (inside : x < n) (low : 1 ≤ limi
 pub cleared-planned : (n x limit : ℕ) (w c d : List ℕ) → x < n → 1 ≤ limit → limit ≤ n → 6 * n ≤ length w
     → Cleared (2 * n) (3 * n) w c → Cleared (4 * n) (4 * n + limit) c d → PlannedAt n x limit w (withSource n 0 x d)
 cleared-planned n x limit w c d l p m b two four =
-    let st : Started n x w (set c (2 * n + x) 1) = cleared-started n x w c l (omega arith) two in
+    let st : OneSource n x w (set c (2 * n + x) 1) = cleared-started n x w c l (omega arith) two in
     record {
       origin = set c (2 * n + x) 1;
       started = st;
@@ -185,14 +185,12 @@ kept-unmarked {marked} {n} {i} {w} {w'} l b k e =
     other s d = getD-set-other w' (2 * n + i) (2 * n + s) 0 0 (λ q. d (omega arith))
 
 -- once all states are passed the entries of the marked ones are kept
-pub kept-all : (g : Graph) {n i : ℕ} {w w' : List ℕ} → n ≡ g .size → n ≤ i → KeptBelow (g .marked) n i w w'
+pub kept-all : (g : Graph) {i : ℕ} {w w' : List ℕ} → g .size ≤ i → KeptBelow (g .marked) (g .size) i w w'
     → KeptMarked g w w'
-kept-all g {n} {i} {w} {w'} e l k =
-    let q : KeptBelow (g .marked) (g .size) i w w' = rw e at k in
-    record { outside = q .outside; levels = λ s p. q .passed s (omega arith) }
+kept-all g l k = record { outside = k .outside; levels = λ s p. k .passed s (omega arith) }
 
 -- one source is put down
-started-single : {n x : ℕ} {w u : List ℕ} → x < n → Started n x w u → Single n x (λ s. valueOf (entry 2 n u s))
+started-single : {n x : ℕ} {w u : List ℕ} → x < n → OneSource n x w u → Single n x (λ s. valueOf (entry 2 n u s))
 started-single l st =
     record {
       inside = l;
@@ -201,14 +199,14 @@ started-single l st =
     }
 
 -- a search from one source with a target that is no state leaves the distances up to the limit
-pub started-distances : {g : Graph} {n x limit : ℕ} {w u : List ℕ} (w' : List ℕ) → WellFormed g → n ≡ g .size → x < n
-    → 1 ≤ limit → (r : Answer) → Started n x w u → Spread g limit n u w' r → DistancesWithin g x limit w w'
-started-distances {g} {n} {x} {limit} {w} {u} w' wf e l p r st sp =
-    let st' : Started (g .size) x w u = rw e at st in
-    let ex = spread-nothing (sources (g .size) limit u) wf r (rw e at sp) .2 in
+pub started-distances : {g : Graph} {x limit : ℕ} {w u : List ℕ} (w' : List ℕ) → WellFormed g → x < g .size
+    → 1 ≤ limit → (r : Answer) → OneSource (g .size) x w u → Spread g limit (g .size) u w' r
+    → DistancesWithin g x limit w w'
+started-distances {g} {x} {limit} {w} {u} w' wf l p r st sp =
+    let ex = spread-nothing (sources (g .size) limit u) wf r sp .2 in
     record {
-      outside = sameOutside-trans (region-within (g .size) (st' .outside)) (ex .outside);
-      distances = exhausted-distances (λ s. valueOf (entry 2 (g .size) u s)) p (started-single (rw e at l) st') ex;
+      outside = sameOutside-trans (region-within (g .size) (st .outside)) (ex .outside);
+      distances = exhausted-distances (λ s. valueOf (entry 2 (g .size) u s)) p (started-single l st) ex;
     }
 
 -- the value of an entry that is kept or made 0 is kept or none

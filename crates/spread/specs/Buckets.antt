@@ -16,7 +16,7 @@ pub record Greatest (source : ℕ → Option ℕ) (a b v : ℕ) : Type 0 where
 
 -- the sources below b are listed: region 4 names the greatest of each level below the limit, and region 5 names, for
 -- each of them, the next smaller one of its level
-pub record Listed (source : ℕ → Option ℕ) (n limit b : ℕ) (w : List ℕ) : Type 0 where
+pub record SourcesListed (source : ℕ → Option ℕ) (n limit b : ℕ) (w : List ℕ) : Type 0 where
   pub firsts : (a : ℕ) → a < limit → Greatest source a b (entry 4 n w a)
   pub nexts : (s a : ℕ) → s < b → source s ≡ some a → Greatest source a s (entry 5 n w s)
 
@@ -28,7 +28,7 @@ withSource n a s w = set (set w (5 * n + s) (entry 4 n w a)) (4 * n + a) (s + 1)
 pub record Planned (n limit : ℕ) (w w' : List ℕ) : Type 0 where
   pub outside : SameOutside (2 * n) (6 * n) w w'
   pub clear : (s : ℕ) → s < n → entry 2 n w' s ≡ 0
-  pub lists : Listed (sources n limit w) n limit n w'
+  pub lists : SourcesListed (sources n limit w) n limit n w'
 
 -- the plan of a search is made, from some table
 pub record HasPlan (n limit : ℕ) (w : List ℕ) : Type 0 where

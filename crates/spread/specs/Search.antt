@@ -11,7 +11,7 @@ use Rattle.table.specs.Changes.{SameOutside}
 use Rattle.spread.specs.Regions.{entry}
 use Rattle.spread.specs.declared.Answer.{Answer}
 use Rattle.spread.specs.Promises.{sources, Queue, Spread}
-use Rattle.spread.specs.Buckets.{Listed, Planned}
+use Rattle.spread.specs.Buckets.{SourcesListed, Planned}
 
 -- t is hit at level k: it is a source with this start level, or an edge leads to it from a state hit one level before
 pub data Hit (n : ℕ) (succs : ℕ → List ℕ) (source : ℕ → Option ℕ) : ℕ → ℕ → Type 0 where
@@ -31,7 +31,7 @@ pub record State (n : ℕ) (succs : ℕ → List ℕ) (limit target : ℕ) (w₀
   pub limited : limit ≤ n
   pub fits : 6 * n ≤ length w
   pub outside : SameOutside (2 * n) (6 * n) w₀ w
-  pub lists : Listed (sources n limit w₀) n limit n w
+  pub lists : SourcesListed (sources n limit w₀) n limit n w
   pub sound : (k t : ℕ) → t < n → entry 2 n w t ≡ suc k → Hit n succs (sources n limit w₀) k t
   pub started : (s a : ℕ) → s < n → sources n limit w₀ s ≡ some a → a < v → ReachedBy n (suc a) s w
   pub passed : (i t : ℕ) → i < at → T (memb t (succs (entry 3 n w i))) → ReachedBy n (suc (entry 2 n w (entry 3 n w i))) t w
@@ -57,7 +57,7 @@ pub data Reached (n t v count : ℕ) (w w' : List ℕ) (r : ℕ) : Type 0 where
   first : entry 2 n w t ≡ 0 → Pushed n t v count w w' → r ≡ count + 1 → Reached n t v count w w' r
 
 -- the table is ready for the sources of a level: some search is there, with the queue looked at up to the level before
-pub record Ready (n level count : ℕ) (w : List ℕ) : Type 0 where
+pub record LevelReady (n level count : ℕ) (w : List ℕ) : Type 0 where
   pub succs : ℕ → List ℕ
   pub limit : ℕ
   pub target : ℕ
@@ -74,5 +74,6 @@ Admitted n level count w w' r =
 
 -- whatever table the plan was made from, the search from the listed sources leaves what one from that table's start levels
 -- does
-abbrev pub Searched : Graph → ℕ → ℕ → ℕ → List ℕ → List ℕ → Answer → Type 0
-Searched g n limit target w w' r = (origin : List ℕ) → Planned n limit origin w → Spread g limit target origin w' r
+abbrev pub SearchedFromPlan : Graph → ℕ → ℕ → List ℕ → List ℕ → Answer → Type 0
+SearchedFromPlan g limit target w w' r =
+    (origin : List ℕ) → Planned (g .size) limit origin w → Spread g limit target origin w' r

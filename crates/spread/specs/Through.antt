@@ -47,7 +47,7 @@ LoopLength g x limit (Length l) = under (suc limit) (loopLength g x) ≡ some l
 LoopLength g x limit (Nothing count) = under (suc limit) (loopLength g x) ≡ none
 
 -- region 2 says that x is the one source, at level 0
-pub record Started (n x : ℕ) (w w' : List ℕ) : Type 0 where
+pub record OneSource (n x : ℕ) (w w' : List ℕ) : Type 0 where
   pub outside : SameOutside (2 * n) (3 * n) w w'
   pub source : entry 2 n w' x ≡ 1
   pub others : (s : ℕ) → s < n → (s ≡ x → ⊥) → entry 2 n w' s ≡ 0
@@ -55,7 +55,7 @@ pub record Started (n x : ℕ) (w w' : List ℕ) : Type 0 where
 -- the plan is made of a search from the one source x: as from a table whose region 2 says that x is the one source
 pub record PlannedAt (n x limit : ℕ) (w w' : List ℕ) : Type 0 where
   pub origin : List ℕ
-  pub started : Started n x w origin
+  pub started : OneSource n x w origin
   pub planned : Planned n limit origin w'
 
 -- region 2 keeps the entries of the marked states and no other

@@ -6,11 +6,11 @@ ghost use mathlib.Core.Path.{_≡_};
 ghost use Prim.Native.Nat.{_+_, _*_, _≤_, _<_};
 ghost use lib.ListN.{length};
 ghost use Rattle.model.specs.Values.{Valid};
-ghost use Rattle.model.specs.Model.{graphOf};
+ghost use Rattle.model.specs.Model.{graphIn};
 ghost use Rattle.spread.specs.Regions.{entry, queued};
 ghost use Rattle.spread.specs.Promises.{Spread};
 ghost use Rattle.spread.specs.Buckets.{withSource, Planned, HasPlan};
-ghost use Rattle.spread.specs.Search.{Reached, Ready, Admitted, Searched};
+ghost use Rattle.spread.specs.Search.{Reached, LevelReady, Admitted, SearchedFromPlan};
 
 mod through;
 
@@ -101,7 +101,7 @@ fn reach(work: &mut [u16], n: usize, t: usize, level: usize, tail: usize) -> usi
 fn admit(work: &mut [u16], n: usize, level: usize, tail: usize) -> usize
     requires { ⌜ n ≤ 4096 ⌝ }
     requires { ⌜ 3 * n ≤ tail ⌝ }
-    requires { ⌜ Ready n level (queued n tail) (now work) ⌝ }
+    requires { ⌜ LevelReady n level (queued n tail) (now work) ⌝ }
     ensures change { λ r. ⌜ Admitted n level (queued n tail) (now (work .entry)) (now (work .exit)) (queued n r) ⌝ }
     ensures grows { λ r. ⌜ tail ≤ r ⌝ }
 {
@@ -122,7 +122,8 @@ fn search_planned(file: &[u8], h: Header, work: &mut [u16], limit: usize, target
     requires { ⌜ limit ≤ h .states ⌝ }
     requires { ⌜ 6 * h .states ≤ length (now work) ⌝ }
     requires { ⌜ HasPlan (h .states) limit (now work) ⌝ }
-    ensures { λ r. ⌜ Searched (graphOf (now (file .entry))) (h .states) limit target (now (work .entry)) (now (work .exit)) r ⌝ }
+    ensures { λ r. ⌜ SearchedFromPlan (graphIn (now (file .entry)) h) limit target
+        (now (work .entry)) (now (work .exit)) r ⌝ }
 {
     let n = h.states;
     let queue = 3 * n;
@@ -139,10 +140,10 @@ fn search_planned(file: &[u8], h: Header, work: &mut [u16], limit: usize, target
         while at < end {
             let s = get(work, at);
             let part = row_part(file, h, s);
-            let d = degree(part);
+            let d = degree(part, h, s);
             let mut k = 0;
             while k < d {
-                let t = successor(part, k);
+                let t = successor(part, h, s, k);
                 if t == target {
                     break 'levels;
                 }
@@ -163,7 +164,7 @@ pub fn spread(file: &[u8], h: Header, work: &mut [u16], limit: usize, target: us
     requires { ⌜ Valid (now file) h ⌝ }
     requires { ⌜ limit ≤ h .states ⌝ }
     requires { ⌜ 6 * h .states ≤ length (now work) ⌝ }
-    ensures { λ r. ⌜ Spread (graphOf (now (file .entry))) limit target (now (work .entry)) (now (work .exit)) r ⌝ }
+    ensures { λ r. ⌜ Spread (graphIn (now (file .entry)) h) limit target (now (work .entry)) (now (work .exit)) r ⌝ }
 {
     let n = h.states;
     plan(work, n, limit);

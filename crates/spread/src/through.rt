@@ -3,7 +3,7 @@
 ghost use Prim.Native.Nat.{_*_, _≤_, _<_};
 ghost use lib.ListN.{length};
 ghost use Rattle.model.specs.Values.{Valid};
-ghost use Rattle.model.specs.Model.{graphOf};
+ghost use Rattle.model.specs.Model.{graphIn};
 ghost use Rattle.table.specs.Changes.{SameOutside};
 ghost use Rattle.spread.specs.Promises.{SpreadFrom};
 ghost use Rattle.spread.specs.Through.{DistancesWithin, markedSources, LoopLength, PlannedAt, KeptMarked};
@@ -34,7 +34,7 @@ fn start_at(work: &mut [u16], n: usize, x: usize, limit: usize)
 fn keep_marked(file: &[u8], h: Header, work: &mut [u16])
     requires { ⌜ Valid (now file) h ⌝ }
     requires { ⌜ 6 * h .states ≤ length (now work) ⌝ }
-    ensures { λ _. ⌜ KeptMarked (graphOf (now (file .entry))) (now (work .entry)) (now (work .exit)) ⌝ }
+    ensures { λ _. ⌜ KeptMarked (graphIn (now (file .entry)) h) (now (work .entry)) (now (work .exit)) ⌝ }
 {
     let n = h.states;
     let mut s = 0;
@@ -54,7 +54,7 @@ pub fn distances(file: &[u8], h: Header, work: &mut [u16], x: usize, limit: usiz
     requires { ⌜ 1 ≤ limit ⌝ }
     requires { ⌜ limit ≤ h .states ⌝ }
     requires { ⌜ 6 * h .states ≤ length (now work) ⌝ }
-    ensures { λ _. ⌜ DistancesWithin (graphOf (now (file .entry))) x limit (now (work .entry)) (now (work .exit)) ⌝ }
+    ensures { λ _. ⌜ DistancesWithin (graphIn (now (file .entry)) h) x limit (now (work .entry)) (now (work .exit)) ⌝ }
 {
     let n = h.states;
     start_at(work, n, x, limit);
@@ -66,7 +66,7 @@ pub fn from_marks(file: &[u8], h: Header, work: &mut [u16], limit: usize, target
     requires { ⌜ Valid (now file) h ⌝ }
     requires { ⌜ limit ≤ h .states ⌝ }
     requires { ⌜ 6 * h .states ≤ length (now work) ⌝ }
-    ensures { λ r. ⌜ SpreadFrom (graphOf (now (file .entry))) (markedSources (graphOf (now (file .entry))) limit (now (work .entry))) limit target (now (work .entry)) (now (work .exit)) r ⌝ }
+    ensures { λ r. ⌜ SpreadFrom (graphIn (now (file .entry)) h) (markedSources (graphIn (now (file .entry)) h) limit (now (work .entry))) limit target (now (work .entry)) (now (work .exit)) r ⌝ }
 {
     keep_marked(file, h, work);
     spread(file, h, work, limit, target)
@@ -79,7 +79,7 @@ pub fn loop_length(file: &[u8], h: Header, work: &mut [u16], x: usize, limit: us
     requires { ⌜ 1 ≤ limit ⌝ }
     requires { ⌜ limit ≤ h .states ⌝ }
     requires { ⌜ 6 * h .states ≤ length (now work) ⌝ }
-    ensures answer { λ r. ⌜ LoopLength (graphOf (now (file .entry))) x limit r ⌝ }
+    ensures answer { λ r. ⌜ LoopLength (graphIn (now (file .entry)) h) x limit r ⌝ }
     ensures same { λ r. ⌜ SameOutside (2 * h .states) (6 * h .states) (now (work .entry)) (now (work .exit)) ⌝ }
 {
     distances(file, h, work, x, limit);

@@ -9,7 +9,7 @@ use borrow.Author.Tests.{lt-ltb, le-ltb, eq-eqb, ne-eqb}
 use denote.Ref.{now}
 use lib.ListN.{length}
 use Rattle.model.specs.Layout.{states, edgeCount, initial, reserved, totalOf}
-use Rattle.model.specs.Rules.{tooShort, badStates, badEdges, badInitial, badReserved, KeptTo}
+use Rattle.model.specs.Rules.{shortFile, badStates, badEdges, badInitial, badReserved, KeptTo}
 use Rattle.model.specs.Values.{checkWith}
 use Rattle.model.proofs.Reasons.{passed, refused}
 use borrow.Author.Needs.{needs}
@@ -42,7 +42,7 @@ totalFor c = totalOf (states (fileOf c)) (edgeCount (fileOf c))
 
 -- past each rule those behind it decide
 kept-1 : (c : tie.Else1) → KeptTo 1 (totalFor (from1 c)) (fileOf (from1 c))
-kept-1 c = let file = fileOf (from1 c) in passed _ (tooShort file) 1 _ refl (le-ltb (length file) 24 (c .if1 .left))
+kept-1 c = let file = fileOf (from1 c) in passed _ (shortFile file) 1 _ refl (le-ltb (length file) 24 (c .if1 .left))
 
 kept-2 : (c : tie.Else3) → KeptTo 2 (totalFor (from2 c)) (fileOf (from2 c))
 kept-2 c =
@@ -69,7 +69,7 @@ returns : tie.Need-returns
 returns c =
     let start = c .before .before in
     let file = fileOf start in
-    refused (totalFor start) file (tooShort file) 1 _ refl (lt-ltb (length file) 24 (c .if1 .taken))
+    refused (totalFor start) file (shortFile file) 1 _ refl (lt-ltb (length file) 24 (c .if1 .taken))
 
 word-requires : tie.Need-word-requires
 word-requires c κs = search needs

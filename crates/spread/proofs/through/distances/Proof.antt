@@ -1,6 +1,7 @@
 -- `spread::through::distances` meets its contract: the search from one source leaves the distances up to the limit.
 use borrow.Author.Needs.{needs}
 use native.Mathlib.Omega.{arith}
+use Rattle.model.specs.Model.{graphIn}
 use Rattle.model.proofs.Laws.{valid-sizes, valid-well-formed}
 use Rattle.spread.proofs.ThroughSteps.{started-distances}
 use Rattle.spread.proofs.through.distances.Statement.{statement}
@@ -28,7 +29,7 @@ returns c =
     let valid = s .pre .0 in
     let made = p .start-at .ensures in
     let search = c .before .before .search-planned in
-    started-distances _ (valid-well-formed valid) (valid-sizes valid .states-are) (s .pre .1 .0) (s .pre .1 .1 .0) (search .result) (made .started) (search .ensures (made .origin) (made .planned))
+    started-distances {g = graphIn (s .args .file .now) (s .args .h)} _ (valid-well-formed valid) (s .pre .1 .0) (s .pre .1 .1 .0) (search .result) (made .started) (search .ensures (made .origin) (made .planned))
 
 pub distances-spec : {M : Type 1} → statement M
 distances-spec = tie.close (tie.spec start-at-requires search-planned-requires same-length returns)

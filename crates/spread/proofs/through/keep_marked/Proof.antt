@@ -6,14 +6,13 @@ use mathlib.Core.Path.{sym, _∙_}
 use mathlib.Core.Logic.{⊎-elim}
 use native.Mathlib.Omega.{arith}
 use borrow.Author.Tests.{not-true, not-false}
-use Rattle.model.specs.Model.{graphOf}
-use Rattle.model.proofs.Laws.{valid-sizes}
+use Rattle.model.specs.Model.{graphIn}
 use Rattle.spread.proofs.ThroughSteps.{KeptBelow, kept-none, kept-marked, kept-unmarked, kept-all}
 use Rattle.spread.proofs.through.keep_marked.Statement.{statement}
 use Rattle.spread.proofs.through.keep_marked.Tie as tie
 
 abbrev Inv-loop : tie.InvT-loop
-Inv-loop file h work₀ n s₀ work s = (s ≤ n) × KeptBelow (graphOf file .marked) n s work₀ work
+Inv-loop file h work₀ n s₀ work s = (s ≤ n) × KeptBelow (graphIn file h .marked) n s work₀ work
 
 abbrev μ-loop : tie.MeasureT-loop
 μ-loop file h work₀ n s₀ work s = n - s
@@ -52,7 +51,9 @@ same-length : tie.Need-same-length Inv-loop μ-loop
 same-length c = c .before .loop .inv .1 .outside .same-length
 
 returns : tie.Need-returns Inv-loop μ-loop
-returns c = kept-all _ (valid-sizes (c .before .before .before .before .pre .0) .states-are) (omega arith) (c .before .loop .inv .1)
+returns c =
+    let a = c .before .before .before .before .args in
+    kept-all (graphIn (a .file .now) (a .h)) (omega arith) (c .before .loop .inv .1)
 
 pub keep-marked-spec : {M : Type 1} → statement M
 keep-marked-spec =

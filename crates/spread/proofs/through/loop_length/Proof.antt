@@ -1,7 +1,6 @@
 -- `spread::through::loop_length` meets its contract: the distances from x, and then the search from the marked states back
 -- to x.
 use borrow.Author.Needs.{needs}
-use Rattle.model.proofs.Laws.{valid-sizes}
 use Rattle.table.proofs.Laws.{sameOutside-trans}
 use Rattle.spread.proofs.SearchLaws.{spread-sameOutside}
 use Rattle.spread.proofs.ThroughLaws.{loopLength-answer}
@@ -26,7 +25,7 @@ returns c =
     let a = start c .args in
     let away = c .before .before .before .before .before .before .distances .ensures in
     let back = c .before .before .from-marks in
-    (loopLength-answer away _ (back .result) (back .ensures), rw (valid-sizes (start c .pre .0) .states-are) (sameOutside-trans (away .outside) (spread-sameOutside _ _ (a .limit) (a .x) (back .result) (back .ensures))))
+    (loopLength-answer away _ (back .result) (back .ensures), sameOutside-trans (away .outside) (spread-sameOutside _ _ (a .limit) (a .x) (back .result) (back .ensures)))
 
 pub loop-length-spec : {M : Type 1} → statement M
 loop-length-spec = tie.close (tie.spec distances-requires from-marks-requires same-length returns)
