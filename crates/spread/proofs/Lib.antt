@@ -7,5 +7,3 @@ pub mod AdmitLaws
 pub mod RowLaws
 pub mod EndLaws
 pub mod SearchLaws
-pub mod ThroughSteps
-pub mod ThroughLaws

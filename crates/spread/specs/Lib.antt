@@ -5,4 +5,3 @@ pub mod Hit
 pub mod Promises
 pub mod Buckets
 pub mod Search
-pub mod Through

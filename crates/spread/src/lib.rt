@@ -11,9 +11,6 @@ ghost use Rattle.spread.specs.Regions.{entry, queued};
 ghost use Rattle.spread.specs.Promises.{Spread};
 ghost use Rattle.spread.specs.Buckets.{withSource, Planned, HasPlan};
 ghost use Rattle.spread.specs.Search.{Reached, LevelReady, Admitted, SearchedFromPlan};
-
-mod through;
-
 use model::Header;
 use model::degree;
 use model::row_part;
@@ -21,9 +18,6 @@ use model::successor;
 use table::clear;
 use table::get;
 use table::put;
-pub use through::distances;
-pub use through::from_marks;
-pub use through::loop_length;
 
 // The answer of a search: the length at which an edge into the target was found, or that there is none, with the
 // number of states reached.
@@ -33,7 +27,7 @@ pub enum Answer {
 }
 
 // Puts a source in front of the list of its level.
-fn list_source(work: &mut [u16], n: usize, level: usize, s: usize)
+pub fn list_source(work: &mut [u16], n: usize, level: usize, s: usize)
     requires { ⌜ n ≤ 4096 ⌝ }
     requires { ⌜ level < n ⌝ }
     requires { ⌜ s < n ⌝ }
@@ -117,7 +111,13 @@ fn admit(work: &mut [u16], n: usize, level: usize, tail: usize) -> usize
 
 // The search proper, from listed sources: level by level below the limit, and out of all loops at the first edge into the
 // target. `at`, `end` and `tail` are places of the table, in region 3: a new state is put at `tail` with no sum to compute.
-fn search_planned(file: &[u8], h: Header, work: &mut [u16], limit: usize, target: usize) -> Answer
+pub fn search_planned(
+    file: &[u8],
+    h: Header,
+    work: &mut [u16],
+    limit: usize,
+    target: usize,
+) -> Answer
     requires { ⌜ Valid (now file) h ⌝ }
     requires { ⌜ limit ≤ h .states ⌝ }
     requires { ⌜ 6 * h .states ≤ length (now work) ⌝ }

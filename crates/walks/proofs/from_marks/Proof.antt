@@ -1,8 +1,8 @@
--- `spread::through::from_marks` meets its contract: a search from the levels that the marked states keep.
+-- `from_marks` meets its contract: a search from the levels that the marked states keep.
 use borrow.Author.Needs.{needs}
-use Rattle.spread.proofs.ThroughSteps.{kept-spread}
-use Rattle.spread.proofs.through.from_marks.Statement.{statement}
-use Rattle.spread.proofs.through.from_marks.Tie as tie
+use Rattle.walks.proofs.ThroughSteps.{kept-spread}
+use Rattle.walks.proofs.from_marks.Statement.{statement}
+use Rattle.walks.proofs.from_marks.Tie as tie
 
 -- the function's entry
 abbrev start : tie.After-slice-known3 → tie.Start

@@ -13,15 +13,15 @@ use Rattle.lasso.proofs.Tests.{T-true}
 use Rattle.lasso.proofs.Least.{IsLeast, isLeast-by}
 use Rattle.lasso.proofs.Walk.{Walk, walk-here, walk-zero, walk-end-state, walk-to}
 use Rattle.lasso.proofs.Distance.{dist-walk, dist-le, dist-below}
 use Rattle.spread.specs.declared.Answer.{Answer}
 use Rattle.spread.specs.declared.Answer.the-variants.{Length, Nothing}
 use Rattle.spread.specs.Regions.{entry, valueOf, entryOf}
 use Rattle.spread.specs.Hit.{under}
 use Rattle.spread.specs.Promises.{ExhaustedFrom, SpreadFrom}
-use Rattle.spread.specs.Through.{onlyIf, markedDist, viaMark, loopLength, DistancesWithin, markedSources, LoopLength}
+use Rattle.walks.specs.Through.{onlyIf, markedDist, viaMark, loopLength, DistancesWithin, markedSources, LoopLength}
 use Rattle.spread.proofs.UnderLaws.{under-under, under-all}
 use Rattle.spread.proofs.HitLaws.{Timed, hitLevel-least, hitLength-least}
 use Rattle.spread.proofs.SearchLaws.{value-entry, spread-nothing, exhausted-levels, searched-length}
 
 -- k is the length of a walk from x to a marked state q, and m more that P allows from q
 abbrev pub ViaMark : Graph → ℕ → (ℕ → ℕ → Type 0) → ℕ → Type 0

@@ -1,11 +1,11 @@
--- `spread::through::distances` meets its contract: the search from one source leaves the distances up to the limit.
+-- `distances` meets its contract: the search from one source leaves the distances up to the limit.
 use borrow.Author.Needs.{needs}
 use native.Mathlib.Omega.{arith}
 use Rattle.model.specs.Model.{graphIn}
 use Rattle.model.proofs.Laws.{valid-sizes, valid-well-formed}
-use Rattle.spread.proofs.ThroughSteps.{started-distances}
-use Rattle.spread.proofs.through.distances.Statement.{statement}
-use Rattle.spread.proofs.through.distances.Tie as tie
+use Rattle.walks.proofs.ThroughSteps.{started-distances}
+use Rattle.walks.proofs.distances.Statement.{statement}
+use Rattle.walks.proofs.distances.Tie as tie
 
 start-at-requires : tie.Need-start-at-requires
 start-at-requires c κs =

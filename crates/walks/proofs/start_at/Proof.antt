@@ -1,9 +1,9 @@
--- `spread::through::start_at` meets its contract: two cleared regions, and x in front of the list of level 0.
+-- `start_at` meets its contract: two cleared regions, and x in front of the list of level 0.
 use borrow.Author.Needs.{needs}
 use native.Mathlib.Omega.{arith}
-use Rattle.spread.proofs.ThroughSteps.{cleared-planned}
-use Rattle.spread.proofs.through.start_at.Statement.{statement}
-use Rattle.spread.proofs.through.start_at.Tie as tie
+use Rattle.walks.proofs.ThroughSteps.{cleared-planned}
+use Rattle.walks.proofs.start_at.Statement.{statement}
+use Rattle.walks.proofs.start_at.Tie as tie
 
 mul-clear : tie.Need-mul-clear
 mul-clear c = search needs

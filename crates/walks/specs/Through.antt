@@ -8,11 +8,12 @@ use Rattle.lasso.specs.Lists.{pick}
 use Rattle.lasso.specs.Graph.{Graph}
 use Rattle.lasso.specs.Distance.{dist}
 use Rattle.table.specs.Changes.{SameOutside}
 use Rattle.spread.specs.declared.Answer.{Answer}
 use Rattle.spread.specs.declared.Answer.the-variants.{Length, Nothing}
 use Rattle.spread.specs.Regions.{entry, valueOf, entryOf}
 use Rattle.spread.specs.Hit.{under, hitLevel, hitLength}
+use Rattle.spread.specs.Promises.{SpreadFrom}
 use Rattle.spread.specs.Buckets.{Planned}
 
 -- the number if the test was passed, else none
 abbrev pub onlyIf : Bool → Option ℕ → Option ℕ
@@ -40,6 +41,10 @@ pub record DistancesWithin (g : Graph) (x limit : ℕ) (w w' : List ℕ) : Type 
 -- the start levels of the marked states, which region 2 holds at entry
 abbrev pub markedSources : Graph → ℕ → List ℕ → ℕ → Option ℕ
 markedSources g limit w q = under limit (onlyIf (g .marked q) (valueOf (entry 2 (g .size) w q)))
+
+-- what a search from the marked states leaves, by its answer
+abbrev pub SpreadFromMarks : Graph → ℕ → ℕ → List ℕ → List ℕ → Answer → Type 0
+SpreadFromMarks g limit target w w' r = SpreadFrom g (markedSources g limit w) limit target w w' r
 
 -- the answer of a search for the loop length of x
 abbrev pub LoopLength : Graph → ℕ → ℕ → Answer → Type 0

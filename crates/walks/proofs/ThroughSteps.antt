@@ -15,15 +15,15 @@ use Rattle.lasso.specs.Graph.{Graph, WellFormed}
 use Rattle.lasso.proofs.Tests.{lt-or-ge}
 use Rattle.table.specs.Changes.{SameOutside, Cleared}
 use Rattle.table.proofs.Laws.{sameOutside-refl, set-sameOutside, sameOutside-set, sameOutside-trans, sameOutside-widen}
 use Rattle.spread.specs.declared.Answer.{Answer}
 use Rattle.spread.specs.Regions.{entry, valueOf}
 use Rattle.spread.specs.Hit.{under}
 use Rattle.spread.specs.Promises.{sources, SpreadFrom, Spread}
-use Rattle.spread.specs.Through.{onlyIf, DistancesWithin, markedSources, OneSource, PlannedAt, KeptMarked}
+use Rattle.walks.specs.Through.{onlyIf, DistancesWithin, markedSources, OneSource, PlannedAt, KeptMarked}
 use Rattle.spread.specs.Buckets.{withSource, Planned}
 use Rattle.spread.proofs.BucketLaws.{source-entry, entry-source}
 use Rattle.spread.proofs.HitLaws.{Single}
 use Rattle.spread.proofs.SearchLaws.{spread-nothing, spread-same, exhausted-distances}
 
 -- a change inside region 2 is a change inside the regions that a search uses
 region-within : (n : ℕ) {w w' : List ℕ} → SameOutside (2 * n) (3 * n) w w' → SameOutside (2 * n) (6 * n) w w'

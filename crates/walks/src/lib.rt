@@ -5,14 +5,13 @@ ghost use lib.ListN.{length};
 ghost use Rattle.model.specs.Values.{Valid};
 ghost use Rattle.model.specs.Model.{graphIn};
 ghost use Rattle.table.specs.Changes.{SameOutside};
-ghost use Rattle.spread.specs.Promises.{SpreadFrom};
-ghost use Rattle.spread.specs.Through.{DistancesWithin, markedSources, LoopLength, PlannedAt, KeptMarked};
-use crate::Answer;
-use crate::list_source;
-use crate::search_planned;
-use crate::spread;
+ghost use Rattle.walks.specs.Through.{DistancesWithin, SpreadFromMarks, LoopLength, PlannedAt, KeptMarked};
 use model::Header;
 use model::is_marked;
+use spread::Answer;
+use spread::list_source;
+use spread::search_planned;
+use spread::spread;
 use table::clear;
 use table::put;
 
@@ -66,7 +65,8 @@ pub fn from_marks(file: &[u8], h: Header, work: &mut [u16], limit: usize, target
     requires { ⌜ Valid (now file) h ⌝ }
     requires { ⌜ limit ≤ h .states ⌝ }
     requires { ⌜ 6 * h .states ≤ length (now work) ⌝ }
-    ensures { λ r. ⌜ SpreadFrom (graphIn (now (file .entry)) h) (markedSources (graphIn (now (file .entry)) h) limit (now (work .entry))) limit target (now (work .entry)) (now (work .exit)) r ⌝ }
+    ensures { λ r. ⌜ SpreadFromMarks (graphIn (now (file .entry)) h) limit target
+        (now (work .entry)) (now (work .exit)) r ⌝ }
 {
     keep_marked(file, h, work);
     spread(file, h, work, limit, target)

@@ -1,11 +1,11 @@
--- `spread::through::loop_length` meets its contract: the distances from x, and then the search from the marked states back
+-- `loop_length` meets its contract: the distances from x, and then the search from the marked states back
 -- to x.
 use borrow.Author.Needs.{needs}
 use Rattle.table.proofs.Laws.{sameOutside-trans}
 use Rattle.spread.proofs.SearchLaws.{spread-sameOutside}
-use Rattle.spread.proofs.ThroughLaws.{loopLength-answer}
-use Rattle.spread.proofs.through.loop_length.Statement.{statement}
-use Rattle.spread.proofs.through.loop_length.Tie as tie
+use Rattle.walks.proofs.ThroughLaws.{loopLength-answer}
+use Rattle.walks.proofs.loop_length.Statement.{statement}
+use Rattle.walks.proofs.loop_length.Tie as tie
 
 -- the function's entry
 abbrev start : tie.After-slice-known3 → tie.Start

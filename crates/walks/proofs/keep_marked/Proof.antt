@@ -1,4 +1,4 @@
--- `spread::through::keep_marked` meets its contract. The loop's invariant: of the states below s the marked ones kept
+-- `keep_marked` meets its contract. The loop's invariant: of the states below s the marked ones kept
 -- their entries, and the others have 0.
 use borrow.Author.Needs.{needs}
 use Prim.Native.Nat.{_≤_, _-_}
@@ -7,9 +7,9 @@ use mathlib.Core.Logic.{⊎-elim}
 use native.Mathlib.Omega.{arith}
 use borrow.Author.Tests.{not-true, not-false}
 use Rattle.model.specs.Model.{graphIn}
-use Rattle.spread.proofs.ThroughSteps.{KeptBelow, kept-none, kept-marked, kept-unmarked, kept-all}
-use Rattle.spread.proofs.through.keep_marked.Statement.{statement}
-use Rattle.spread.proofs.through.keep_marked.Tie as tie
+use Rattle.walks.proofs.ThroughSteps.{KeptBelow, kept-none, kept-marked, kept-unmarked, kept-all}
+use Rattle.walks.proofs.keep_marked.Statement.{statement}
+use Rattle.walks.proofs.keep_marked.Tie as tie
 
 abbrev Inv-loop : tie.InvT-loop
 Inv-loop file h work₀ n s₀ work s = (s ≤ n) × KeptBelow (graphIn file h .marked) n s work₀ work
