@@ -15,11 +15,11 @@ use Rattle.lasso.proofs.Walk.{Walk, walk-here, walk-zero, walk-end-state, walk-
 use Rattle.lasso.proofs.Distance.{dist-walk, dist-le, dist-below}
 use Rattle.spread.specs.declared.Answer.{Answer}
 use Rattle.spread.specs.declared.Answer.the-variants.{Length, Nothing}
-use Rattle.spread.specs.Regions.{entry, valueOf, entryOf}
-use Rattle.spread.specs.Hit.{under}
+use Rattle.frontier.specs.Regions.{entry, valueOf, entryOf}
+use Rattle.lasso.specs.Limit.{under}
 use Rattle.spread.specs.Promises.{ExhaustedFrom, SpreadFrom}
 use Rattle.walks.specs.Through.{onlyIf, markedDist, viaMark, loopLength, DistancesWithin, markedSources, LoopLength}
-use Rattle.spread.proofs.UnderLaws.{under-under, under-all}
+use Rattle.lasso.proofs.UnderLaws.{under-under, under-all}
 use Rattle.spread.proofs.HitLaws.{Timed, hitLevel-least, hitLength-least}
 use Rattle.spread.proofs.SearchLaws.{value-entry, spread-nothing, exhausted-levels, searched-length}
 

@@ -16,12 +16,13 @@ use Rattle.lasso.proofs.Tests.{lt-or-ge}
 use Rattle.table.specs.Changes.{SameOutside, Cleared}
 use Rattle.table.proofs.Laws.{sameOutside-refl, set-sameOutside, sameOutside-set, sameOutside-trans, sameOutside-widen}
 use Rattle.spread.specs.declared.Answer.{Answer}
-use Rattle.spread.specs.Regions.{entry, valueOf}
-use Rattle.spread.specs.Hit.{under}
-use Rattle.spread.specs.Promises.{sources, SpreadFrom, Spread}
+use Rattle.frontier.specs.Regions.{entry, valueOf}
+use Rattle.lasso.specs.Limit.{under}
+use Rattle.frontier.specs.Buckets.{sources}
+use Rattle.spread.specs.Promises.{SpreadFrom, Spread}
 use Rattle.walks.specs.Through.{onlyIf, DistancesWithin, markedSources, OneSource, PlannedAt, KeptMarked}
-use Rattle.spread.specs.Buckets.{withSource, Planned}
-use Rattle.spread.proofs.BucketLaws.{source-entry, entry-source}
+use Rattle.frontier.specs.Buckets.{withSource, Planned}
+use Rattle.frontier.proofs.BucketLaws.{source-entry, entry-source}
 use Rattle.spread.proofs.HitLaws.{Single}
 use Rattle.spread.proofs.SearchLaws.{spread-nothing, spread-same, exhausted-distances}
 

@@ -10,10 +10,11 @@ use Rattle.lasso.specs.Distance.{dist}
 use Rattle.table.specs.Changes.{SameOutside}
 use Rattle.spread.specs.declared.Answer.{Answer}
 use Rattle.spread.specs.declared.Answer.the-variants.{Length, Nothing}
-use Rattle.spread.specs.Regions.{entry, valueOf, entryOf}
-use Rattle.spread.specs.Hit.{under, hitLevel, hitLength}
+use Rattle.frontier.specs.Regions.{entry, valueOf, entryOf}
+use Rattle.lasso.specs.Limit.{under}
+use Rattle.spread.specs.Hit.{hitLevel, hitLength}
 use Rattle.spread.specs.Promises.{SpreadFrom}
-use Rattle.spread.specs.Buckets.{Planned}
+use Rattle.frontier.specs.Buckets.{Planned}
 
 -- the number if the test was passed, else none
 abbrev pub onlyIf : Bool → Option ℕ → Option ℕ

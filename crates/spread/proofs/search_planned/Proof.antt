@@ -11,10 +11,10 @@ use Rattle.lasso.specs.Graph.{Graph, edgeb}
 use Rattle.lasso.proofs.Tests.{at-memb}
 use Rattle.model.specs.Model.{graphIn}
 use Rattle.model.proofs.Laws.{Sizes, valid-sizes, valid-well-formed}
-use Rattle.spread.specs.Regions.{entry, queued}
-use Rattle.spread.specs.Buckets.{Planned, HasPlan}
-use Rattle.spread.specs.Search.{State}
-use Rattle.spread.proofs.PushLaws.{queue-room}
+use Rattle.frontier.specs.Regions.{entry, queued}
+use Rattle.frontier.specs.Buckets.{Planned, HasPlan}
+use Rattle.frontier.specs.Search.{State}
+use Rattle.frontier.proofs.PushLaws.{queue-room}
 use Rattle.spread.proofs.RowLaws.{Row, queued-entry, planned-state, row-start, row-inside, row-hit, row-step, row-done, level-done}
 use Rattle.spread.proofs.EndLaws.{found, exhausted}
 use Rattle.spread.proofs.search_planned.Statement.{statement}

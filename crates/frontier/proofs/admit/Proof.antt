@@ -6,12 +6,12 @@ use mathlib.Core.List.{List}
 use native.Mathlib.Omega.{arith}
 use lib.ListN.{length}
 use borrow.Author.Needs.{needs}
-use Rattle.spread.specs.Regions.{queued}
-use Rattle.spread.specs.Search.{State}
-use Rattle.spread.proofs.PushLaws.{queue-room}
-use Rattle.spread.proofs.AdmitLaws.{Admitting, admitting-start, admitting-falls, admitting-step, admitting-done}
-use Rattle.spread.proofs.admit.Statement.{statement}
-use Rattle.spread.proofs.admit.Tie as tie
+use Rattle.frontier.specs.Regions.{queued}
+use Rattle.frontier.specs.Search.{State}
+use Rattle.frontier.proofs.PushLaws.{queue-room}
+use Rattle.frontier.proofs.AdmitLaws.{Admitting, admitting-start, admitting-falls, admitting-step, admitting-done}
+use Rattle.frontier.proofs.admit.Statement.{statement}
+use Rattle.frontier.proofs.admit.Tie as tie
 
 abbrev Inv-loop : tie.InvT-loop
 Inv-loop work₀ n level tail cursor₀ end₀ work cursor end =

@@ -7,11 +7,11 @@ use mathlib.Core.List.{List}
 use native.Mathlib.Omega.{arith}
 use lib.ListN.{length}
 use Rattle.lasso.proofs.Tests.{lt-or-ge}
-use Rattle.spread.specs.Regions.{entry}
+use Rattle.frontier.specs.Regions.{entry}
 use borrow.Author.Needs.{needs}
-use Rattle.spread.proofs.BucketLaws.{Planning, planning-none, planning-skip, planning-list, planning-same, planning-done, source-entry, entry-source}
-use Rattle.spread.proofs.plan.Statement.{statement}
-use Rattle.spread.proofs.plan.Tie as tie
+use Rattle.frontier.proofs.BucketLaws.{Planning, planning-none, planning-skip, planning-list, planning-same, planning-done, source-entry, entry-source}
+use Rattle.frontier.proofs.plan.Statement.{statement}
+use Rattle.frontier.proofs.plan.Tie as tie
 
 abbrev Inv-loop : tie.InvT-loop
 Inv-loop work₀ n limit s₀ work s =

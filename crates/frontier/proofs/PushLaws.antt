@@ -10,10 +10,11 @@ use lib.Seq.{getD-set-same, getD-set-other, getD-take, getD-drop, length-take-le
 use Rattle.lasso.proofs.Tests.{lt-or-ge, places-different}
 use Rattle.lasso.proofs.Different.{length-different-places}
 use Rattle.table.proofs.Laws.{sameOutside-widen, sameOutside-set, sameOutside-trans, set-sameOutside}
-use Rattle.spread.specs.Regions.{entry}
-use Rattle.spread.specs.Promises.{sources, Queue}
-use Rattle.spread.specs.Search.{Hit, ReachedBy, State, Pushed, Reached, before, first}
-use Rattle.spread.proofs.BucketLaws.{listed-same}
+use Rattle.frontier.specs.Regions.{entry}
+use Rattle.frontier.specs.Buckets.{sources}
+use Rattle.frontier.specs.Search.{Queue}
+use Rattle.frontier.specs.Search.{Hit, ReachedBy, State, Pushed, Reached, before, first}
+use Rattle.frontier.proofs.BucketLaws.{listed-same}
 
 -- two stores put a state at the end of the queue
 pub set-pushed : (n t v count : ℕ) (w : List ℕ) → t < n → count < n → 6 * n ≤ length w → Pushed n t v count w (set (set w (2 * n + t) v) (3 * n + count) t)

@@ -12,11 +12,11 @@ use lib.Seq.{getD-set-same, getD-set-other}
 use Rattle.lasso.proofs.Tests.{lt-or-ge}
 use Rattle.table.specs.Changes.{SameOutside, Cleared}
 use Rattle.table.proofs.Laws.{sameOutside-widen, sameOutside-set}
-use Rattle.spread.specs.Regions.{entry, valueOf}
-use Rattle.spread.specs.Hit.{under}
-use Rattle.spread.specs.Promises.{sources}
-use Rattle.spread.specs.Buckets.{Greatest, SourcesListed, withSource, Planned}
-use Rattle.spread.proofs.UnderLaws.{under-some, under-lt}
+use Rattle.frontier.specs.Regions.{entry, valueOf}
+use Rattle.lasso.specs.Limit.{under}
+use Rattle.frontier.specs.Buckets.{sources}
+use Rattle.frontier.specs.Buckets.{Greatest, SourcesListed, withSource, Planned}
+use Rattle.lasso.proofs.UnderLaws.{under-some, under-lt}
 
 -- a start level is told by the entry and is below the limit
 pub source-entry : (limit e a : ℕ) → under limit (valueOf e) ≡ some a → (e ≡ suc a) × (a < limit)

@@ -1,7 +1,7 @@
 -- `list_source` stores the list's first source behind the new one, and the new one in front.
 use borrow.Author.Needs.{needs}
-use Rattle.spread.proofs.list_source.Statement.{statement}
-use Rattle.spread.proofs.list_source.Tie as tie
+use Rattle.frontier.proofs.list_source.Statement.{statement}
+use Rattle.frontier.proofs.list_source.Tie as tie
 
 mul-get : tie.Need-mul-get
 mul-get c = search needs

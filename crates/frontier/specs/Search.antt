@@ -6,12 +6,18 @@ use mathlib.Core.Option.{Option, some}
 use lib.ListN.{length}
 use lib.Dec.{T}
 use Rattle.lasso.specs.Lists.{memb}
-use Rattle.lasso.specs.Graph.{Graph}
 use Rattle.table.specs.Changes.{SameOutside}
-use Rattle.spread.specs.Regions.{entry}
-use Rattle.spread.specs.declared.Answer.{Answer}
-use Rattle.spread.specs.Promises.{sources, Queue, Spread}
-use Rattle.spread.specs.Buckets.{SourcesListed, Planned}
+use Rattle.frontier.specs.Regions.{entry}
+use Rattle.frontier.specs.Buckets.{sources, SourcesListed}
+
+-- region 3 holds each reached state once, in order of level
+pub record Queue (n count : ℕ) (w : List ℕ) : Type 0 where
+  pub within : count ≤ n
+  pub states : (i : ℕ) → i < count → entry 3 n w i < n
+  pub reached : (i : ℕ) → i < count → 1 ≤ entry 2 n w (entry 3 n w i)
+  pub holds : (s : ℕ) → s < n → 1 ≤ entry 2 n w s → (i : ℕ) × (i < count) × (entry 3 n w i ≡ s)
+  pub once : (i j : ℕ) → i < j → j < count → entry 3 n w i ≡ entry 3 n w j → ⊥
+  pub ordered : (i j : ℕ) → i < j → j < count → entry 2 n w (entry 3 n w i) ≤ entry 2 n w (entry 3 n w j)
 
 -- t is hit at level k: it is a source with this start level, or an edge leads to it from a state hit one level before
 pub data Hit (n : ℕ) (succs : ℕ → List ℕ) (source : ℕ → Option ℕ) : ℕ → ℕ → Type 0 where
@@ -71,9 +77,3 @@ abbrev pub Admitted : ℕ → ℕ → ℕ → List ℕ → List ℕ → ℕ → 
 Admitted n level count w w' r =
     (succs : ℕ → List ℕ) (limit target : ℕ) (origin : List ℕ) (at : ℕ) → level < limit →
     State n succs limit target origin level at at count w → State n succs limit target origin (level + 1) at r r w'
-
--- whatever table the plan was made from, the search from the listed sources leaves what one from that table's start levels
--- does
-abbrev pub SearchedFromPlan : Graph → ℕ → ℕ → List ℕ → List ℕ → Answer → Type 0
-SearchedFromPlan g limit target w w' r =
-    (origin : List ℕ) → Planned (g .size) limit origin w → Spread g limit target origin w' r

@@ -7,11 +7,11 @@ use mathlib.Core.Option.{some}
 use native.Mathlib.Omega.{arith}
 use native.Mathlib.Decide.{ℕ-discrete}
 use Rattle.lasso.proofs.Tests.{lt-or-ge}
-use Rattle.spread.specs.Regions.{entry}
-use Rattle.spread.specs.Promises.{sources}
-use Rattle.spread.specs.Buckets.{Greatest}
-use Rattle.spread.specs.Search.{start, ReachedBy, State, Reached}
-use Rattle.spread.proofs.PushLaws.{reach-state, reach-kept, reach-here}
+use Rattle.frontier.specs.Regions.{entry}
+use Rattle.frontier.specs.Buckets.{sources}
+use Rattle.frontier.specs.Buckets.{Greatest}
+use Rattle.frontier.specs.Search.{start, ReachedBy, State, Reached}
+use Rattle.frontier.proofs.PushLaws.{reach-state, reach-kept, reach-here}
 
 -- The walk along the list of a level's sources: the cursor names a source of the level or is 0, and the level's sources
 -- from the cursor on have been reached.

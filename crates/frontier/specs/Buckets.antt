@@ -5,8 +5,12 @@ use mathlib.Core.List.{List}
 use mathlib.Core.Option.{Option, some}
 use lib.ListN.{set}
 use Rattle.table.specs.Changes.{SameOutside}
-use Rattle.spread.specs.Regions.{entry}
-use Rattle.spread.specs.Promises.{sources}
+use Rattle.lasso.specs.Limit.{under}
+use Rattle.frontier.specs.Regions.{entry, valueOf}
+
+-- the start level of a source, which region 2 holds at entry; a source at or above the limit does not count
+abbrev pub sources : ℕ → ℕ → List ℕ → ℕ → Option ℕ
+sources n limit w s = under limit (valueOf (entry 2 n w s))
 
 -- v names the greatest source of level a below b: s + 1 for s, 0 if there is none
 pub record Greatest (source : ℕ → Option ℕ) (a b v : ℕ) : Type 0 where

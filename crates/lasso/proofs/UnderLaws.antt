@@ -5,9 +5,9 @@ use mathlib.Core.Logic.{inl, inr}
 use mathlib.Core.Option.{Option, some, none}
 use native.Mathlib.Omega.{arith}
 use borrow.Author.Tests.{lt-ltb, le-ltb}
 use Rattle.lasso.proofs.Tests.{lt-or-ge}
 use Rattle.lasso.proofs.Least.{IsLeast, isLeast-own}
-use Rattle.spread.specs.Hit.{under}
+use Rattle.lasso.specs.Limit.{under}
 
 -- a number below the limit stays
 pub under-lt : (limit k : ℕ) → k < limit → under limit (some k) ≡ some k

@@ -4,12 +4,12 @@ use Prim.Native.Nat.{ℕ, _+_, _*_, _<_}
 use mathlib.Core.Path.{_≡_, refl, sym, subst}
 use mathlib.Core.List.{List}
 use lib.ListN.{set}
-use Rattle.spread.specs.Regions.{entry, queued}
-use Rattle.spread.specs.Search.{before, first, Pushed}
-use Rattle.spread.proofs.PushLaws.{set-pushed}
+use Rattle.frontier.specs.Regions.{entry, queued}
+use Rattle.frontier.specs.Search.{before, first, Pushed}
+use Rattle.frontier.proofs.PushLaws.{set-pushed}
 use borrow.Author.Needs.{needs}
-use Rattle.spread.proofs.reach.Statement.{statement}
-use Rattle.spread.proofs.reach.Tie as tie
+use Rattle.frontier.proofs.reach.Statement.{statement}
+use Rattle.frontier.proofs.reach.Tie as tie
 
 -- the state was not reached before
 unreached : (c : tie.Else1) → let a = c .before .before .before .before .args in entry 2 (a .n) (a .work .now) (a .t) ≡ 0
