@@ -7,8 +7,8 @@ use Rattle.lasso.specs.Graph.{Graph}
 use Rattle.lasso.specs.Distance.{dist}
 use Rattle.model.specs.declared.Header.{Header}
 use Rattle.model.specs.Values.{Valid}
-use Rattle.model.specs.Model.{graphOf}
-use Rattle.spread.specs.Regions.{entry, entryOf}
+use Rattle.model.specs.Model.{graphIn}
+use Rattle.frontier.specs.Regions.{entry, entryOf}
 
 -- region 0 holds the distance of each state from the start
 pub record StartDistances (g : Graph) (w : List ℕ) : Type 0 where
@@ -25,4 +25,4 @@ pub record Started (g : Graph) (w w' : List ℕ) : Type 0 where
 pub record Ready (f : List ℕ) (h : Header) (w : List ℕ) : Type 0 where
   pub valid : Valid f h
   pub room : 6 * h .states ≤ length w
-  pub start-distances : StartDistances (graphOf f) w
+  pub start-distances : StartDistances (graphIn f h) w

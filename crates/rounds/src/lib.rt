@@ -7,10 +7,10 @@ ghost use lib.ListN.{length};
 ghost use Rattle.lasso.specs.Rounds.{candidateb, candidates, lesser, sum, roundLength, withRound, afterRound, afterRounds};
 ghost use Rattle.lasso.specs.Values.{bestOf, recordOf};
 ghost use Rattle.model.specs.Values.{Valid};
-ghost use Rattle.model.specs.Model.{graphOf};
+ghost use Rattle.model.specs.Model.{graphIn};
 ghost use Rattle.table.specs.Changes.{SameOutside};
-ghost use Rattle.spread.specs.Regions.{entry, entryOf, valueOf};
-ghost use Rattle.spread.specs.Hit.{under};
+ghost use Rattle.frontier.specs.Regions.{entry, entryOf, valueOf};
+ghost use Rattle.lasso.specs.Limit.{under};
 ghost use Rattle.rounds.specs.Promises.{Started, Ready};
 use lasso::Best;
 use lasso::RoundRecord;
@@ -18,17 +18,17 @@ use lasso::Transitions;
 use model::Header;
 use model::is_marked;
 use spread::Answer;
-use spread::distances;
 use spread::spread;
 use table::copy_down;
 use table::get;
 use table::put;
+use walks::distances;
 
 // Puts the distances from the start into region 0.
 pub fn start_distances(file: &[u8], h: Header, work: &mut [u16])
     requires { ⌜ Valid (now file) h ⌝ }
     requires { ⌜ 6 * h .states ≤ length (now work) ⌝ }
-    ensures { λ _. ⌜ Started (graphOf (now (file .entry))) (now (work .entry)) (now (work .exit)) ⌝ }
+    ensures { λ _. ⌜ Started (graphIn (now (file .entry)) h) (now (work .entry)) (now (work .exit)) ⌝ }
 {
     let n = h.states;
     let start = h.start;
@@ -40,7 +40,7 @@ pub fn start_distances(file: &[u8], h: Header, work: &mut [u16])
 pub fn is_candidate(file: &[u8], h: Header, work: &[u16], s: usize) -> bool
     requires { ⌜ Ready (now file) h (now work) ⌝ }
     requires { ⌜ s < h .states ⌝ }
-    ensures { λ r. ⌜ r ≡ candidateb (graphOf (now (file .entry))) s ⌝ }
+    ensures { λ r. ⌜ r ≡ candidateb (graphIn (now (file .entry)) h) s ⌝ }
 {
     if get(work, s) == 0 {
         return false;
@@ -51,7 +51,7 @@ pub fn is_candidate(file: &[u8], h: Header, work: &[u16], s: usize) -> bool
 // The number of candidates.
 pub fn count_candidates(file: &[u8], h: Header, work: &[u16]) -> usize
     requires { ⌜ Ready (now file) h (now work) ⌝ }
-    ensures { λ r. ⌜ r ≡ length (candidates (graphOf (now (file .entry)))) ⌝ }
+    ensures { λ r. ⌜ r ≡ length (candidates (graphIn (now (file .entry)) h)) ⌝ }
 {
     let states = h.states;
     let mut count = 0;
@@ -102,7 +102,7 @@ fn round(file: &[u8], h: Header, work: &mut [u16], r: usize, limit: usize) -> Be
     requires { ⌜ Ready (now file) h (now work) ⌝ }
     requires { ⌜ r < h .states ⌝ }
     requires { ⌜ limit ≤ h .states ⌝ }
-    ensures { λ b. ⌜ bestOf b ≡ under (suc limit) (roundLength (graphOf (now (file .entry))) r) ⌝ }
+    ensures { λ b. ⌜ bestOf b ≡ under (suc limit) (roundLength (graphIn (now (file .entry)) h) r) ⌝ }
     ensures same { λ _. ⌜ SameOutside (2 * h .states) (6 * h .states) (now (work .entry)) (now (work .exit)) ⌝ }
 {
     if limit == 0 {
@@ -139,7 +139,7 @@ fn limit_of(best: Best, n: usize) -> usize
 fn round_within(file: &[u8], h: Header, work: &mut [u16], r: usize, best: Best) -> Best
     requires { ⌜ Ready (now file) h (now work) ⌝ }
     requires { ⌜ r < h .states ⌝ }
-    ensures { λ b. ⌜ lesser (bestOf best) (bestOf b) ≡ lesser (bestOf best) (roundLength (graphOf (now (file .entry))) r) ⌝ }
+    ensures { λ b. ⌜ lesser (bestOf best) (bestOf b) ≡ lesser (bestOf best) (roundLength (graphIn (now (file .entry)) h) r) ⌝ }
     ensures same { λ _. ⌜ SameOutside (2 * h .states) (6 * h .states) (now (work .entry)) (now (work .exit)) ⌝ }
 {
     let limit = limit_of(best, h.states);
@@ -149,8 +149,8 @@ fn round_within(file: &[u8], h: Header, work: &mut [u16], r: usize, best: Best) 
 // The record after one more round: the one for the candidate whose place is the count.
 pub fn next_round(file: &[u8], h: Header, work: &mut [u16], so_far: RoundRecord) -> RoundRecord
     requires { ⌜ Ready (now file) h (now work) ⌝ }
-    requires { ⌜ «so_far» .done < length (candidates (graphOf (now file))) ⌝ }
-    ensures { λ a. ⌜ recordOf a ≡ afterRound (graphOf (now (file .entry))) (recordOf «so_far») ⌝ }
+    requires { ⌜ «so_far» .done < length (candidates (graphIn (now file) h)) ⌝ }
+    ensures { λ a. ⌜ recordOf a ≡ afterRound (graphIn (now (file .entry)) h) (recordOf «so_far») ⌝ }
     ensures same { λ _. ⌜ SameOutside (2 * h .states) (6 * h .states) (now (work .entry)) (now (work .exit)) ⌝ }
 {
     let n = h.states;
@@ -183,7 +183,7 @@ fn after_round(
     requires { ⌜ Ready (now file) h (now work) ⌝ }
     requires { ⌜ r < h .states ⌝ }
     requires { ⌜ «so_far» .done < 65535 ⌝ }
-    ensures { λ a. ⌜ recordOf a ≡ withRound (recordOf «so_far») (roundLength (graphOf (now (file .entry))) r) ⌝ }
+    ensures { λ a. ⌜ recordOf a ≡ withRound (recordOf «so_far») (roundLength (graphIn (now (file .entry)) h) r) ⌝ }
     ensures same { λ _. ⌜ SameOutside (2 * h .states) (6 * h .states) (now (work .entry)) (now (work .exit)) ⌝ }
 {
     let best = so_far.best;
@@ -194,7 +194,7 @@ fn after_round(
 // The record after all rounds that the allowance admits.
 pub fn run_rounds(file: &[u8], h: Header, work: &mut [u16], allowance: usize) -> RoundRecord
     requires { ⌜ Ready (now file) h (now work) ⌝ }
-    ensures { λ a. ⌜ recordOf a ≡ afterRounds (graphOf (now (file .entry))) (min allowance (length (candidates (graphOf (now (file .entry)))))) ⌝ }
+    ensures { λ a. ⌜ recordOf a ≡ afterRounds (graphIn (now (file .entry)) h) (min allowance (length (candidates (graphIn (now (file .entry)) h)))) ⌝ }
     ensures same { λ _. ⌜ SameOutside (2 * h .states) (6 * h .states) (now (work .entry)) (now (work .exit)) ⌝ }
 {
     let n = h.states;

@@ -6,7 +6,7 @@ use mathlib.Core.Logic.{⊎-elim}
 use borrow.Author.Needs.{needs}
 use native.Mathlib.Omega.{arith}
 use Rattle.lasso.specs.Values.{recordOf, bestOf}
-use Rattle.model.specs.Model.{graphOf}
+use Rattle.model.specs.Model.{graphIn}
 use Rattle.model.proofs.Laws.{valid-sizes}
 use Rattle.table.specs.Changes.{SameOutside}
 use Rattle.table.proofs.Laws.{sameOutside-refl, sameOutside-trans}
@@ -18,8 +18,8 @@ use Rattle.rounds.proofs.next_round.Tie as tie
 
 abbrev Inv-loop : tie.InvT-loop
 Inv-loop file h work₀ so-far n best done found₀ place₀ s₀ work found place s =
-    (s ≤ n) × (place ≤ s) × SameOutside (2 * n) (6 * n) work₀ work × Counted (graphOf file) place s
-    × Chosen (graphOf file) (bestOf (so-far .best)) (so-far .done) place (bestOf found)
+    (s ≤ n) × (place ≤ s) × SameOutside (2 * n) (6 * n) work₀ work × Counted (graphIn file h) place s
+    × Chosen (graphIn file h) (bestOf (so-far .best)) (so-far .done) place (bestOf found)
 
 abbrev μ-loop : tie.MeasureT-loop
 μ-loop file h work₀ so-far n best done found₀ place₀ s₀ work found place s = n - s
@@ -30,7 +30,7 @@ cast-done c = search needs
 loop-holds : tie.Need-loop-holds Inv-loop μ-loop
 loop-holds c =
     let start = c .before .before .before in
-    let g = graphOf (start .args .file .now) in (
+    let g = graphIn (start .args .file .now) (start .args .h) in (
       omega arith,
       omega arith,
       sameOutside-refl _ _ _,
@@ -65,13 +65,13 @@ start c = at-loop c .before .before .before .before
 counted : (c : tie.Joined2 Inv-loop μ-loop)
     → let a = start (c .before) .args in
     SameOutside (2 * a .h .states) (6 * a .h .states) (a .work .now) (c .if2 .work)
-    × Counted (graphOf (a .file .now)) (at-loop (c .before) .loop .place + 1) (at-loop (c .before) .loop .s + 1)
-    × Chosen (graphOf (a .file .now)) (bestOf (a .so-far .best)) (a .so-far .done) (at-loop (c .before) .loop .place + 1)
+    × Counted (graphIn (a .file .now) (a .h)) (at-loop (c .before) .loop .place + 1) (at-loop (c .before) .loop .s + 1)
+    × Chosen (graphIn (a .file .now) (a .h)) (bestOf (a .so-far .best)) (a .so-far .done) (at-loop (c .before) .loop .place + 1)
     (bestOf (c .if2 .found))
 counted c =
     let sizes = valid-sizes (start (c .before) .pre .0 .valid) in
     let test = sym (c .before .before .is-candidate .ensures) ∙ c .before .if1 .taken in
-    let inside : at-loop (c .before) .loop .s < graphOf (start (c .before) .args .file .now) .size = omega arith in
+    let inside : at-loop (c .before) .loop .s < graphIn (start (c .before) .args .file .now) (start (c .before) .args .h) .size = omega arith in
     let (within, small, same, below, chosen) = at-loop (c .before) .loop .inv in
     ⊎-elim
     (λ w. (
@@ -94,7 +94,7 @@ loop-again c =
     let start = at .before .before .before .before in
     let sizes = valid-sizes (start .pre .0 .valid) in
     let test = sym (c .before .is-candidate .ensures) in
-    let inside : at .loop .s < graphOf (start .args .file .now) .size = omega arith in
+    let inside : at .loop .s < graphIn (start .args .file .now) (start .args .h) .size = omega arith in
     let (within, small, same, below, chosen) = at .loop .inv in
     ⊎-elim
     (λ w.

@@ -4,7 +4,7 @@ use borrow.Author.Needs.{needs}
 use native.Mathlib.Omega.{arith}
 use Rattle.lasso.specs.Rounds.{lesser, roundLength}
 use Rattle.lasso.specs.Values.{bestOf}
-use Rattle.model.specs.Model.{graphOf}
+use Rattle.model.specs.Model.{graphIn}
 use Rattle.model.proofs.Laws.{valid-sizes, valid-well-formed}
 use Rattle.rounds.proofs.Laws.{limit-le, limit-enough, roundLength-le}
 use Rattle.rounds.proofs.round_within.Statement.{statement}
@@ -37,7 +37,7 @@ returns c =
     let r = start .args .r in
     let sizes = valid-sizes valid in (
       ap (lesser best) (done .round .ensures .0)
-          ∙ limit-enough best (roundLength (graphOf (start .args .file .now)) r) (start .args .h .states)
+          ∙ limit-enough best (roundLength (graphIn (start .args .file .now) (start .args .h)) r) (start .args .h .states)
           (limit .limit-of .result) (limit .limit-of .ensures)
           (λ l e. omega (arith, roundLength-le (valid-well-formed valid) r l (omega arith) e)),
       done .round .ensures .1,
