@@ -57,8 +57,8 @@ pub fn plan(work: &mut [u16], n: usize, limit: usize)
     }
 }
 
-// Marks a state with its level and puts it at the end of the queue, unless it was reached before. The end of the queue is
-// a place of the table; answers the end afterwards.
+// Marks a state with its level and puts it at the end of the queue, unless it was reached before. The end of the queue
+// is a place of the table; answers the end afterwards.
 pub fn reach(work: &mut [u16], n: usize, t: usize, level: usize, tail: usize) -> usize
     requires { ⌜ n ≤ 4096 ⌝ }
     requires { ⌜ t < n ⌝ }
@@ -66,7 +66,8 @@ pub fn reach(work: &mut [u16], n: usize, t: usize, level: usize, tail: usize) ->
     requires { ⌜ 6 * n ≤ length (now work) ⌝ }
     requires { ⌜ 3 * n ≤ tail ⌝ }
     requires { ⌜ (entry 2 n (now work) t ≡ 0 → queued n tail < n) ⌝ }
-    ensures change { λ r. ⌜ Reached n t (level + 1) (queued n tail) (now (work .entry)) (now (work .exit)) (queued n r) ⌝ }
+    ensures change { λ r. ⌜ Reached n t (level + 1) (queued n tail)
+        (now (work .entry)) (now (work .exit)) (queued n r) ⌝ }
     ensures grows { λ r. ⌜ tail ≤ r ⌝ }
 {
     if get(work, 2 * n + t) != 0 {

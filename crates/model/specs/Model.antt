@@ -14,8 +14,8 @@ abbrev pub listIf : Bool → List ℕ → List ℕ
 listIf true xs = xs
 listIf false xs = []
 
--- the model of a file, read by a header: the header's states and initial state, the file's edges by rows and its marks; no
--- number from the number of states on has an edge or a mark
+-- the model of a file, read by a header: the header's states and initial state, the file's edges by rows and its marks;
+-- no number from the number of states on has an edge or a mark
 abbrev pub graphIn : List ℕ → Header → Graph
 graphIn f h =
     record {

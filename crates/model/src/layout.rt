@@ -1,4 +1,5 @@
-// Where the tables of a model file stand, by its numbers of states and edges: each function is named as its definition.
+// Where the tables of a model file stand, by its numbers of states and edges. Each function is named as its definition
+// in specs/Layout.antt.
 ghost use mathlib.Core.Path.{_≡_};
 ghost use Prim.Native.Nat.{_+_, _*_, _≤_, _<_};
 ghost use lib.ListN.{length};

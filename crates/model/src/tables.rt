@@ -1,4 +1,5 @@
-// The rules 6 and 8 to 11, each as one test of a file whose numbers of states and edges were read, and the part of a row.
+// The rules 6 and 8 to 11, each as one test of a file whose numbers of states and edges were read, and the part of a
+// row.
 ghost use mathlib.Core.Path.{_≡_};
 ghost use mathlib.Core.Bool.{false};
 ghost use Prim.Native.Nat.{_+_, _*_, _≤_, _<_};

@@ -20,7 +20,8 @@ pub record FoundFrom (g : Graph) (source : ℕ → Option ℕ) (limit target : �
 
 -- no walk from a source into the target has a length up to the limit: region 2 holds the level at which each state is
 -- first hit, up to and including the limit, and region 3 the states reached
-pub record ExhaustedFrom (g : Graph) (source : ℕ → Option ℕ) (limit target : ℕ) (w w' : List ℕ) (count : ℕ) : Type 0 where
+pub record ExhaustedFrom (g : Graph) (source : ℕ → Option ℕ) (limit target : ℕ) (w w' : List ℕ) (count : ℕ)
+    : Type 0 where
   pub outside : SameOutside (2 * g .size) (6 * g .size) w w'
   pub length : under (suc limit) (hitLength g source target) ≡ none
   pub levels : (t : ℕ) → t < g .size → entry 2 (g .size) w' t ≡ entryOf (under (suc limit) (hitLevel g source t))
@@ -35,8 +36,8 @@ SpreadFrom g source limit target w w' (Nothing count) = ExhaustedFrom g source l
 abbrev pub Spread : Graph → ℕ → ℕ → List ℕ → List ℕ → Answer → Type 0
 Spread g limit target w w' r = SpreadFrom g (sources (g .size) limit w) limit target w w' r
 
--- whatever table the plan was made from, the search from the listed sources leaves what one from that table's start levels
--- does
+-- whatever table the plan was made from, the search from the listed sources leaves what one from that table's start
+-- levels does
 abbrev pub SearchedFromPlan : Graph → ℕ → ℕ → List ℕ → List ℕ → Answer → Type 0
 SearchedFromPlan g limit target w w' r =
     (origin : List ℕ) → Planned (g .size) limit origin w → Spread g limit target origin w' r

@@ -1,5 +1,5 @@
-// The one search there is: breadth-first by levels, from sources that start at levels of their own. The working table has
-// the regions of the frontier.
+// The one search there is: breadth-first by levels, from sources that start at levels of their own. The working table
+// has the regions of the frontier.
 ghost use Prim.Native.Nat.{_*_, _≤_};
 ghost use lib.ListN.{length};
 ghost use Rattle.model.specs.Values.{Valid};
@@ -22,8 +22,9 @@ pub enum Answer {
     Nothing(usize),
 }
 
-// The search proper, from listed sources: level by level below the limit, and out of all loops at the first edge into the
-// target. `at`, `end` and `tail` are places of the table, in region 3: a new state is put at `tail` with no sum to compute.
+// The search proper, from listed sources: level by level below the limit, and out of all loops at the first edge into
+// the target. `at`, `end` and `tail` are places of the table, in region 3: a new state is put at `tail` with no sum to
+// compute.
 pub fn search_planned(
     file: &[u8],
     h: Header,
