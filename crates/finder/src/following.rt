@@ -7,7 +7,7 @@ ghost use Prim.Native.Nat.{_*_, _≤_, _<_};
 ghost use lib.ListN.{length, getD, drop};
 ghost use lib.Dec.{T, eqb};
 ghost use Rattle.lasso.specs.Lists.{anyb, below};
-ghost use Rattle.lasso.specs.Graph.{edgeb, edges, pathb, loopsb, lassob};
+ghost use Rattle.lasso.specs.Graph.{edges, pathb, loopsb, lassob};
 ghost use Rattle.lasso.specs.Roll.{leastLength};
 ghost use Rattle.model.specs.Model.{graphOf};
 ghost use Rattle.model.specs.Values.{Valid};
@@ -21,32 +21,12 @@ use listing::advance;
 use listing::prepare;
 use listing::write_list;
 use model::Header;
-use model::degree;
+use model::has_edge;
 use model::is_marked;
-use model::row_part;
-use model::successor;
 use rounds::run_rounds;
 use rounds::start_distances;
 use table::get;
 use table::put;
-
-// There is an edge from s to t.
-fn has_edge(file: &[u8], h: Header, s: usize, t: usize) -> bool
-    requires { ⌜ Valid (now file) h ⌝ }
-    requires { ⌜ s < h .states ⌝ }
-    ensures { λ r. ⌜ r ≡ edgeb (graphOf (now (file .entry))) s t ⌝ }
-{
-    let part = row_part(file, h, s);
-    let d = degree(part);
-    let mut k = 0;
-    while k < d {
-        if successor(part, k) == t {
-            return true;
-        }
-        k += 1;
-    }
-    false
-}
 
 // The list is a path from the start: each entry but the last has an edge to the next.
 fn is_path(file: &[u8], h: Header, list: &[u16]) -> bool
