@@ -19,9 +19,9 @@ use Rattle.lasso.proofs.Distance.{dist-le, dist-walk}
 use Rattle.lasso.proofs.Lasso.{walk-ends}
 use Rattle.lasso.proofs.PlaceByPlace.{Extends}
 use Rattle.lasso.proofs.Extend.{Ahead, MarkAhead, Passed, CompletesWithin, joined-passed, extends-least-iff}
-use Rattle.spread.specs.Regions.{entry, entryOf}
-use Rattle.spread.specs.Through.{viaMark, loopLength}
-use Rattle.spread.proofs.ThroughLaws.{ViaMark, viaMark-least, loopLength-least}
+use Rattle.frontier.specs.Regions.{entry, entryOf}
+use Rattle.walks.specs.Through.{viaMark, loopLength}
+use Rattle.walks.proofs.ThroughLaws.{ViaMark, viaMark-least, loopLength-least}
 use Rattle.starts.specs.LoopStarts.{startLoop, StartLoops}
 use Rattle.follow.specs.Follow.{Decides, StartsAhead, ClosesMarked, ClosesStart}
 use Rattle.starts.proofs.StartLaws.{ClosedVia, startLoop-iff, loopLength-closed}

@@ -8,13 +8,13 @@ use native.Mathlib.Omega.{arith}
 use Rattle.lasso.specs.Graph.{Graph, WellFormed}
 use Rattle.lasso.specs.Distance.{dist}
 use Rattle.spread.specs.declared.Answer.{Answer}
-use Rattle.spread.specs.Regions.{entry, valueOf}
-use Rattle.spread.specs.Hit.{under}
+use Rattle.frontier.specs.Regions.{entry, valueOf}
+use Rattle.lasso.specs.Limit.{under}
 use Rattle.spread.specs.Promises.{SpreadFrom}
-use Rattle.spread.specs.Through.{viaMark, markedSources, DistancesWithin}
-use Rattle.spread.proofs.UnderLaws.{under-under}
+use Rattle.walks.specs.Through.{viaMark, markedSources, DistancesWithin}
+use Rattle.lasso.proofs.UnderLaws.{under-under}
 use Rattle.spread.proofs.SearchLaws.{value-entry, level-entry}
-use Rattle.spread.proofs.ThroughLaws.{viaMark-nothing}
+use Rattle.walks.proofs.ThroughLaws.{viaMark-nothing}
 
 -- below the limit region 2 holds the values of f
 pub record LevelsBelow (n limit : ℕ) (w : List ℕ) (f : ℕ → Option ℕ) : Type 0 where

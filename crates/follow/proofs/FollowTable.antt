@@ -13,13 +13,13 @@ use Rattle.lasso.specs.Graph.{Graph, pathb}
 use Rattle.lasso.specs.Distance.{dist}
 use Rattle.lasso.proofs.RollLaws.{leastLength-range}
 use Rattle.model.specs.declared.Header.{Header}
-use Rattle.model.specs.Model.{graphOf}
+use Rattle.model.specs.Model.{graphIn}
 use Rattle.model.proofs.Laws.{Sizes, valid-sizes, valid-well-formed}
 use Rattle.table.specs.Changes.{SameOutside}
 use Rattle.table.proofs.Laws.{sameOutside-trans}
 use Rattle.spread.specs.declared.Answer.{Answer}
 use Rattle.spread.specs.Promises.{SpreadFrom}
-use Rattle.spread.specs.Through.{markedSources, DistancesWithin}
+use Rattle.walks.specs.Through.{markedSources, DistancesWithin}
 use Rattle.spread.proofs.SearchLaws.{spread-sameOutside}
 use Rattle.starts.specs.LoopStarts.{StartLoops}
 use Rattle.follow.specs.Follow.{Prepared, Decides, upTo, StatesTo, StartsAhead, ClosesMarked, ClosesStart, MayFollow}
@@ -42,7 +42,7 @@ module _ (g : Graph) (w v : List ℕ) (same : SameOutside (2 * g .size) (6 * g .
 pub record Asked (f : List ℕ) (h : Header) (w : List ℕ) (l place t : ℕ) : Type 0 where
   pub prepared : Prepared f h w l
   pub within : place < l
-  pub path : T (pathb (graphOf f) (upTo (graphOf f) w place ++ t ∷ []))
+  pub path : T (pathb (graphIn f h) (upTo (graphIn f h) w place ++ t ∷ []))
 
 -- a state asked of, and the table after a search
 module _ {f : List ℕ} {h : Header} {w : List ℕ} {l place t : ℕ} (asked : Asked f h w l place t) where
@@ -50,10 +50,10 @@ module _ {f : List ℕ} {h : Header} {w : List ℕ} {l place t : ℕ} (asked : A
   pub asked-sizes : (l ≤ h .states) × (6 * h .states ≤ length w) × Sizes f h
   asked-sizes =
       let S : Sizes f h = valid-sizes (asked .prepared .valid) in
-      (omega (arith, leastLength-range (graphOf f) l (asked .prepared .least), S .states-are), asked .prepared .room, S)
+      (omega (arith, leastLength-range (graphIn f h) l (asked .prepared .least), S .states-are), asked .prepared .room, S)
 
   -- the list and the state are the beginning of a path
-  pub asked-beginning : Beginning (graphOf f) l place (upTo (graphOf f) w place) t
+  pub asked-beginning : Beginning (graphIn f h) l place (upTo (graphIn f h) w place) t
   asked-beginning =
       record {
         well-formed = valid-well-formed (asked .prepared .valid);
@@ -65,57 +65,57 @@ module _ {f : List ℕ} {h : Header} {w : List ℕ} {l place t : ℕ} (asked : A
       }
 
   -- after a search the table holds what the tests read
-  pub asked-holds : {φ : ℕ → Option ℕ} (v : List ℕ) → SameOutside (2 * graphOf f .size) (6 * graphOf f .size) w v → LevelsBelow (graphOf f .size) (l - (place + 1) + 1) v φ → Holds (graphOf f) l place (upTo (graphOf f) w place) φ v
+  pub asked-holds : {φ : ℕ → Option ℕ} (v : List ℕ) → SameOutside (2 * graphIn f h .size) (6 * graphIn f h .size) w v → LevelsBelow (graphIn f h .size) (l - (place + 1) + 1) v φ → Holds (graphIn f h) l place (upTo (graphIn f h) w place) φ v
   asked-holds v same levels =
       record {
-        loops = startLoops-same (graphOf f) w v same l (asked .prepared .start-loops);
-        states = list-same (graphOf f) w v same place (omega (arith, asked-sizes, asked .within));
+        loops = startLoops-same (graphIn f h) w v same l (asked .prepared .start-loops);
+        states = list-same (graphIn f h) w v same place (omega (arith, asked-sizes, asked .within));
         levels = levels;
       }
 
   -- after a search the states of the list are states
-  pub asked-states : (v : List ℕ) → SameOutside (2 * graphOf f .size) (6 * graphOf f .size) w v → StatesTo h v place
+  pub asked-states : (v : List ℕ) → SameOutside (2 * graphIn f h .size) (6 * graphIn f h .size) w v → StatesTo h v place
   asked-states v same k b =
       let S : Sizes f h = asked-sizes .2 in
-      rw (S .start-is, S .states-are, list-same (graphOf f) w v same place (omega (arith, asked-sizes, asked .within)) k b) (place-state asked-beginning k b)
+      rw (S .start-is, S .states-are, list-same (graphIn f h) w v same place (omega (arith, asked-sizes, asked .within)) k b) (place-state asked-beginning k b)
 
   -- a search changes regions 2 to 5 only, by the header's number of states
-  pub asked-same : (v : List ℕ) → SameOutside (2 * graphOf f .size) (6 * graphOf f .size) w v → SameOutside (2 * h .states) (6 * h .states) w v
+  pub asked-same : (v : List ℕ) → SameOutside (2 * graphIn f h .size) (6 * graphIn f h .size) w v → SameOutside (2 * h .states) (6 * h .states) w v
   asked-same v same = rw (asked-sizes .2 .states-are) same
 
   -- after the search from t
-  module _ (v : List ℕ) (D : DistancesWithin (graphOf f) t (l - (place + 1) + 1) w v) where
+  module _ (v : List ℕ) (D : DistancesWithin (graphIn f h) t (l - (place + 1) + 1) w v) where
     -- the table holds the distances from t
-    near : Holds (graphOf f) l place (upTo (graphOf f) w place) (dist (graphOf f) t) v
+    near : Holds (graphIn f h) l place (upTo (graphIn f h) w place) (dist (graphIn f h) t) v
     near = asked-holds v (D .outside) (distances-levels D)
 
     -- a loop start ahead: t may follow
-    pub starts-follows : StartsAhead (h .states) v (l - (place + 1)) → MayFollow (graphOf f) l w place t
+    pub starts-follows : StartsAhead (h .states) v (l - (place + 1)) → MayFollow (graphIn f h) l w place t
     starts-follows x = starts-extends asked-beginning near (rw (asked-sizes .2 .states-are) at x)
 
     -- a loop start and a mark passed: t may follow
-    pub marked-follows : ClosesMarked (graphOf f) (h .states) (h .start) v place (l - (place + 1)) → MayFollow (graphOf f) l w place t
+    pub marked-follows : ClosesMarked (graphIn f h) (h .states) (h .start) v place (l - (place + 1)) → MayFollow (graphIn f h) l w place t
     marked-follows x = marked-extends asked-beginning near (rw (asked-sizes .2 .states-are, asked-sizes .2 .start-is) at x)
 
     -- what the search on from the marked states leaves, if its limit is that of the search from t and it has no target
     abbrev SearchedOn : List ℕ → Answer → Type 0
-    SearchedOn u r = SpreadFrom (graphOf f) (markedSources (graphOf f) (l - (place + 1) + 1) v) (l - (place + 1) + 1) (h .states) v u r
+    SearchedOn u r = SpreadFrom (graphIn f h) (markedSources (graphIn f h) (l - (place + 1) + 1) v) (l - (place + 1) + 1) (h .states) v u r
 
     -- both searches change regions 2 to 5 only
-    pub searched-outside : (u : List ℕ) (r : Answer) → SearchedOn u r → SameOutside (2 * graphOf f .size) (6 * graphOf f .size) w u
+    pub searched-outside : (u : List ℕ) (r : Answer) → SearchedOn u r → SameOutside (2 * graphIn f h .size) (6 * graphIn f h .size) w u
     searched-outside u r sp =
-        sameOutside-trans (D .outside) (spread-sameOutside (graphOf f) (markedSources (graphOf f) (l - (place + 1) + 1) v) (l - (place + 1) + 1) (h .states) r sp)
+        sameOutside-trans (D .outside) (spread-sameOutside (graphIn f h) (markedSources (graphIn f h) (l - (place + 1) + 1) v) (l - (place + 1) + 1) (h .states) r sp)
 
     -- when both are ruled out
-    module _ (no-start : StartsAhead (h .states) v (l - (place + 1)) → ⊥) (no-mark : ClosesMarked (graphOf f) (h .states) (h .start) v place (l - (place + 1)) → ⊥) where
+    module _ (no-start : StartsAhead (h .states) v (l - (place + 1)) → ⊥) (no-mark : ClosesMarked (graphIn f h) (h .states) (h .start) v place (l - (place + 1)) → ⊥) where
       -- no state of the list that can start the loop is near enough: t may not follow
-      pub far-not-follows : (ClosesStart (h .states) (h .start) v place (l - (place + 1)) → ⊥) → MayFollow (graphOf f) l w place t → ⊥
+      pub far-not-follows : (ClosesStart (h .states) (h .start) v place (l - (place + 1)) → ⊥) → MayFollow (graphIn f h) l w place t → ⊥
       far-not-follows far =
           let S : Sizes f h = asked-sizes .2 in
           closes-not-extends asked-beginning near (rw (S .states-are) at no-start) (rw (S .states-are, S .start-is) at no-mark) (rw (S .states-are, S .start-is) at far)
 
       -- the search on from the marked states decides whether t may follow
-      pub via-decides : (u : List ℕ) (r : Answer) → SearchedOn u r → (b : Bool) → Decides (ClosesStart (h .states) (h .start) u place (l - (place + 1))) b → Decides (MayFollow (graphOf f) l w place t) b
+      pub via-decides : (u : List ℕ) (r : Answer) → SearchedOn u r → (b : Bool) → Decides (ClosesStart (h .states) (h .start) u place (l - (place + 1))) b → Decides (MayFollow (graphIn f h) l w place t) b
       via-decides u r sp b known =
           let S : Sizes f h = asked-sizes .2 in
           let levels = marks-levels D (asked-beginning .well-formed) u r (rw (S .states-are) at sp) in

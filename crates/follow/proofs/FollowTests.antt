@@ -9,7 +9,7 @@ use lib.ListN.{getD}
 use lib.Dec.{T}
 use Rattle.lasso.specs.Graph.{Graph}
 use Rattle.lasso.proofs.Tests.{lt-or-ge}
-use Rattle.spread.specs.Regions.{entry}
+use Rattle.frontier.specs.Regions.{entry}
 use Rattle.follow.specs.Follow.{Decides}
 
 -- what the code reads for a state in region 1 is its entry

@@ -11,8 +11,8 @@ use Rattle.lasso.specs.Roll.{leastLength}
 use Rattle.lasso.proofs.PlaceByPlace.{Extends}
 use Rattle.model.specs.declared.Header.{Header}
 use Rattle.model.specs.Values.{Valid}
-use Rattle.model.specs.Model.{graphOf}
-use Rattle.spread.specs.Regions.{entry}
+use Rattle.model.specs.Model.{graphIn}
+use Rattle.frontier.specs.Regions.{entry}
 use Rattle.current.specs.Current.{stateAt}
 use Rattle.starts.specs.LoopStarts.{StartLoops}
 
@@ -29,8 +29,8 @@ StatesTo h w place = (k : ℕ) → k ≤ place → stateAt h w k < h .states
 pub record Prepared (f : List ℕ) (h : Header) (w : List ℕ) (l : ℕ) : Type 0 where
   pub valid : Valid f h
   pub room : 6 * h .states ≤ length w
-  pub least : leastLength (graphOf f) ≡ some l
-  pub start-loops : StartLoops (graphOf f) l w
+  pub least : leastLength (graphIn f h) ≡ some l
+  pub start-loops : StartLoops (graphIn f h) l w
 
 -- the test's answer is right: true if P holds, false if it does not
 abbrev pub Decides : Type 0 → Bool → Type 0

@@ -4,7 +4,7 @@ ghost use Prim.Native.Nat.{_*_, _≤_, _<_};
 ghost use lib.ListN.{length};
 ghost use lib.Dec.{T};
 ghost use Rattle.lasso.specs.Graph.{pathb};
-ghost use Rattle.model.specs.Model.{graphOf};
+ghost use Rattle.model.specs.Model.{graphIn};
 ghost use Rattle.model.specs.Values.{Valid};
 ghost use Rattle.table.specs.Changes.{SameOutside};
 ghost use Rattle.follow.specs.Follow.{upTo, StatesTo, Prepared, Decides};
@@ -47,7 +47,7 @@ fn closes_marked(file: &[u8], h: Header, work: &[u16], place: usize, left: usize
     requires { ⌜ left ≤ h .states ⌝ }
     requires { ⌜ StatesTo h (now work) place ⌝ }
     ensures { λ b. ⌜ Decides
-        (ClosesMarked (graphOf (now (file .entry))) (h .states) (h .start) (now (work .entry)) place left) b ⌝ }
+        (ClosesMarked (graphIn (now (file .entry)) h) (h .states) (h .start) (now (work .entry)) place left) b ⌝ }
 {
     let n = h.states;
     let mut marked = false;
@@ -108,8 +108,8 @@ pub fn may_follow(
     requires { ⌜ Prepared (now file) h (now work) (length .0) ⌝ }
     requires { ⌜ place < length .0 ⌝ }
     requires { ⌜ t < h .states ⌝ }
-    requires { ⌜ T (pathb (graphOf (now file)) (upTo (graphOf (now file)) (now work) place ++ t ∷ [])) ⌝ }
-    ensures { λ r. ⌜ Decides (MayFollow (graphOf (now (file .entry))) (length .0) (now (work .entry)) place t) r ⌝ }
+    requires { ⌜ T (pathb (graphIn (now file) h) (upTo (graphIn (now file) h) (now work) place ++ t ∷ [])) ⌝ }
+    ensures { λ r. ⌜ Decides (MayFollow (graphIn (now (file .entry)) h) (length .0) (now (work .entry)) place t) r ⌝ }
     ensures same { λ r. ⌜ SameOutside (2 * h .states) (6 * h .states) (now (work .entry)) (now (work .exit)) ⌝ }
 {
     let n = h.states;

@@ -1,6 +1,7 @@
 -- The laws of paths, lassos, distances and rounds, from tests and lists up.
 pub mod Tests
 pub mod Least
+pub mod UnderLaws
 pub mod Different
 pub mod Walk
 pub mod Distance

@@ -1,6 +1,7 @@
 -- What a reader has to believe about paths and rounds, in the order of the contract: plain functions on lists and numbers.
 pub mod Lists
 pub mod Least
+pub mod Limit
 pub mod Graph
 pub mod Order
 pub mod Roll

@@ -11,7 +11,7 @@ use Rattle.lasso.specs.Graph.{Graph, edges, lassob}
 use Rattle.lasso.proofs.Tests.{lt-or-ge}
 use Rattle.lasso.proofs.PlaceByPlace.{Extends}
 use Rattle.model.specs.declared.Header.{Header}
-use Rattle.model.specs.Model.{graphOf}
+use Rattle.model.specs.Model.{graphIn}
 use Rattle.model.proofs.Laws.{Sizes, valid-sizes}
 use Rattle.table.specs.Changes.{SameOutside}
 use Rattle.follow.specs.Follow.{Prepared, upTo}
@@ -42,11 +42,11 @@ pub record Completing (f : List ℕ) (h : Header) (l from : ℕ) (w w' : List �
   pub from-le : from ≤ place
   pub within : place ≤ l
   pub prefix : take from w' ≡ take from w
-  pub extends : Extends (graphOf f) l (upTo (graphOf f) w' place)
-  pub least : LeastAfter (graphOf f) l from (upTo (graphOf f) w' place)
+  pub extends : Extends (graphIn f h) l (upTo (graphIn f h) w' place)
+  pub least : LeastAfter (graphIn f h) l from (upTo (graphIn f h) w' place)
 
 -- at first no place is completed
-pub completing-none : {f w : List ℕ} {h : Header} {l from : ℕ} → Prepared f h w l → from ≤ l → Extends (graphOf f) l (upTo (graphOf f) w from) → Completing f h l from w w from
+pub completing-none : {f w : List ℕ} {h : Header} {l from : ℕ} → Prepared f h w l → from ≤ l → Extends (graphIn f h) l (upTo (graphIn f h) w from) → Completing f h l from w w from
 completing-none {f} {w} {h} {l} {from} p within x =
     record {
       prepared = p;
@@ -60,7 +60,7 @@ completing-none {f} {w} {h} {l} {from} p within x =
 
 -- the least state that may stand at the next place, stored there, completes one place more
 pub completing-more : {f w w' v : List ℕ} {h : Header} {l from place : ℕ} (t : ℕ) → Completing f h l from w w' place → place < l
-    → SameOutside (2 * h .states) (6 * h .states) w' v → LeastFollower (graphOf f) l (upTo (graphOf f) w' place) 0 t → Completing f h l from w (set v place t) (place + 1)
+    → SameOutside (2 * h .states) (6 * h .states) w' v → LeastFollower (graphIn f h) l (upTo (graphIn f h) w' place) 0 t → Completing f h l from w (set v place t) (place + 1)
 completing-more {f} {w} {w'} {v} {h} {l} {from} {place} t c inside same o =
     record {
       prepared = prepared-kept (c .prepared) change;
@@ -68,9 +68,9 @@ completing-more {f} {w} {w'} {v} {h} {l} {from} {place} t c inside same o =
       from-le = omega (arith, c .from-le);
       within = omega arith;
       prefix = take-set-le from v place t (c .from-le) ∙ same-take (h .states) from same (omega (arith, c .from-le, length-fits (c .prepared))) ∙ c .prefix;
-      extends = subst (λ (xs : List ℕ). Extends (graphOf f) l (graphOf f .start ∷ xs)) (sym longer) (o .extends);
-      least = subst (λ (xs : List ℕ). LeastAfter (graphOf f) l from (graphOf f .start ∷ xs)) (sym longer)
-          (least-snoc (graphOf f) l from (upTo (graphOf f) w' place) t (c .least) (λ y. o .least y (omega arith)));
+      extends = subst (λ (xs : List ℕ). Extends (graphIn f h) l (graphIn f h .start ∷ xs)) (sym longer) (o .extends);
+      least = subst (λ (xs : List ℕ). LeastAfter (graphIn f h) l from (graphIn f h .start ∷ xs)) (sym longer)
+          (least-snoc (graphIn f h) l from (upTo (graphIn f h) w' place) t (c .least) (λ y. o .least y (omega arith)));
     }
   where
     change : Kept (h .states) w' (set v place t)
@@ -80,7 +80,7 @@ completing-more {f} {w} {w'} {v} {h} {l} {from} {place} t c inside same o =
     longer = stored-take t (c .prepared) inside same
 
 -- a list completed as far as to its last place is completed
-pub completing-all : {f w w' : List ℕ} {h : Header} {l from place : ℕ} → Completing f h l from w w' place → l ≤ place → Completed (graphOf f) l from w w'
+pub completing-all : {f w w' : List ℕ} {h : Header} {l from place : ℕ} → Completing f h l from w w' place → l ≤ place → Completed (graphIn f h) l from w w'
 completing-all {f} {w} {w'} {h} {l} {from} {place} c all =
     record {
       kept = subst (λ (n : ℕ). Kept n w w') (sizes .states-are) (c .kept);
@@ -96,11 +96,11 @@ completing-all {f} {w} {w'} {h} {l} {from} {place} c all =
     last : place ≡ l
     last = omega (arith, c .within)
 
-    long : length (upTo (graphOf f) w' l) ≡ suc l
+    long : length (upTo (graphIn f h) w' l) ≡ suc l
     long = ap suc (length-take-le l w' (omega (arith, length-fits (c .prepared), c .prepared .room)))
 
-    whole : T (lassob (graphOf f) (upTo (graphOf f) w' l)) × (edges (upTo (graphOf f) w' l) ≡ l)
-    whole = extends-whole (graphOf f) l (upTo (graphOf f) w' l) long (subst (λ (p : ℕ). Extends (graphOf f) l (upTo (graphOf f) w' p)) last (c .extends))
+    whole : T (lassob (graphIn f h) (upTo (graphIn f h) w' l)) × (edges (upTo (graphIn f h) w' l) ≡ l)
+    whole = extends-whole (graphIn f h) l (upTo (graphIn f h) w' l) long (subst (λ (p : ℕ). Extends (graphIn f h) l (upTo (graphIn f h) w' p)) last (c .extends))
 
-    least : LeastAfter (graphOf f) l from (upTo (graphOf f) w' l)
-    least = subst (λ (p : ℕ). LeastAfter (graphOf f) l from (upTo (graphOf f) w' p)) last (c .least)
+    least : LeastAfter (graphIn f h) l from (upTo (graphIn f h) w' l)
+    least = subst (λ (p : ℕ). LeastAfter (graphIn f h) l from (upTo (graphIn f h) w' p)) last (c .least)

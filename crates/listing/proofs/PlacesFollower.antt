@@ -13,7 +13,7 @@ use Rattle.lasso.specs.Graph.{Graph, ascendingb, edgeb}
 use Rattle.lasso.proofs.Tests.{fst, snd, lt-or-ge, memb-at}
 use Rattle.lasso.proofs.PlaceByPlace.{Extends}
 use Rattle.model.specs.declared.Header.{Header}
-use Rattle.model.specs.Model.{graphOf}
+use Rattle.model.specs.Model.{graphIn}
 use Rattle.model.proofs.Laws.{valid-well-formed}
 use Rattle.table.specs.Changes.{SameOutside}
 use Rattle.table.proofs.Laws.{sameOutside-refl, sameOutside-trans}
@@ -76,57 +76,57 @@ tried-more {g} {n} {l} {q} {bound} {ts} {k = k} t tried s at here =
 -- The successors of s, the last state of the list up to a place.
 module _ {f w : List ℕ} {h : Header} {l place s : ℕ} (r : Row f h w l place s) where
   -- a state that may stand after the list is one of the successors
-  follower-place : (y : ℕ) → Extends (graphOf f) l (upTo (graphOf f) w place ++ y ∷ []) → (j : ℕ) × (j < length (graphOf f .succs s)) × (getD (graphOf f .succs s) j 0 ≡ y)
+  follower-place : (y : ℕ) → Extends (graphIn f h) l (upTo (graphIn f h) w place ++ y ∷ []) → (j : ℕ) × (j < length (graphIn f h .succs s)) × (getD (graphIn f h .succs s) j 0 ≡ y)
   follower-place y x =
-      memb-at y (graphOf f .succs s) (subst (λ (u : ℕ). T (edgeb (graphOf f) u y)) (sym (r .last)) (extends-edge (graphOf f) l (graphOf f .start) (take place w) y x))
+      memb-at y (graphIn f h .succs s) (subst (λ (u : ℕ). T (edgeb (graphIn f h) u y)) (sym (r .last)) (extends-edge (graphIn f h) l (graphIn f h .start) (take place w) y x))
 
   -- the same, with the successor's place written for the state
-  follower-at : (y : ℕ) → Extends (graphOf f) l (upTo (graphOf f) w place ++ y ∷ [])
-      → (j : ℕ) × (j < length (graphOf f .succs s)) × (getD (graphOf f .succs s) j 0 ≡ y) × Extends (graphOf f) l (upTo (graphOf f) w place ++ getD (graphOf f .succs s) j 0 ∷ [])
+  follower-at : (y : ℕ) → Extends (graphIn f h) l (upTo (graphIn f h) w place ++ y ∷ [])
+      → (j : ℕ) × (j < length (graphIn f h .succs s)) × (getD (graphIn f h .succs s) j 0 ≡ y) × Extends (graphIn f h) l (upTo (graphIn f h) w place ++ getD (graphIn f h .succs s) j 0 ∷ [])
   follower-at y x =
       let (j, i, e) = follower-place y x in
-      (j, i, e, subst (λ (u : ℕ). Extends (graphOf f) l (upTo (graphOf f) w place ++ u ∷ [])) (sym e) x)
+      (j, i, e, subst (λ (u : ℕ). Extends (graphIn f h) l (upTo (graphIn f h) w place ++ u ∷ [])) (sym e) x)
 
   -- of the successors from the bound on the first one that may stand after the list is the least
-  pub tried-found : {bound k : ℕ} {w' : List ℕ} (t : ℕ) → Tried (graphOf f) (h .states) l (upTo (graphOf f) w place) bound (graphOf f .succs s) w w' k
-      → k < length (graphOf f .succs s) → t ≡ getD (graphOf f .succs s) k 0 → bound ≤ t → Extends (graphOf f) l (upTo (graphOf f) w place ++ t ∷ [])
-      → LeastFollower (graphOf f) l (upTo (graphOf f) w place) bound t
+  pub tried-found : {bound k : ℕ} {w' : List ℕ} (t : ℕ) → Tried (graphIn f h) (h .states) l (upTo (graphIn f h) w place) bound (graphIn f h .succs s) w w' k
+      → k < length (graphIn f h .succs s) → t ≡ getD (graphIn f h .succs s) k 0 → bound ≤ t → Extends (graphIn f h) l (upTo (graphIn f h) w place ++ t ∷ [])
+      → LeastFollower (graphIn f h) l (upTo (graphIn f h) w place) bound t
   tried-found {bound} {k} t tried inside at from x =
       record { state = omega (arith, r .sizes, successor-state t r inside at); from-bound = from; extends = x; least = least }
     where
-      least : (y : ℕ) → bound ≤ y → y < t → Extends (graphOf f) l (upTo (graphOf f) w place ++ y ∷ []) → ⊥
+      least : (y : ℕ) → bound ≤ y → y < t → Extends (graphIn f h) l (upTo (graphIn f h) w place ++ y ∷ []) → ⊥
       least y p less z =
           let (j, i, e, there) = follower-at y z in
           elim (lt-or-ge j k) [
             | inl b ↦ tried .none j b (omega arith) there
-            | inr b ↦ omega (arith, ascending-le (graphOf f .succs s) (valid-well-formed (r .prepared .valid) .ascending s) k j b i)
+            | inr b ↦ omega (arith, ascending-le (graphIn f h .succs s) (valid-well-formed (r .prepared .valid) .ascending s) k j b i)
           ]
 
   -- nothing from the bound on may stand after the list if no successor may
-  pub tried-all : {bound k : ℕ} {w' : List ℕ} → Tried (graphOf f) (h .states) l (upTo (graphOf f) w place) bound (graphOf f .succs s) w w' k
-      → length (graphOf f .succs s) ≤ k → (y : ℕ) → bound ≤ y → Extends (graphOf f) l (upTo (graphOf f) w place ++ y ∷ []) → ⊥
+  pub tried-all : {bound k : ℕ} {w' : List ℕ} → Tried (graphIn f h) (h .states) l (upTo (graphIn f h) w place) bound (graphIn f h .succs s) w w' k
+      → length (graphIn f h .succs s) ≤ k → (y : ℕ) → bound ≤ y → Extends (graphIn f h) l (upTo (graphIn f h) w place ++ y ∷ []) → ⊥
   tried-all tried all y p z = let (j, i, e, there) = follower-at y z in tried .none j (omega arith) (omega arith) there
 
   -- if the list begins a lasso, one of the successors may stand after it
-  some-follower : Extends (graphOf f) l (upTo (graphOf f) w place) → (j : ℕ) × (j < length (graphOf f .succs s)) × Extends (graphOf f) l (upTo (graphOf f) w place ++ getD (graphOf f .succs s) j 0 ∷ [])
+  some-follower : Extends (graphIn f h) l (upTo (graphIn f h) w place) → (j : ℕ) × (j < length (graphIn f h .succs s)) × Extends (graphIn f h) l (upTo (graphIn f h) w place ++ getD (graphIn f h .succs s) j 0 ∷ [])
   some-follower x =
-      let (y, z) = extends-step (graphOf f) l (upTo (graphOf f) w place) (omega (arith, r .long, r .inside)) x in
+      let (y, z) = extends-step (graphIn f h) l (upTo (graphIn f h) w place) (omega (arith, r .long, r .inside)) x in
       let (j, i, e, there) = follower-at y z in
       (j, i, there)
 
   -- the last state of a list that begins a lasso has a successor
-  pub some-successor : Extends (graphOf f) l (upTo (graphOf f) w place) → 1 ≤ length (graphOf f .succs s)
+  pub some-successor : Extends (graphIn f h) l (upTo (graphIn f h) w place) → 1 ≤ length (graphIn f h .succs s)
   some-successor x = omega (arith, some-follower x .1)
 
   -- if none of the other successors may stand after a list that begins a lasso, the last one may, and is the least
-  pub tried-last : {k : ℕ} {w' : List ℕ} (t : ℕ) → Tried (graphOf f) (h .states) l (upTo (graphOf f) w place) 0 (graphOf f .succs s) w w' k
-      → length (graphOf f .succs s) ≡ k + 1 → t ≡ getD (graphOf f .succs s) k 0 → Extends (graphOf f) l (upTo (graphOf f) w place)
-      → LeastFollower (graphOf f) l (upTo (graphOf f) w place) 0 t
+  pub tried-last : {k : ℕ} {w' : List ℕ} (t : ℕ) → Tried (graphIn f h) (h .states) l (upTo (graphIn f h) w place) 0 (graphIn f h .succs s) w w' k
+      → length (graphIn f h .succs s) ≡ k + 1 → t ≡ getD (graphIn f h .succs s) k 0 → Extends (graphIn f h) l (upTo (graphIn f h) w place)
+      → LeastFollower (graphIn f h) l (upTo (graphIn f h) w place) 0 t
   tried-last {k} t tried all at x =
       let (j, i, there) = some-follower x in
       elim (lt-or-ge j k) [
         | inl b ↦ absurd (tried .none j b (omega arith) there)
         | inr b ↦
-            let e : getD (graphOf f .succs s) j 0 ≡ t = ap (λ (u : ℕ). getD (graphOf f .succs s) u 0) (equal j k b (omega arith)) ∙ sym at in
-            tried-found t tried (omega arith) at (omega arith) (subst (λ (u : ℕ). Extends (graphOf f) l (upTo (graphOf f) w place ++ u ∷ [])) e there)
+            let e : getD (graphIn f h .succs s) j 0 ≡ t = ap (λ (u : ℕ). getD (graphIn f h .succs s) u 0) (equal j k b (omega arith)) ∙ sym at in
+            tried-found t tried (omega arith) at (omega arith) (subst (λ (u : ℕ). Extends (graphIn f h) l (upTo (graphIn f h) w place ++ u ∷ [])) e there)
       ]

@@ -16,7 +16,7 @@ use Rattle.lasso.proofs.Tests.{lt-or-ge}
 use Rattle.lasso.proofs.PlaceByPlace.{Extends, first-of-roll, next-of-roll, last-of-roll}
 use Rattle.lasso.proofs.RollLaws.{roll-lasso}
 use Rattle.model.specs.declared.Header.{Header}
-use Rattle.model.specs.Model.{graphOf}
+use Rattle.model.specs.Model.{graphIn}
 use Rattle.model.proofs.Laws.{valid-sizes, valid-well-formed}
 use Rattle.table.specs.Changes.{SameOutside}
 use Rattle.table.proofs.Laws.{sameOutside-refl, sameOutside-trans}
@@ -26,29 +26,29 @@ use Rattle.listing.proofs.PlacesExtend.{lasso-path, path-begin, extends
 use Rattle.listing.proofs.PlacesTable.{length-fits, kept-trans, same-kept, prepared-kept, same-take, stored-kept, stored-take}
 
 -- completing keeps region 1 and what stands past the regions
-pub completed-kept : {f v w w' : List ℕ} {h : Header} {l from : ℕ} → Prepared f h v l → Completed (graphOf f) l from w w' → Kept (h .states) w w'
+pub completed-kept : {f v w w' : List ℕ} {h : Header} {l from : ℕ} → Prepared f h v l → Completed (graphIn f h) l from w w' → Kept (h .states) w w'
 completed-kept {w = w} {w' = w'} p c = subst (λ (n : ℕ). Kept n w w') (sym (valid-sizes (p .valid) .states-are)) (c .kept)
 
 -- the list completed from place 0 is the first of the roll
-pub completed-first : {f w w' : List ℕ} {h : Header} {l : ℕ} → Prepared f h w l → Completed (graphOf f) l 0 w w' → head? (roll (graphOf f)) ≡ some (upTo (graphOf f) w' l)
+pub completed-first : {f w w' : List ℕ} {h : Header} {l : ℕ} → Prepared f h w l → Completed (graphIn f h) l 0 w w' → head? (roll (graphIn f h)) ≡ some (upTo (graphIn f h) w' l)
 completed-first {f} {w' = w'} {l = l} p c =
-    first-of-roll (graphOf f) (valid-well-formed (p .valid)) l (p .least) (upTo (graphOf f) w' l) (c .lasso) (c .length) none-less
+    first-of-roll (graphIn f h) (valid-well-formed (p .valid)) l (p .least) (upTo (graphIn f h) w' l) (c .lasso) (c .length) none-less
   where
-    none-less : (j y : ℕ) → j ≤ l → y < getD (upTo (graphOf f) w' l) j 0 → Extends (graphOf f) l (take j (upTo (graphOf f) w' l) ++ y ∷ []) → ⊥
-    none-less zero y a less x = omega (arith, extends-start (graphOf f) l y x)
+    none-less : (j y : ℕ) → j ≤ l → y < getD (upTo (graphIn f h) w' l) j 0 → Extends (graphIn f h) l (take j (upTo (graphIn f h) w' l) ++ y ∷ []) → ⊥
+    none-less zero y a less x = omega (arith, extends-start (graphIn f h) l y x)
     none-less (suc j) y a less x = c .least (suc j) y (omega arith) a less x
 
 -- Going back through the list of the table w, as far as to a place: at no later place a greater state may stand, and the
 -- table changed in the regions 2 to 5 alone.
 pub record Retreating (f : List ℕ) (h : Header) (l : ℕ) (w w' : List ℕ) (place : ℕ) : Type 0 where
   pub prepared : Prepared f h w l
-  pub listed : List·Memᴰ (upTo (graphOf f) w l) (roll (graphOf f))
+  pub listed : List·Memᴰ (upTo (graphIn f h) w l) (roll (graphIn f h))
   pub within : place ≤ l
   pub same : SameOutside (2 * h .states) (6 * h .states) w w'
-  pub none-greater : (i y : ℕ) → place < i → i ≤ l → getD (upTo (graphOf f) w l) i 0 < y → Extends (graphOf f) l (take i (upTo (graphOf f) w l) ++ y ∷ []) → ⊥
+  pub none-greater : (i y : ℕ) → place < i → i ≤ l → getD (upTo (graphIn f h) w l) i 0 < y → Extends (graphIn f h) l (take i (upTo (graphIn f h) w l) ++ y ∷ []) → ⊥
 
 -- at first no place is passed
-pub retreating-none : {f w : List ℕ} {h : Header} {l : ℕ} → Prepared f h w l → List·Memᴰ (upTo (graphOf f) w l) (roll (graphOf f)) → Retreating f h l w w l
+pub retreating-none : {f w : List ℕ} {h : Header} {l : ℕ} → Prepared f h w l → List·Memᴰ (upTo (graphIn f h) w l) (roll (graphIn f h)) → Retreating f h l w w l
 retreating-none {w = w} {h = h} p m =
     record {
       prepared = p;
@@ -59,14 +59,14 @@ retreating-none {w = w} {h = h} p m =
     }
 
 -- nothing follows the list if at no place a greater state may stand
-pub retreating-all : {f w w' : List ℕ} {h : Header} {l place : ℕ} → Retreating f h l w w' place → place ≤ 0 → (following (upTo (graphOf f) w l) (roll (graphOf f)) ≡ none) × (take l w' ≡ take l w)
+pub retreating-all : {f w w' : List ℕ} {h : Header} {l place : ℕ} → Retreating f h l w w' place → place ≤ 0 → (following (upTo (graphIn f h) w l) (roll (graphIn f h)) ≡ none) × (take l w' ≡ take l w)
 retreating-all {f} {w} {h = h} {l = l} r e = (
-  last-of-roll (graphOf f) (valid-well-formed (r .prepared .valid)) l (r .prepared .least) (upTo (graphOf f) w l) (r .listed) none-greater,
+  last-of-roll (graphIn f h) (valid-well-formed (r .prepared .valid)) l (r .prepared .least) (upTo (graphIn f h) w l) (r .listed) none-greater,
   same-take (h .states) l (r .same) (omega (arith, length-fits (r .prepared))),
 )
   where
-    none-greater : (i y : ℕ) → i ≤ l → getD (upTo (graphOf f) w l) i 0 < y → Extends (graphOf f) l (take i (upTo (graphOf f) w l) ++ y ∷ []) → ⊥
-    none-greater zero y a more x = omega (arith, extends-start (graphOf f) l y x)
+    none-greater : (i y : ℕ) → i ≤ l → getD (upTo (graphIn f h) w l) i 0 < y → Extends (graphIn f h) l (take i (upTo (graphIn f h) w l) ++ y ∷ []) → ⊥
+    none-greater zero y a more x = omega (arith, extends-start (graphIn f h) l y x)
     none-greater (suc i) y a more x = r .none-greater (suc i) y (omega arith) a more x
 
 -- A greater state is looked for at the place that index p of the table holds.
@@ -101,27 +101,27 @@ module _ {f w w' : List ℕ} {h : Header} {l p bound : ℕ} (r : Raising f h l w
   still-prepared = prepared-kept (r .retreating .prepared) (same-kept (h .states) (r .retreating .same))
 
   -- what the search for a greater state asks
-  pub raising-asks : Prepared f h w' l × ((p < l) × T (pathb (graphOf f) (upTo (graphOf f) w' p)))
-  raising-asks = (still-prepared, (inside, subst (λ (xs : List ℕ). T (pathb (graphOf f) (graphOf f .start ∷ xs))) (before-place ∙ sym same-list) path))
+  pub raising-asks : Prepared f h w' l × ((p < l) × T (pathb (graphIn f h) (upTo (graphIn f h) w' p)))
+  raising-asks = (still-prepared, (inside, subst (λ (xs : List ℕ). T (pathb (graphIn f h) (graphIn f h .start ∷ xs))) (before-place ∙ sym same-list) path))
     where
-      whole : T (pathb (graphOf f) (upTo (graphOf f) w l))
-      whole = lasso-path (graphOf f) (upTo (graphOf f) w l) (roll-lasso (graphOf f) l (r .retreating .prepared .least) (upTo (graphOf f) w l) (r .retreating .listed) .0)
+      whole : T (pathb (graphIn f h) (upTo (graphIn f h) w l))
+      whole = lasso-path (graphIn f h) (upTo (graphIn f h) w l) (roll-lasso (graphIn f h) l (r .retreating .prepared .least) (upTo (graphIn f h) w l) (r .retreating .listed) .0)
 
-      path : T (pathb (graphOf f) (graphOf f .start ∷ take p (take l w)))
+      path : T (pathb (graphIn f h) (graphIn f h .start ∷ take p (take l w)))
       path =
-          path-begin (graphOf f) (graphOf f .start ∷ take p (take l w)) (drop p (take l w))
-          (subst (λ (xs : List ℕ). T (pathb (graphOf f) (graphOf f .start ∷ xs))) (sym (take-append-drop p (take l w))) whole)
+          path-begin (graphIn f h) (graphIn f h .start ∷ take p (take l w)) (drop p (take l w))
+          (subst (λ (xs : List ℕ). T (pathb (graphIn f h) (graphIn f h .start ∷ xs))) (sym (take-append-drop p (take l w))) whole)
 
   -- the state that stands at the place
-  stands : getD (upTo (graphOf f) w l) (suc p) 0 ≡ getD w p 0
+  stands : getD (upTo (graphIn f h) w l) (suc p) 0 ≡ getD w p 0
   stands = getD-take l w p 0 inside
 
   -- a state that may stand at the place of the whole list may stand after the list up to there
-  pub may-stand : (y : ℕ) → Extends (graphOf f) l (take (suc p) (upTo (graphOf f) w l) ++ y ∷ []) → Extends (graphOf f) l (upTo (graphOf f) w' p ++ y ∷ [])
-  may-stand y x = subst (λ (xs : List ℕ). Extends (graphOf f) l (graphOf f .start ∷ xs ++ y ∷ [])) (before-place ∙ sym same-list) x
+  pub may-stand : (y : ℕ) → Extends (graphIn f h) l (take (suc p) (upTo (graphIn f h) w l) ++ y ∷ []) → Extends (graphIn f h) l (upTo (graphIn f h) w' p ++ y ∷ [])
+  may-stand y x = subst (λ (xs : List ℕ). Extends (graphIn f h) l (graphIn f h .start ∷ xs ++ y ∷ [])) (before-place ∙ sym same-list) x
 
   -- if no state from the bound on may stand at the place, it is passed
-  pub raising-nothing : {v : List ℕ} → SameOutside (2 * h .states) (6 * h .states) w' v → ((y : ℕ) → bound ≤ y → Extends (graphOf f) l (upTo (graphOf f) w' p ++ y ∷ []) → ⊥) → Retreating f h l w v p
+  pub raising-nothing : {v : List ℕ} → SameOutside (2 * h .states) (6 * h .states) w' v → ((y : ℕ) → bound ≤ y → Extends (graphIn f h) l (upTo (graphIn f h) w' p ++ y ∷ []) → ⊥) → Retreating f h l w v p
   raising-nothing same nothing =
       record {
         prepared = r .retreating .prepared;
@@ -131,37 +131,37 @@ module _ {f w w' : List ℕ} {h : Header} {l p bound : ℕ} (r : Raising f h l w
         none-greater = none-greater;
       }
     where
-      here : (y : ℕ) → getD (upTo (graphOf f) w l) (suc p) 0 < y → Extends (graphOf f) l (take (suc p) (upTo (graphOf f) w l) ++ y ∷ []) → ⊥
+      here : (y : ℕ) → getD (upTo (graphIn f h) w l) (suc p) 0 < y → Extends (graphIn f h) l (take (suc p) (upTo (graphIn f h) w l) ++ y ∷ []) → ⊥
       here y more x = nothing y (omega (arith, r .bound-is, stands)) (may-stand y x)
 
-      none-greater : (i y : ℕ) → p < i → i ≤ l → getD (upTo (graphOf f) w l) i 0 < y → Extends (graphOf f) l (take i (upTo (graphOf f) w l) ++ y ∷ []) → ⊥
+      none-greater : (i y : ℕ) → p < i → i ≤ l → getD (upTo (graphIn f h) w l) i 0 < y → Extends (graphIn f h) l (take i (upTo (graphIn f h) w l) ++ y ∷ []) → ⊥
       none-greater i y a b =
           elim (lt-or-ge (p + 1) i) [
             | inl q ↦ r .retreating .none-greater i y q b
             | inr q ↦
                 let e : suc p ≡ i = omega arith in
-                subst (λ (k : ℕ). getD (upTo (graphOf f) w l) k 0 < y → Extends (graphOf f) l (take k (upTo (graphOf f) w l) ++ y ∷ []) → ⊥) e (here y)
+                subst (λ (k : ℕ). getD (upTo (graphIn f h) w l) k 0 < y → Extends (graphIn f h) l (take k (upTo (graphIn f h) w l) ++ y ∷ []) → ⊥) e (here y)
           ]
 
   -- The least state t from the bound on that may stand at the place is stored there.
-  module _ {v : List ℕ} {t : ℕ} (same : SameOutside (2 * h .states) (6 * h .states) w' v) (o : LeastFollower (graphOf f) l (upTo (graphOf f) w' p) bound t) where
+  module _ {v : List ℕ} {t : ℕ} (same : SameOutside (2 * h .states) (6 * h .states) w' v) (o : LeastFollower (graphIn f h) l (upTo (graphIn f h) w' p) bound t) where
     -- what completing the list behind the place asks
-    pub raised-asks : Prepared f h (set v p t) l × ((p + 1 ≤ l) × Extends (graphOf f) l (upTo (graphOf f) (set v p t) (p + 1)))
+    pub raised-asks : Prepared f h (set v p t) l × ((p + 1 ≤ l) × Extends (graphIn f h) l (upTo (graphIn f h) (set v p t) (p + 1)))
     raised-asks = (
       prepared-kept still-prepared (stored-kept t still-prepared inside same),
-      (omega (arith, inside), subst (λ (xs : List ℕ). Extends (graphOf f) l (graphOf f .start ∷ xs)) (sym (stored-take t still-prepared inside same)) (o .extends)),
+      (omega (arith, inside), subst (λ (xs : List ℕ). Extends (graphIn f h) l (graphIn f h .start ∷ xs)) (sym (stored-take t still-prepared inside same)) (o .extends)),
     )
 
     -- what the listing keeps is kept
-    pub raised-kept : {u : List ℕ} → Completed (graphOf f) l (p + 1) (set v p t) u → Kept (h .states) w u
+    pub raised-kept : {u : List ℕ} → Completed (graphIn f h) l (p + 1) (set v p t) u → Kept (h .states) w u
     raised-kept c =
         kept-trans (same-kept (h .states) (r .retreating .same))
         (kept-trans (stored-kept t still-prepared inside same) (completed-kept (r .retreating .prepared) c))
 
     -- the completed list follows the list of the table w
-    pub raised-follows : {u : List ℕ} → Completed (graphOf f) l (p + 1) (set v p t) u → following (upTo (graphOf f) w l) (roll (graphOf f)) ≡ some (upTo (graphOf f) u l)
+    pub raised-follows : {u : List ℕ} → Completed (graphIn f h) l (p + 1) (set v p t) u → following (upTo (graphIn f h) w l) (roll (graphIn f h)) ≡ some (upTo (graphIn f h) u l)
     raised-follows {u} c =
-        next-of-roll (graphOf f) (valid-well-formed (r .retreating .prepared .valid)) l (r .retreating .prepared .least) (upTo (graphOf f) w l) (upTo (graphOf f) u l) (suc p)
+        next-of-roll (graphIn f h) (valid-well-formed (r .retreating .prepared .valid)) l (r .retreating .prepared .least) (upTo (graphIn f h) w l) (upTo (graphIn f h) u l) (suc p)
         (r .retreating .listed) (c .lasso) (c .length) inside agrees
         (omega (arith, stands, raised, r .bound-is, o .from-bound))
         (λ y more less x. o .least y (omega (arith, r .bound-is, stands)) (omega (arith, raised)) (may-stand y x))
@@ -174,12 +174,12 @@ module _ {f w w' : List ℕ} {h : Header} {l p bound : ℕ} (r : Raising f h l w
         long : length (take p w) ≡ p
         long = length-take-le p w (omega (arith, inside, length-fits (r .retreating .prepared), r .retreating .prepared .room))
 
-        agrees : take (suc p) (upTo (graphOf f) u l) ≡ take (suc p) (upTo (graphOf f) w l)
+        agrees : take (suc p) (upTo (graphIn f h) u l) ≡ take (suc p) (upTo (graphIn f h) w l)
         agrees =
-            ap (λ (xs : List ℕ). graphOf f .start ∷ xs)
+            ap (λ (xs : List ℕ). graphIn f h .start ∷ xs)
             (take-take p l u (omega (arith, inside)) ∙ sym (take-take p (p + 1) u (omega arith)) ∙ ap (take p) begins ∙ take-at (take p w) (t ∷ []) p long ∙ sym before-place)
 
-        raised : getD (upTo (graphOf f) u l) (suc p) 0 ≡ t
+        raised : getD (upTo (graphIn f h) u l) (suc p) 0 ≡ t
         raised =
             getD-take l u p 0 inside ∙ sym (getD-take (p + 1) u p 0 (omega arith)) ∙ ap (λ (xs : List ℕ). getD xs p 0) begins
             ∙ getD-at (take p w) t [] 0 p long

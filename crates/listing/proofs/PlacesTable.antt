@@ -8,7 +8,7 @@ use lib.ListN.{length, getD, take, set, length-set, length-take}
 use lib.Seq.{ext-getD, getD-take, getD-set-other, length-take-le, take-suc-set}
 use Rattle.lasso.proofs.RollLaws.{leastLength-range}
 use Rattle.model.specs.declared.Header.{Header}
-use Rattle.model.specs.Model.{graphOf}
+use Rattle.model.specs.Model.{graphIn}
 use Rattle.model.proofs.Laws.{Sizes, valid-sizes}
 use Rattle.table.specs.Changes.{SameOutside}
 use Rattle.follow.specs.Follow.{Prepared}
@@ -48,7 +48,7 @@ prepared-kept {f} {w} {w'} {h} {l} p k =
       valid = p .valid;
       room = omega (arith, p .room, k .same-length);
       least = p .least;
-      start-loops = record { loops = λ s i. k .same-loops (1 * graphOf f .size + s) (omega (arith, sizes)) (omega (arith, sizes)) ∙ p .start-loops .loops s i };
+      start-loops = record { loops = λ s i. k .same-loops (1 * graphIn f h .size + s) (omega (arith, sizes)) (omega (arith, sizes)) ∙ p .start-loops .loops s i };
     }
   where
     sizes : Sizes f h
@@ -73,10 +73,10 @@ upTo-last x w (suc p) h = rw (length-take-le (suc p) w h) (getD-take (suc p) w p
 
 -- the list fits into region 0
 pub length-fits : {f w : List ℕ} {h : Header} {l : ℕ} → Prepared f h w l → l ≤ h .states
-length-fits {f} {l = l} p = omega (arith, leastLength-range (graphOf f) l (p .least), valid-sizes (p .valid))
+length-fits {f} {l = l} p = omega (arith, leastLength-range (graphIn f h) l (p .least), valid-sizes (p .valid))
 
 -- what the store of a state that may stand at a place asks
-pub put-asks : {f w v q : List ℕ} {h : Header} {l place bound t : ℕ} → Prepared f h w l → place < l → SameOutside (2 * h .states) (6 * h .states) w v → LeastFollower (graphOf f) l q bound t → (place < length v) × (t < 65536)
+pub put-asks : {f w v q : List ℕ} {h : Header} {l place bound t : ℕ} → Prepared f h w l → place < l → SameOutside (2 * h .states) (6 * h .states) w v → LeastFollower (graphIn f h) l q bound t → (place < length v) × (t < 65536)
 put-asks p inside same o = omega (arith, length-fits p, p .room, same .same-length, valid-sizes (p .valid), o .state)
 
 -- a test and a store behind the list keep what the listing keeps

@@ -5,7 +5,7 @@ ghost use lib.Dec.{T};
 ghost use Rattle.lasso.specs.Graph.{pathb};
 ghost use Rattle.lasso.specs.Roll.{roll};
 ghost use Rattle.lasso.proofs.PlaceByPlace.{Extends};
-ghost use Rattle.model.specs.Model.{graphOf};
+ghost use Rattle.model.specs.Model.{graphIn};
 ghost use Rattle.table.specs.Changes.{SameOutside};
 ghost use Rattle.follow.specs.Follow.{upTo, Prepared};
 ghost use Rattle.listing.specs.Places.{Kept, FirstFollower, FollowerOf, Completed, HoldsFirst, Replaced};
@@ -36,8 +36,8 @@ fn least_follower(
 ) -> Follower
     requires { ⌜ Prepared (now file) h (now work) (length .0) ⌝ }
     requires { ⌜ place < length .0 ⌝ }
-    requires { ⌜ T (pathb (graphOf (now file)) (upTo (graphOf (now file)) (now work) place)) ⌝ }
-    ensures { λ r. ⌜ FollowerOf (graphOf (now (file .entry))) (length .0) (now (work .entry)) place bound r ⌝ }
+    requires { ⌜ T (pathb (graphIn (now file) h) (upTo (graphIn (now file) h) (now work) place)) ⌝ }
+    ensures { λ r. ⌜ FollowerOf (graphIn (now (file .entry)) h) (length .0) (now (work .entry)) place bound r ⌝ }
     ensures same { λ r. ⌜ SameOutside (2 * h .states) (6 * h .states) (now (work .entry)) (now (work .exit)) ⌝ }
 {
     let s = list_at(h, work, place);
@@ -66,8 +66,8 @@ fn first_follower(
 ) -> usize
     requires { ⌜ Prepared (now file) h (now work) (length .0) ⌝ }
     requires { ⌜ place < length .0 ⌝ }
-    requires { ⌜ Extends (graphOf (now file)) (length .0) (upTo (graphOf (now file)) (now work) place) ⌝ }
-    ensures { λ r. ⌜ FirstFollower (graphOf (now (file .entry))) (length .0) (now (work .entry)) place r ⌝ }
+    requires { ⌜ Extends (graphIn (now file) h) (length .0) (upTo (graphIn (now file) h) (now work) place) ⌝ }
+    ensures { λ r. ⌜ FirstFollower (graphIn (now (file .entry)) h) (length .0) (now (work .entry)) place r ⌝ }
     ensures same { λ r. ⌜ SameOutside (2 * h .states) (6 * h .states) (now (work .entry)) (now (work .exit)) ⌝ }
 {
     let s = list_at(h, work, place);
@@ -88,8 +88,8 @@ fn first_follower(
 fn complete(file: &[u8], h: Header, work: &mut [u16], length: Transitions, from: usize)
     requires { ⌜ Prepared (now file) h (now work) (length .0) ⌝ }
     requires { ⌜ from ≤ length .0 ⌝ }
-    requires { ⌜ Extends (graphOf (now file)) (length .0) (upTo (graphOf (now file)) (now work) from) ⌝ }
-    ensures { λ _. ⌜ Completed (graphOf (now (file .entry))) (length .0) from
+    requires { ⌜ Extends (graphIn (now file) h) (length .0) (upTo (graphIn (now file) h) (now work) from) ⌝ }
+    ensures { λ _. ⌜ Completed (graphIn (now (file .entry)) h) (length .0) from
         (now (work .entry)) (now (work .exit)) ⌝ }
 {
     let last = length.number();
@@ -104,7 +104,7 @@ fn complete(file: &[u8], h: Header, work: &mut [u16], length: Transitions, from:
 // Puts the first of the shortest accepting paths into region 0.
 pub fn first(file: &[u8], h: Header, work: &mut [u16], length: Transitions)
     requires { ⌜ Prepared (now file) h (now work) (length .0) ⌝ }
-    ensures { λ _. ⌜ HoldsFirst (graphOf (now (file .entry))) (length .0) (now (work .exit)) ⌝ }
+    ensures { λ _. ⌜ HoldsFirst (graphIn (now (file .entry)) h) (length .0) (now (work .exit)) ⌝ }
     ensures kept { λ _. ⌜ Kept (h .states) (now (work .entry)) (now (work .exit)) ⌝ }
 {
     complete(file, h, work, length, 0);
@@ -113,8 +113,8 @@ pub fn first(file: &[u8], h: Header, work: &mut [u16], length: Transitions)
 // Puts the path after the one in region 0 there, and answers true; or answers false if that one is the last.
 pub fn advance(file: &[u8], h: Header, work: &mut [u16], length: Transitions) -> bool
     requires { ⌜ Prepared (now file) h (now work) (length .0) ⌝ }
-    requires { ⌜ List·Memᴰ (upTo (graphOf (now file)) (now work) (length .0)) (roll (graphOf (now file))) ⌝ }
-    ensures { λ r. ⌜ Replaced (graphOf (now (file .entry))) (length .0) (now (work .entry)) (now (work .exit)) r ⌝ }
+    requires { ⌜ List·Memᴰ (upTo (graphIn (now file) h) (now work) (length .0)) (roll (graphIn (now file) h)) ⌝ }
+    ensures { λ r. ⌜ Replaced (graphIn (now (file .entry)) h) (length .0) (now (work .entry)) (now (work .exit)) r ⌝ }
     ensures kept { λ _. ⌜ Kept (h .states) (now (work .entry)) (now (work .exit)) ⌝ }
 {
     let mut place = length.number();

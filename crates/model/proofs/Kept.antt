@@ -10,7 +10,7 @@ use lib.Dec.{T, ltb, eqb→eq, ltb→lt, nltb→le}
 use Rattle.lasso.specs.Lists.{anyb, below}
 use Rattle.lasso.specs.Graph.{ascendingb}
 use Rattle.model.specs.Bytes.{long}
-use Rattle.model.specs.Layout.{states, edgeCount, markBytes, totalOf, rowEntry, target, rowTargets, markBit}
+use Rattle.model.specs.Layout.{states, edgeCount, markBytes, rowEntry, target, rowTargets, markBit}
 use Rattle.model.specs.Rules.{badStates, badOffsets, badLength, badRows, badTargets, badOrder, badSpare}
 use Rattle.model.proofs.Reasons.{kept, not-not, neqb→ne, none-passes, none-below}
 
@@ -21,12 +21,12 @@ states-kept f h =
     let m : states f ≤ 4096 = search (kept, nltb→le) in
     omega arith
 
--- rules 6 and 7 are kept: the file has the length that its numbers of states and edges give
-pub length-kept : (f : List ℕ) → T (not (badOffsets f)) → T (not (badLength f)) → length f ≡ totalOf (states f) (edgeCount f)
-length-kept f o l =
+-- rules 6 and 7 are kept: the file has the length of its kind
+pub length-kept : (total : ℕ) (f : List ℕ) → T (not (badOffsets total f)) → T (not (badLength f)) → length f ≡ total
+length-kept total f o l =
     let own : length f ≡ long f 20 = search (kept, eqb→eq) in
-    let total : long f 20 ≡ totalOf (states f) (edgeCount f) = search (kept, eqb→eq) in
-    own ∙ total
+    let given : long f 20 ≡ total = search (kept, eqb→eq) in
+    own ∙ given
 
 -- rule 8 is kept: the first row entry is 0
 pub row-first-kept : (f : List ℕ) → T (not (badRows f)) → rowEntry f 0 ≡ 0

@@ -1,6 +1,6 @@
 -- What an accepted file is, for the layers above: the facts of its tables, and that the graph it holds is well formed.
 use Prim.Native.Nat.{ℕ, zero, suc, _+_, _*_, _-_, _≤_, _<_}
-use mathlib.Core.Path.{_≡_, refl, ap}
+use mathlib.Core.Path.{_≡_, refl, sym, ap, subst, _∙_}
 use mathlib.Core.Bool.{true, false, not}
 use mathlib.Core.List.{List, [], List·Memᴰ, Memᴰ·of-map}
 use mathlib.Core.Logic.{inl, inr}
@@ -11,9 +11,10 @@ use lib.Dec.{T, ltb, ltb→lt, nltb→le}
 use Rattle.lasso.specs.Lists.{memb, upFrom}
 use Rattle.lasso.specs.Graph.{WellFormed, edgeb, ascendingb}
 use Rattle.lasso.proofs.Tests.{lt-or-ge, memb-mem, upFrom-range}
+use Rattle.model.specs.Bytes.{words}
 use Rattle.model.specs.Layout.{states, edgeCount, initial, markBytes, totalOf, rowEntry, target, rowTargets, markBit}
 use Rattle.model.specs.Rules.{rules, Accepted}
-use Rattle.model.specs.Model.{graphOf, listIf}
+use Rattle.model.specs.Model.{graphIn, graphOf, stepsOf, listIf}
 use Rattle.model.specs.declared.Header.{Header}
 use Rattle.model.specs.Values.{Valid, headerOf}
 use Rattle.model.proofs.Reasons.{none-clear, not-not}
@@ -24,7 +25,7 @@ pub record Facts (f : List ℕ) : Type 0 where
   pub states-range : (1 ≤ states f) × (states f ≤ 4096)
   pub edges-range : edgeCount f ≤ 8192
   pub initial-below : initial f < states f
-  pub file-length : length f ≡ totalOf (states f) (edgeCount f)
+  pub file-length : totalOf (states f) (edgeCount f) ≤ length f
   pub row-first : rowEntry f 0 ≡ 0
   pub rows-ascend : (s : ℕ) → s < states f → rowEntry f s ≤ rowEntry f (s + 1)
   pub row-last : rowEntry f (states f) ≡ edgeCount f
@@ -42,7 +43,7 @@ accepted-facts f a =
       states-range = states-kept f (from2 .0);
       edges-range = nltb→le 8192 (edgeCount f) (from2 .1 .0);
       initial-below = ltb→lt (initial f) (states f) (not-not (ltb (initial f) (states f)) (from2 .1 .1 .0));
-      file-length = length-kept f (from6 .0) (from6 .1 .0);
+      file-length = omega (arith, length-kept (totalOf (states f) (edgeCount f)) f (from6 .0) (from6 .1 .0));
       row-first = row-first-kept f (from8 .0);
       rows-ascend = rows-ascend-kept f (from8 .0);
       row-last = row-last-kept f (from8 .0);
@@ -65,25 +66,32 @@ row-targets-below {f} F s t l h =
     let r : (a ≤ e) × (e < a + n) = upFrom-range a n (m .1) in
     omega (arith, m .2, F .targets-below e (omega (arith, row-end-le F s l, F .rows-ascend s l)))
 
--- a number from N on has no edge
-edge-from-state : (f : List ℕ) (s t : ℕ) → T (edgeb (graphOf f) s t) → (s < states f) × T (memb t (rowTargets f s))
-edge-from-state f s t h =
-    (elim (ltb s (states f)) as (λ b. ltb s (states f) ≡ b → T (memb t (listIf b (rowTargets f s))) → (s < states f) × T (memb t (rowTargets f s))) [
-      | true ↦ λ e m. (ltb-true s (states f) e, m)
-      | false ↦ λ e m. absurd m
-    ]) refl h
+-- a number from the number of states on has no edge
+edge-from-state : (f : List ℕ) (h : Header) (s t : ℕ) → T (edgeb (graphIn f h) s t) → (s < h .states) × T (memb t (rowTargets f s))
+edge-from-state f h s t e =
+    (elim (ltb s (h .states)) as (λ b. ltb s (h .states) ≡ b → T (memb t (listIf b (rowTargets f s))) → (s < h .states) × T (memb t (rowTargets f s))) [
+      | true ↦ λ q m. (ltb-true s (h .states) q, m)
+      | false ↦ λ q m. absurd m
+    ]) refl e
 
 -- the successors of a state are its row's targets
-pub succs-row : (f : List ℕ) (s : ℕ) → s < states f → graphOf f .succs s ≡ rowTargets f s
-succs-row f s l = rw (lt-ltb s (states f) l)
+pub succs-row : (f : List ℕ) (h : Header) (s : ℕ) → s < h .states → graphIn f h .succs s ≡ rowTargets f s
+succs-row f h s l = rw (lt-ltb s (h .states) l)
+
+-- the successors of a state are the numbers of the part that holds its row's targets
+pub steps-succs :
+    (f : List ℕ) (h : Header) (s : ℕ) (part : List ℕ) → s < h .states → words part ≡ rowTargets f s
+    → stepsOf h s part ≡ graphIn f h .succs s
+unfolding stepsOf
+steps-succs f h s part l e = e ∙ sym (succs-row f h s l)
 
 -- the mark of a state is its bit
-pub marked-bit : (f : List ℕ) (s : ℕ) → s < states f → graphOf f .marked s ≡ markBit f s
-marked-bit f s l = rw (lt-ltb s (states f) l)
+pub marked-bit : (f : List ℕ) (h : Header) (s : ℕ) → s < h .states → graphIn f h .marked s ≡ markBit f s
+marked-bit f h s l = rw (lt-ltb s (h .states) l)
 
--- a number from N on has no successors
-pub succs-none : (f : List ℕ) (s : ℕ) → states f ≤ s → graphOf f .succs s ≡ []
-succs-none f s l = rw (le-ltb s (states f) l)
+-- a number from the number of states on has no successors
+pub succs-none : (f : List ℕ) (h : Header) (s : ℕ) → h .states ≤ s → graphIn f h .succs s ≡ []
+succs-none f h s l = rw (le-ltb s (h .states) l)
 
 -- the successors of every number ascend strictly
 succs-ascend : {f : List ℕ} → Facts f → (s : ℕ) → T (ascendingb (graphOf f .succs s))
@@ -100,10 +108,14 @@ accepted-well-formed f a =
     record {
       start-state = F .initial-below;
       edge-states = λ s t h.
-          let e : (s < states f) × T (memb t (rowTargets f s)) = edge-from-state f s t h in
+          let e : (s < states f) × T (memb t (rowTargets f s)) = edge-from-state f (headerOf f) s t h in
           (e .0, row-targets-below F s t (e .0) (e .1));
       ascending = succs-ascend F;
     }
+
+-- the graph read by a valid header is the file's own
+pub valid-graph : {f : List ℕ} {h : Header} → Valid f h → graphIn f h ≡ graphOf f
+valid-graph {f} v = ap (graphIn f) (v .header)
 
 -- the numbers of a valid header
 pub record Sizes (f : List ℕ) (h : Header) : Type 0 where
@@ -128,9 +140,9 @@ valid-sizes {f} {h} v =
 pub valid-facts : {f : List ℕ} {h : Header} → Valid f h → Facts f
 valid-facts {f} v = accepted-facts f (v .accepted)
 
--- a valid file's graph is well formed
-pub valid-well-formed : {f : List ℕ} {h : Header} → Valid f h → WellFormed (graphOf f)
-valid-well-formed {f} v = accepted-well-formed f (v .accepted)
+-- the graph read by a valid header is well formed
+pub valid-well-formed : {f : List ℕ} {h : Header} → Valid f h → WellFormed (graphIn f h)
+valid-well-formed {f} v = subst WellFormed (sym (valid-graph v)) (accepted-well-formed f (v .accepted))
 
 -- a range has as many numbers as asked
 upFrom-length : (a n : ℕ) → length (upFrom a n) ≡ n

@@ -5,14 +5,13 @@ use mathlib.Core.Bool.{Bool, true, false, _||_, not}
 use mathlib.Core.List.{List, [], _∷_}
 use mathlib.Core.Option.{Option, none, Option·some-ne-none}
 use native.Mathlib.Omega.{arith}
-use lib.ListN.{drop}
 use lib.Dec.{T, eqb, not-T, T-not}
 use Rattle.lasso.specs.Lists.{anyb, upFrom, below, someIf}
 use Rattle.lasso.proofs.Tests.{some-anyb, range-upFrom, eq→eqb}
-use Rattle.model.specs.Rules.{Reason, firstBroken, rules}
+use Rattle.model.specs.Rules.{Reason, firstBroken, rulesWith}
 use Rattle.model.specs.declared.Header.{Header}
 use Rattle.model.specs.declared.Checked.the-variants.{Refused, Accept}
-use Rattle.model.specs.Values.{headerOf, answerOf, checkOf}
+use Rattle.model.specs.Values.{headerOf, answerOf, checkWith}
 
 -- no reason of a table holds
 abbrev pub Clear : List Reason → Type 0
@@ -31,24 +30,22 @@ none-clear (r ∷ rs) e =
     let p : T (not (r .holds)) × (firstBroken rs ≡ none) = skipped (r .holds) (r .number) (firstBroken rs) e in
     (p .0, none-clear rs (p .1))
 
--- the first k rules are kept: those behind them decide
-abbrev pub KeptTo : ℕ → List ℕ → Type 0
-KeptTo k f = firstBroken (rules f) ≡ firstBroken (drop k (rules f))
-
 -- a reason that does not hold leaves the answer to the reasons behind it
 pub passed : (o : Option ℕ) (b : Bool) (n : ℕ) (rest : Option ℕ) → o ≡ someIf b n rest → b ≡ false → o ≡ rest
 passed o b n rest e q = e ∙ ap (λ (x : Bool). someIf x n rest) q
 
 -- the first reason that holds refuses the file
 pub refused :
-    (f : List ℕ) (b : Bool) (n : ℕ) (rest : Option ℕ) → firstBroken (rules f) ≡ someIf b n rest → b ≡ true
-    → Refused n ≡ checkOf f
-refused f b n rest e q =
+    (total : ℕ) (f : List ℕ) (b : Bool) (n : ℕ) (rest : Option ℕ) → firstBroken (rulesWith total f) ≡ someIf b n rest
+    → b ≡ true → Refused n ≡ checkWith total f
+refused total f b n rest e q =
     sym (ap (λ (o : Option ℕ). answerOf o f) (e ∙ ap (λ (x : Bool). someIf x n rest) q))
 
 -- a file for which no reason holds is accepted
-pub accepted : (f : List ℕ) (h : Header) → h ≡ headerOf f → firstBroken (rules f) ≡ none → Accept h ≡ checkOf f
-accepted f h e q = ap Accept e ∙ sym (ap (λ (o : Option ℕ). answerOf o f) q)
+pub accepted :
+    (total : ℕ) (f : List ℕ) (h : Header) → h ≡ headerOf f → firstBroken (rulesWith total f) ≡ none
+    → Accept h ≡ checkWith total f
+accepted total f h e q = ap Accept e ∙ sym (ap (λ (o : Option ℕ). answerOf o f) q)
 
 -- the negation of a test that is false passes
 pub false-not : (b : Bool) → b ≡ false → T (not b)

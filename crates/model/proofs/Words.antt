@@ -12,6 +12,8 @@ use borrow.Author.Tests.{lt-ltb, le-ltb}
 use Rattle.lasso.specs.Graph.{ascendingb}
 use Rattle.lasso.specs.Lists.{upFrom}
 use Rattle.model.specs.Bytes.{word, words}
+use Rattle.model.specs.declared.Header.{Header}
+use Rattle.model.specs.Model.{stepsOf}
 use Rattle.model.specs.Layout.{states, edgesAt, rowEntry, rowTargets}
 
 -- a part holds half as many numbers as bytes
@@ -28,6 +30,18 @@ words-at (a ∷ b ∷ r) zero h = refl
 words-at (a ∷ b ∷ r) (suc k) h =
     let e : 2 * suc k ≡ suc (suc (2 * k)) = omega arith in
     rw (e, add-one) (words-at r k (omega arith) ∙ rw add-one)
+
+-- the steps of a state are half as many as the bytes of its row's part
+pub steps-length : (h : Header) (s : ℕ) (part : List ℕ) → length (stepsOf h s part) ≡ length part / 2
+unfolding stepsOf
+steps-length h s part = words-length part
+
+-- the step at a place is the number at twice that byte place
+pub steps-at :
+    (h : Header) (s : ℕ) (part : List ℕ) (k : ℕ) → k < length (stepsOf h s part)
+    → getD (stepsOf h s part) k 0 ≡ word part (2 * k)
+unfolding stepsOf
+steps-at h s part k l = words-at part k l
 
 -- from a place on stand the bytes at that place and at the next, then the rest
 two-more :

@@ -1,8 +1,9 @@
 -- The model file: a header of 24 bytes, the row table, the edge table, the marks.
-use Prim.Native.Nat.{ℕ, _+_, _*_, _-_, _/_, _%_}
+use Prim.Native.Nat.{ℕ, _+_, _*_, _-_, _/_, _%_, _≤_}
+use mathlib.Core.Path.{_≡_}
 use mathlib.Core.Bool.{Bool}
 use mathlib.Core.List.{List, map}
-use lib.ListN.{getD}
+use lib.ListN.{length, getD}
 use Rattle.lasso.specs.Lists.{upFrom}
 use Rattle.model.specs.Bytes.{word, bitb}
 
@@ -57,3 +58,11 @@ rowTargets f s = map (target f) (upFrom (rowEntry f s) (rowEntry f (s + 1) - row
 -- the mark of s: bit s mod 8 of byte s div 8 of the marks
 abbrev pub markBit : List ℕ → ℕ → Bool
 markBit f s = bitb (getD f (marksAt (states f) (edgeCount f) + s / 8) 0) (s % 8)
+
+-- n and m are the file's numbers of states and edges, within the limits, and the file has room for their tables
+pub record HasTables (f : List ℕ) (n m : ℕ) : Type 0 where
+  pub states-are : n ≡ states f
+  pub edges-are : m ≡ edgeCount f
+  pub states-limit : n ≤ 4096
+  pub edges-limit : m ≤ 8192
+  pub room : totalOf n m ≤ length f

@@ -1,22 +1,34 @@
--- The graph that an accepted file holds.
+-- The graph that an accepted file holds, read by its header, and the successors that a row's part stands for.
 use Prim.Native.Nat.{ℕ}
 use mathlib.Core.Bool.{Bool, true, false, _&&_}
 use mathlib.Core.List.{List, []}
 use lib.Dec.{ltb}
 use Rattle.lasso.specs.Graph.{Graph}
-use Rattle.model.specs.Layout.{states, initial, rowTargets, markBit}
+use Rattle.model.specs.declared.Header.{Header}
+use Rattle.model.specs.Bytes.{words}
+use Rattle.model.specs.Layout.{rowTargets, markBit}
+use Rattle.model.specs.Values.{headerOf}
 
 -- the list if the test was passed, else the empty one
 abbrev pub listIf : Bool → List ℕ → List ℕ
 listIf true xs = xs
 listIf false xs = []
 
--- the model of a file: its states, initial state, edges by rows, and marks; no number from N on has an edge or a mark
-abbrev pub graphOf : List ℕ → Graph
-graphOf f =
+-- the model of a file, read by a header: the header's states and initial state, the file's edges by rows and its marks;
+-- no number from the number of states on has an edge or a mark
+abbrev pub graphIn : List ℕ → Header → Graph
+graphIn f h =
     record {
-      size = states f;
-      start = initial f;
-      succs = λ s. listIf (ltb s (states f)) (rowTargets f s);
-      marked = λ s. ltb s (states f) && markBit f s;
+      size = h .states;
+      start = h .start;
+      succs = λ s. listIf (ltb s (h .states)) (rowTargets f s);
+      marked = λ s. ltb s (h .states) && markBit f s;
     }
+
+-- the model of a file, read by its own header
+abbrev pub graphOf : List ℕ → Graph
+graphOf f = graphIn f (headerOf f)
+
+-- the successors of state s, from the part of the file that holds its row's targets
+unfoldable pub stepsOf : Header → ℕ → List ℕ → List ℕ
+stepsOf h s part = words part

@@ -4,7 +4,7 @@ use mathlib.Core.Path.{_≡_}
 use mathlib.Core.Bool.{Bool, _||_, not}
 use mathlib.Core.List.{List, [], _∷_}
 use mathlib.Core.Option.{Option, none}
-use lib.ListN.{length}
+use lib.ListN.{length, drop}
 use lib.Dec.{eqb, ltb}
 use Rattle.lasso.specs.Lists.{anyb, upFrom, below, someIf}
 use Rattle.lasso.specs.Graph.{ascendingb}
@@ -22,8 +22,8 @@ firstBroken [] = none
 firstBroken (r ∷ rs) = someIf (r .holds) (r .number) (firstBroken rs)
 
 -- 1. the file has fewer than 24 bytes
-abbrev pub tooShort : List ℕ → Bool
-tooShort f = ltb (length f) 24
+abbrev pub shortFile : List ℕ → Bool
+shortFile f = ltb (length f) 24
 
 -- 2. N is 0 or above 4,096
 abbrev pub badStates : List ℕ → Bool
@@ -41,13 +41,13 @@ badInitial f = not (ltb (initial f) (states f))
 abbrev pub badReserved : List ℕ → Bool
 badReserved f = not (eqb (reserved f) 0)
 
--- 6. an offset or the total length differs from the one that N and M give
-abbrev pub badOffsets : List ℕ → Bool
-badOffsets f =
+-- 6. an offset differs from the one that N and M give, or the total length from the one of this kind of file
+abbrev pub badOffsets : ℕ → List ℕ → Bool
+badOffsets total f =
     not (eqb (long f 8) rowsAt) ||
     (not (eqb (long f 12) (edgesAt (states f))) ||
     (not (eqb (long f 16) (marksAt (states f) (edgeCount f))) ||
-    not (eqb (long f 20) (totalOf (states f) (edgeCount f)))))
+    not (eqb (long f 20) total)))
 
 -- 7. the file's own length differs from the total length
 abbrev pub badLength : List ℕ → Bool
@@ -72,20 +72,28 @@ badOrder f = anyb (λ s. not (ascendingb (rowTargets f s))) (below (states f))
 abbrev pub badSpare : List ℕ → Bool
 badSpare f = anyb (markBit f) (upFrom (states f) (8 * markBytes (states f) - states f))
 
--- the table of reasons that every call applies to its file
-abbrev pub rules : List ℕ → List Reason
-rules f =
-    record { number = 1; holds = tooShort f } ∷
+-- the table of reasons for a kind of file, by the total length that this kind is to have
+abbrev pub rulesWith : ℕ → List ℕ → List Reason
+rulesWith total f =
+    record { number = 1; holds = shortFile f } ∷
     record { number = 2; holds = badStates f } ∷
     record { number = 3; holds = badEdges f } ∷
     record { number = 4; holds = badInitial f } ∷
     record { number = 5; holds = badReserved f } ∷
-    record { number = 6; holds = badOffsets f } ∷
+    record { number = 6; holds = badOffsets total f } ∷
     record { number = 7; holds = badLength f } ∷
     record { number = 8; holds = badRows f } ∷
     record { number = 9; holds = badTargets f } ∷
     record { number = 10; holds = badOrder f } ∷
     record { number = 11; holds = badSpare f } ∷ []
+
+-- the first k rules of a kind of file are kept: those behind them decide
+abbrev pub KeptTo : ℕ → ℕ → List ℕ → Type 0
+KeptTo k total f = firstBroken (rulesWith total f) ≡ firstBroken (drop k (rulesWith total f))
+
+-- the table of reasons that every call applies to its file: the total length is the one that N and M give
+abbrev pub rules : List ℕ → List Reason
+rules f = rulesWith (totalOf (states f) (edgeCount f)) f
 
 -- an accepted file: one that breaks none of 1 to 11
 abbrev pub Accepted : List ℕ → Type 0

@@ -6,8 +6,8 @@ use mathlib.Core.Option.{Option, some, none}
 use Rattle.model.specs.declared.Header.{Header}
 use Rattle.model.specs.declared.Checked.{Checked}
 use Rattle.model.specs.declared.Checked.the-variants.{Refused, Accept}
-use Rattle.model.specs.Layout.{states, edgeCount, initial}
-use Rattle.model.specs.Rules.{firstBroken, rules, Accepted}
+use Rattle.model.specs.Layout.{states, edgeCount, initial, totalOf}
+use Rattle.model.specs.Rules.{firstBroken, rulesWith, Accepted}
 
 -- the header fields that the code keeps
 abbrev pub headerOf : List ℕ → Header
@@ -18,9 +18,13 @@ abbrev pub answerOf : Option ℕ → List ℕ → Checked
 answerOf none f = Accept (headerOf f)
 answerOf (some n) f = Refused n
 
--- the answer of the check of a file
+-- the answer of the check of a file of a kind, by the total length that this kind is to have
+abbrev pub checkWith : ℕ → List ℕ → Checked
+checkWith total f = answerOf (firstBroken (rulesWith total f)) f
+
+-- the answer of the check of a model file
 abbrev pub checkOf : List ℕ → Checked
-checkOf f = answerOf (firstBroken (rules f)) f
+checkOf f = checkWith (totalOf (states f) (edgeCount f)) f
 
 -- what the layers above ask of a file and a header: the file is accepted, and the header is its own
 pub record Valid (f : List ℕ) (h : Header) : Type 0 where

@@ -2,18 +2,22 @@
 // The leaves speak of the graph that the file holds, never of its bytes.
 ghost use mathlib.Core.Path.{_≡_};
 ghost use Prim.Native.Nat.{_≤_, _<_};
-ghost use lib.ListN.{length, getD, drop};
-ghost use Rattle.model.specs.Bytes.{words};
-ghost use Rattle.model.specs.Model.{graphOf};
-ghost use Rattle.model.specs.Rules.{firstBroken, rules};
-ghost use Rattle.model.specs.Values.{Valid, headerOf, checkOf};
+ghost use lib.ListN.{length, getD};
+ghost use Rattle.lasso.specs.Graph.{edgeb};
+ghost use Rattle.model.specs.Model.{graphIn, stepsOf};
+ghost use Rattle.model.specs.Layout.{totalOf};
+ghost use Rattle.model.specs.Rules.{KeptTo};
+ghost use Rattle.model.specs.Values.{Valid, headerOf, checkWith, checkOf};
 
 mod bytes;
+mod layout;
 mod tables;
 
 use bytes::bit;
 use bytes::long;
 use bytes::word;
+use layout::marks_at;
+use layout::total_of;
 use tables::offsets_broken;
 use tables::order_broken;
 use tables::row;
@@ -64,20 +68,21 @@ pub fn check(file: &[u8]) -> Checked
         edges,
         start,
     };
-    check_tables(file, header)
+    check_tables(file, header, total_of(states, edges))
 }
 
-// Applies the rules 6 to 11 to a file that keeps the rules 1 to 5.
-fn check_tables(file: &[u8], h: Header) -> Checked
+// Applies the rules 6 to 11 to a file that keeps the rules 1 to 5, by the total length that its kind is to have.
+fn check_tables(file: &[u8], h: Header, total: usize) -> Checked
     requires { ⌜ 24 ≤ length (now file) ⌝ }
     requires { ⌜ h ≡ headerOf (now file) ⌝ }
     requires { ⌜ (h .states ≤ 4096) × (h .edges ≤ 8192) ⌝ }
-    requires { ⌜ firstBroken (rules (now file)) ≡ firstBroken (drop 5 (rules (now file))) ⌝ }
-    ensures { λ r. ⌜ r ≡ checkOf (now (file .entry)) ⌝ }
+    requires { ⌜ totalOf (h .states) (h .edges) ≤ total ⌝ }
+    requires { ⌜ KeptTo 5 total (now file) ⌝ }
+    ensures { λ r. ⌜ r ≡ checkWith total (now (file .entry)) ⌝ }
 {
     let n = h.states;
     let m = h.edges;
-    if offsets_broken(file, n, m) {
+    if offsets_broken(file, n, m, total) {
         return Checked::Refused(6);
     }
     if file.len() != long(file, 20) {
@@ -102,34 +107,52 @@ fn check_tables(file: &[u8], h: Header) -> Checked
 pub fn row_part(file: &[u8], h: Header, s: usize) -> &[u8]
     requires { ⌜ Valid (now file) h ⌝ }
     requires { ⌜ s < h .states ⌝ }
-    ensures { λ r. ⌜ words (now r) ≡ graphOf (now (file .entry)) .succs s ⌝ }
+    ensures { λ r. ⌜ stepsOf h s (now r) ≡ graphIn (now (file .entry)) h .succs s ⌝ }
 {
     let states = h.states;
     row(file, states, s)
 }
 
-// The number of successors that a row's part holds.
-pub fn degree(part: &[u8]) -> usize
-    ensures { λ r. ⌜ r ≡ length (words (now (part .entry))) ⌝ }
+// The number of successors of state s, by its row's part.
+pub fn degree(part: &[u8], h: Header, s: usize) -> usize
+    ensures { λ r. ⌜ r ≡ length (stepsOf h s (now (part .entry))) ⌝ }
 {
     part.len() / 2
 }
 
-// The successor at place k of a row's part.
-pub fn successor(part: &[u8], k: usize) -> usize
-    requires { ⌜ k < length (words (now part)) ⌝ }
-    ensures { λ r. ⌜ r ≡ getD (words (now (part .entry))) k 0 ⌝ }
+// The successor of state s at place k, by its row's part.
+pub fn successor(part: &[u8], h: Header, s: usize, k: usize) -> usize
+    requires { ⌜ k < length (stepsOf h s (now part)) ⌝ }
+    ensures { λ r. ⌜ r ≡ getD (stepsOf h s (now (part .entry))) k 0 ⌝ }
 {
     word(part, 2 * k)
+}
+
+// There is an edge from s to t.
+pub fn has_edge(file: &[u8], h: Header, s: usize, t: usize) -> bool
+    requires { ⌜ Valid (now file) h ⌝ }
+    requires { ⌜ s < h .states ⌝ }
+    ensures { λ r. ⌜ r ≡ edgeb (graphIn (now (file .entry)) h) s t ⌝ }
+{
+    let part = row_part(file, h, s);
+    let d = degree(part, h, s);
+    let mut k = 0;
+    while k < d {
+        if successor(part, h, s, k) == t {
+            return true;
+        }
+        k += 1;
+    }
+    false
 }
 
 // State s is marked.
 pub fn is_marked(file: &[u8], h: Header, s: usize) -> bool
     requires { ⌜ Valid (now file) h ⌝ }
     requires { ⌜ s < h .states ⌝ }
-    ensures { λ r. ⌜ r ≡ graphOf (now (file .entry)) .marked s ⌝ }
+    ensures { λ r. ⌜ r ≡ graphIn (now (file .entry)) h .marked s ⌝ }
 {
     let states = h.states;
     let edges = h.edges;
-    bit(file, 24 + 2 * (states + 1) + 2 * edges, s)
+    bit(file, marks_at(states, edges), s)
 }

@@ -1,42 +1,46 @@
-// The rules 6 and 8 to 11, each as one test of a file whose numbers of states and edges were read, and the part of a row.
+// The rules 6 and 8 to 11, each as one test of a file whose numbers of states and edges were read, and the part of a
+// row.
 ghost use mathlib.Core.Path.{_≡_};
 ghost use mathlib.Core.Bool.{false};
 ghost use Prim.Native.Nat.{_+_, _*_, _≤_, _<_};
 ghost use lib.ListN.{length};
 ghost use Rattle.lasso.specs.Graph.{ascendingb};
 ghost use Rattle.model.specs.Bytes.{words};
-ghost use Rattle.model.specs.Layout.{states, edgeCount, edgesAt, totalOf, rowEntry, rowTargets};
+ghost use Rattle.model.specs.Layout.{states, edgeCount, edgesAt, rowEntry, rowTargets, HasTables};
 ghost use Rattle.model.specs.Rules.{badOffsets, badRows, badTargets, badOrder, badSpare};
 use crate::bytes::bit;
 use crate::bytes::entry;
 use crate::bytes::long;
 use crate::bytes::word;
+use crate::layout::edges_at;
+use crate::layout::mark_bytes;
+use crate::layout::marks_at;
+use crate::layout::row_entry;
 
 // The part of the file that holds the targets of row s, in a file of n states whose entries s and s + 1 are in order
 // and within the edge table.
 pub fn row(file: &[u8], n: usize, s: usize) -> &[u8]
-    requires { ⌜ n ≡ states (now file) ⌝ }
+    requires { ⌜ (n ≡ states (now file)) × (n ≤ 4096) ⌝ }
     requires { ⌜ s < n ⌝ }
     requires { ⌜ rowEntry (now file) s ≤ rowEntry (now file) (s + 1) ⌝ }
     requires { ⌜ edgesAt n + 2 * rowEntry (now file) (s + 1) ≤ length (now file) ⌝ }
     ensures { λ r. ⌜ words (now r) ≡ rowTargets (now (file .entry)) s ⌝ }
 {
-    let base = 24 + 2 * (n + 1);
-    let from = base + 2 * entry(file, 24, s);
-    let to = base + 2 * entry(file, 24, s + 1);
+    let base = edges_at(n);
+    let from = base + 2 * row_entry(file, s);
+    let to = base + 2 * row_entry(file, s + 1);
     &file[from..to]
 }
 
-// Rule 6: an offset or the total length differs from the one that n states and m edges give.
-pub fn offsets_broken(file: &[u8], n: usize, m: usize) -> bool
+// Rule 6: an offset differs from the one that n states and m edges give, or the total length from the one given.
+pub fn offsets_broken(file: &[u8], n: usize, m: usize, total: usize) -> bool
     requires { ⌜ 24 ≤ length (now file) ⌝ }
     requires { ⌜ (n ≡ states (now file)) × (m ≡ edgeCount (now file)) ⌝ }
     requires { ⌜ (n ≤ 4096) × (m ≤ 8192) ⌝ }
-    ensures { λ r. ⌜ r ≡ badOffsets (now (file .entry)) ⌝ }
+    ensures { λ r. ⌜ r ≡ badOffsets total (now (file .entry)) ⌝ }
 {
-    let edges = 24 + 2 * (n + 1);
-    let marks = edges + 2 * m;
-    let total = marks + (n + 7) / 8;
+    let edges = edges_at(n);
+    let marks = marks_at(n, m);
     if long(file, 8) != 24 {
         return true;
     }
@@ -51,30 +55,28 @@ pub fn offsets_broken(file: &[u8], n: usize, m: usize) -> bool
 
 // Rule 8: the first row entry is not 0, an entry is less than the one before, or the last is not m.
 pub fn rows_broken(file: &[u8], n: usize, m: usize) -> bool
-    requires { ⌜ (n ≡ states (now file)) × (m ≡ edgeCount (now file)) ⌝ }
-    requires { ⌜ length (now file) ≡ totalOf n m ⌝ }
+    requires { ⌜ HasTables (now file) n m ⌝ }
     ensures { λ r. ⌜ r ≡ badRows (now (file .entry)) ⌝ }
 {
-    if entry(file, 24, 0) != 0 {
+    if row_entry(file, 0) != 0 {
         return true;
     }
     let mut s = 0;
     while s < n {
-        if entry(file, 24, s + 1) < entry(file, 24, s) {
+        if row_entry(file, s + 1) < row_entry(file, s) {
             return true;
         }
         s += 1;
     }
-    entry(file, 24, n) != m
+    row_entry(file, n) != m
 }
 
 // Rule 9: a target is not below n.
 pub fn targets_broken(file: &[u8], n: usize, m: usize) -> bool
-    requires { ⌜ (n ≡ states (now file)) × (m ≡ edgeCount (now file)) ⌝ }
-    requires { ⌜ length (now file) ≡ totalOf n m ⌝ }
+    requires { ⌜ HasTables (now file) n m ⌝ }
     ensures { λ r. ⌜ r ≡ badTargets (now (file .entry)) ⌝ }
 {
-    let base = 24 + 2 * (n + 1);
+    let base = edges_at(n);
     let mut e = 0;
     while e < m {
         if n <= entry(file, base, e) {
@@ -102,8 +104,7 @@ pub fn ascends(part: &[u8]) -> bool
 
 // Rule 10: the targets in some row are not strictly ascending.
 pub fn order_broken(file: &[u8], n: usize, m: usize) -> bool
-    requires { ⌜ (n ≡ states (now file)) × (m ≡ edgeCount (now file)) ⌝ }
-    requires { ⌜ length (now file) ≡ totalOf n m ⌝ }
+    requires { ⌜ HasTables (now file) n m ⌝ }
     requires { ⌜ badRows (now file) ≡ false ⌝ }
     ensures { λ r. ⌜ r ≡ badOrder (now (file .entry)) ⌝ }
 {
@@ -119,12 +120,11 @@ pub fn order_broken(file: &[u8], n: usize, m: usize) -> bool
 
 // Rule 11: a spare bit of the marks is set.
 pub fn spare_set(file: &[u8], n: usize, m: usize) -> bool
-    requires { ⌜ (n ≡ states (now file)) × (m ≡ edgeCount (now file)) ⌝ }
-    requires { ⌜ length (now file) ≡ totalOf n m ⌝ }
+    requires { ⌜ HasTables (now file) n m ⌝ }
     ensures { λ r. ⌜ r ≡ badSpare (now (file .entry)) ⌝ }
 {
-    let marks = 24 + 2 * (n + 1) + 2 * m;
-    let end = 8 * ((n + 7) / 8);
+    let marks = marks_at(n, m);
+    let end = 8 * mark_bytes(n);
     let mut s = n;
     while s < end {
         if bit(file, marks, s) {

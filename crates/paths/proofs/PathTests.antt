@@ -1,30 +1,12 @@
--- Tests of a list that a loop makes place by place: whether a number is an entry, and whether the list is a path. What is
--- left of the list decides.
+-- The test of a list that a loop makes place by place: whether the list is a path. What is left of the list decides.
 use Prim.Native.Nat.{ℕ, zero, suc, _+_, _≤_, _<_}
-use mathlib.Core.Path.{_≡_, refl, sym, _∙_}
+use mathlib.Core.Path.{_≡_, refl, _∙_}
 use mathlib.Core.Bool.{true, false, _&&_}
 use mathlib.Core.List.{List, [], _∷_}
-use native.Mathlib.Numerals.{add-one}
 use native.Mathlib.Omega.{arith}
-use borrow.Author.Tests.{eq-eqb, ne-eqb}
-use lib.ListN.{length, getD, drop, drop-of-length-le}
-use lib.Seq.{drop-cons}
+use lib.ListN.{length, getD, drop}
 use lib.Dec.{T}
-use Rattle.lasso.specs.Lists.{memb}
 use Rattle.lasso.specs.Graph.{Graph, WellFormed, edgeb, pathb}
-
-module _ (t : ℕ) (ws : List ℕ) (k : ℕ) where
-  -- the entry at a place settles the search from there on
-  pub memb-here : k < length ws → getD ws k 0 ≡ t → memb t (drop k ws) ≡ true
-  memb-here h e = rw (drop-cons ws k 0 h, eq-eqb t (getD ws k 0) (sym e))
-
-  -- another entry is left behind
-  pub memb-past : k < length ws → (getD ws k 0 ≡ t → ⊥) → memb t (drop k ws) ≡ memb t (drop (k + 1) ws)
-  memb-past h d = rw (add-one k, drop-cons ws k 0 h, ne-eqb t (getD ws k 0) (λ e. d (sym e)))
-
-  -- behind the last place nothing is found
-  pub memb-end : length ws ≤ k → memb t (drop k ws) ≡ false
-  memb-end h = rw (drop-of-length-le ws {i = k} h)
 
 -- the path from place j on: an edge to the next entry, and the path from there on
 path-step :

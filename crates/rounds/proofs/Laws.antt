@@ -13,9 +13,10 @@ use Rattle.lasso.proofs.Least.{IsLeast, isLeast-le, isLeast-has}
 use Rattle.lasso.proofs.Lasso.{Knot, lasso→knot, knot→lasso, through-length}
 use Rattle.lasso.proofs.Cut.{lasso-accepting-through}
 use Rattle.lasso.proofs.RoundLaws.{round-knot-least}
-use Rattle.spread.specs.Regions.{entryOf, valueOf}
-use Rattle.spread.specs.Hit.{under, hitLength}
-use Rattle.spread.proofs.UnderLaws.{under-lt, under-ge}
+use Rattle.frontier.specs.Regions.{entryOf, valueOf}
+use Rattle.lasso.specs.Limit.{under}
+use Rattle.spread.specs.Hit.{hitLength}
+use Rattle.lasso.proofs.UnderLaws.{under-lt, under-ge}
 use Rattle.spread.proofs.HitLaws.{hitLength-cong, hitLength-under, hitLength-least}
 
 -- an entry stands for the value that it was made for

@@ -16,15 +16,17 @@ use Rattle.lasso.specs.Rounds.{candidateb, sum, roundLength}
 use Rattle.lasso.proofs.Tests.{lt-or-ge}
 use Rattle.lasso.proofs.Distance.{dist-below}
 use Rattle.model.specs.declared.Header.{Header}
-use Rattle.model.specs.Model.{graphOf}
+use Rattle.model.specs.Model.{graphIn}
 use Rattle.model.proofs.Laws.{valid-sizes}
 use Rattle.table.specs.Changes.{SameOutside, Copied}
 use Rattle.table.proofs.Laws.{sameOutside-refl, sameOutside-widen, sameOutside-trans, sameOutside-set}
-use Rattle.spread.specs.Regions.{entry, entryOf, valueOf}
-use Rattle.spread.specs.Hit.{under, hitLength}
-use Rattle.spread.specs.Through.{DistancesWithin}
-use Rattle.spread.specs.Promises.{FoundFrom, ExhaustedFrom, sources}
-use Rattle.spread.proofs.UnderLaws.{under-all, under-some}
+use Rattle.frontier.specs.Regions.{entry, entryOf, valueOf}
+use Rattle.lasso.specs.Limit.{under}
+use Rattle.spread.specs.Hit.{hitLength}
+use Rattle.walks.specs.Through.{DistancesWithin}
+use Rattle.spread.specs.Promises.{FoundFrom, ExhaustedFrom}
+use Rattle.frontier.specs.Buckets.{sources}
+use Rattle.lasso.proofs.UnderLaws.{under-all, under-some}
 use Rattle.rounds.specs.Promises.{StartDistances, StartDistancesPut, RoundsReady, SumsFit, SumsPut}
 use Rattle.rounds.proofs.Laws.{valueOf-entryOf, entryOf-le, under-sum, round-found}
 
@@ -101,16 +103,16 @@ ready-kept {f} {h} {w} {w'} ready same =
       room = omega (arith, ready .room, same .same-length);
       start-distances = record {
         distances = λ t l.
-            same .same-before (0 * graphOf f .size + t) (omega arith) ∙ ready .start-distances .distances t l;
+            same .same-before (0 * graphIn f h .size + t) (omega arith) ∙ ready .start-distances .distances t l;
       };
     }
 
 -- after the distances from r are found, region 0 holds those from the start
 ready-start : {f : List ℕ} {h : Header} {w w₁ : List ℕ} {r limit : ℕ} → RoundsReady f h w
-    → DistancesWithin (graphOf f) r limit w w₁ → (s : ℕ) → s < graphOf f .size
-    → entry 0 (graphOf f .size) w₁ s ≡ entryOf (dist (graphOf f) (graphOf f .start) s)
+    → DistancesWithin (graphIn f h) r limit w w₁ → (s : ℕ) → s < graphIn f h .size
+    → entry 0 (graphIn f h .size) w₁ s ≡ entryOf (dist (graphIn f h) (graphIn f h .start) s)
 ready-start {f} ready found s l =
-    found .outside .same-before (0 * graphOf f .size + s) (omega arith) ∙ ready .start-distances .distances s l
+    found .outside .same-before (0 * graphIn f h .size + s) (omega arith) ∙ ready .start-distances .distances s l
 
 -- the sums for the first s states stand in region 2, and all other entries are as before
 pub record Added (n s : ℕ) (w w' : List ℕ) : Type 0 where
@@ -158,22 +160,22 @@ added-more {n} {s} {x} {y} {v} {w} {w'} l room a ex ey e =
 
 -- a distance from the start and one from r, in regions 0 and 2, are small enough to be added
 pub round-fits : {f : List ℕ} {h : Header} {w w₁ : List ℕ} {r limit : ℕ} → RoundsReady f h w
-    → DistancesWithin (graphOf f) r limit w w₁ → SumsFit (h .states) w₁
+    → DistancesWithin (graphIn f h) r limit w w₁ → SumsFit (h .states) w₁
 round-fits {f} {h} {w} {w₁} {r} {limit} ready found s l =
-    let g = graphOf f in
+    let g = graphIn f h in
     let sizes = valid-sizes (ready .valid) in
     let from-start = ready-start ready found s (omega arith) in
     let from-r = found .distances s (omega arith) in
     let low = entryOf-le (g .size) (dist g (g .start) s) (λ v e. dist-below g (g .start) s v e) in
     let high = entryOf-le (g .size) (under (suc limit) (dist g r s)) (λ v e. dist-below g r s v (under-some (suc limit) (dist g r s) v e .0)) in
-    rw (sizes .states-are) (omega arith)
+    omega arith
 
 -- the start levels of the search are the sums of both distances below the limit
 round-sources : {f : List ℕ} {h : Header} {w w₁ : List ℕ} {r limit : ℕ} (w₂ : List ℕ) → RoundsReady f h w
-    → DistancesWithin (graphOf f) r limit w w₁ → SumsPut (graphOf f .size) (graphOf f .size) w₁ w₂ → (s : ℕ) → s < graphOf f .size
-    → sources (graphOf f .size) limit w₂ s ≡ under limit (sum (dist (graphOf f) (graphOf f .start) s) (dist (graphOf f) r s))
+    → DistancesWithin (graphIn f h) r limit w w₁ → SumsPut (graphIn f h .size) (graphIn f h .size) w₁ w₂ → (s : ℕ) → s < graphIn f h .size
+    → sources (graphIn f h .size) limit w₂ s ≡ under limit (sum (dist (graphIn f h) (graphIn f h .start) s) (dist (graphIn f h) r s))
 round-sources {f} {r = r} {limit} w₂ ready found sums s l =
-    let g = graphOf f in
+    let g = graphIn f h in
     let a = dist g (g .start) s in
     let b = under (suc limit) (dist g r s) in
     let both = ap₂ (λ (x y : ℕ). sum (valueOf x) (valueOf y)) (ready-start ready found s l) (found .distances s l) in
@@ -184,11 +186,11 @@ round-sources {f} {r = r} {limit} w₂ ready found sums s l =
 
 -- the search from these start levels finds the round's length
 round-length : {f : List ℕ} {h : Header} {w w₁ : List ℕ} {r limit : ℕ} (w₂ : List ℕ) → RoundsReady f h w
-    → DistancesWithin (graphOf f) r limit w w₁ → SumsPut (h .states) (h .states) w₁ w₂
-    → under (suc limit) (roundLength (graphOf f) r)
-    ≡ under (suc limit) (hitLength (graphOf f) (sources (graphOf f .size) limit w₂) r)
+    → DistancesWithin (graphIn f h) r limit w w₁ → SumsPut (h .states) (h .states) w₁ w₂
+    → under (suc limit) (roundLength (graphIn f h) r)
+    ≡ under (suc limit) (hitLength (graphIn f h) (sources (graphIn f h .size) limit w₂) r)
 round-length {f} {r = r} {limit} w₂ ready found sums =
-    sym (round-found (graphOf f) limit r (sources (graphOf f .size) limit w₂)
+    sym (round-found (graphIn f h) limit r (sources (graphIn f h .size) limit w₂)
     (round-sources w₂ ready found (rw (valid-sizes (ready .valid) .states-are) at sums)))
 
 -- a length that the search finds is at most the limit
@@ -199,22 +201,22 @@ found-le {g} {source} {limit} {target} {l} searched =
 
 -- the length that the search finds is the round's
 pub round-some : {f : List ℕ} {h : Header} {w w₁ w₂ w₃ : List ℕ} {r limit l : ℕ} → RoundsReady f h w
-    → DistancesWithin (graphOf f) r limit w w₁ → SumsPut (h .states) (h .states) w₁ w₂
-    → FoundFrom (graphOf f) (sources (graphOf f .size) limit w₂) limit r w₂ w₃ l
-    → under (suc limit) (roundLength (graphOf f) r) ≡ some l
+    → DistancesWithin (graphIn f h) r limit w w₁ → SumsPut (h .states) (h .states) w₁ w₂
+    → FoundFrom (graphIn f h) (sources (graphIn f h .size) limit w₂) limit r w₂ w₃ l
+    → under (suc limit) (roundLength (graphIn f h) r) ≡ some l
 round-some {w₂ = w₂} ready found sums searched = round-length w₂ ready found sums ∙ searched .length
 
 -- if the search finds no length, the round has none up to the limit
 pub round-nothing : {f : List ℕ} {h : Header} {w w₁ w₂ w₃ : List ℕ} {r limit count : ℕ} → RoundsReady f h w
-    → DistancesWithin (graphOf f) r limit w w₁ → SumsPut (h .states) (h .states) w₁ w₂
-    → ExhaustedFrom (graphOf f) (sources (graphOf f .size) limit w₂) limit r w₂ w₃ count
-    → under (suc limit) (roundLength (graphOf f) r) ≡ none
+    → DistancesWithin (graphIn f h) r limit w w₁ → SumsPut (h .states) (h .states) w₁ w₂
+    → ExhaustedFrom (graphIn f h) (sources (graphIn f h .size) limit w₂) limit r w₂ w₃ count
+    → under (suc limit) (roundLength (graphIn f h) r) ≡ none
 round-nothing {w₂ = w₂} ready found sums searched = round-length w₂ ready found sums ∙ searched .length
 
 -- a round changes regions 2 to 5 only
 pub round-outside : {f : List ℕ} {h : Header} {w w₁ w₂ w₃ : List ℕ} {r limit : ℕ} → RoundsReady f h w
-    → DistancesWithin (graphOf f) r limit w w₁ → SameOutside (2 * h .states) (3 * h .states) w₁ w₂
-    → SameOutside (2 * graphOf f .size) (6 * graphOf f .size) w₂ w₃
+    → DistancesWithin (graphIn f h) r limit w w₁ → SameOutside (2 * h .states) (3 * h .states) w₁ w₂
+    → SameOutside (2 * graphIn f h .size) (6 * graphIn f h .size) w₂ w₃
     → SameOutside (2 * h .states) (6 * h .states) w w₃
 round-outside {f} {h} ready found added searched =
     let sizes = valid-sizes (ready .valid) in

@@ -8,8 +8,8 @@ use Rattle.lasso.specs.Distance.{dist}
 use Rattle.lasso.specs.Rounds.{sum}
 use Rattle.model.specs.declared.Header.{Header}
 use Rattle.model.specs.Values.{Valid}
-use Rattle.model.specs.Model.{graphOf}
-use Rattle.spread.specs.Regions.{entry, entryOf, valueOf}
+use Rattle.model.specs.Model.{graphIn}
+use Rattle.frontier.specs.Regions.{entry, entryOf, valueOf}
 
 -- region 0 holds the distance of each state from the start
 pub record StartDistances (g : Graph) (w : List ℕ) : Type 0 where
@@ -26,7 +26,7 @@ pub record StartDistancesPut (g : Graph) (w w' : List ℕ) : Type 0 where
 pub record RoundsReady (f : List ℕ) (h : Header) (w : List ℕ) : Type 0 where
   pub valid : Valid f h
   pub room : 6 * h .states ≤ length w
-  pub start-distances : StartDistances (graphOf f) w
+  pub start-distances : StartDistances (graphIn f h) w
 
 -- the sum of a state's entries in regions 0 and 2 fits an entry
 abbrev pub SumsFit : ℕ → List ℕ → Type 0

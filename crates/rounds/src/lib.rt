@@ -8,10 +8,10 @@ ghost use Rattle.lasso.specs.Rounds.{candidateb, candidates, roundLength};
 ghost use Rattle.lasso.specs.Rounds.{bestLength, lesser, sum, afterRound, afterAllowed};
 ghost use Rattle.lasso.specs.Values.{foundOf, recordOf};
 ghost use Rattle.model.specs.Values.{Valid};
-ghost use Rattle.model.specs.Model.{graphOf};
+ghost use Rattle.model.specs.Model.{graphIn};
 ghost use Rattle.table.specs.Changes.{SameOutside};
-ghost use Rattle.spread.specs.Regions.{entryOf, valueOf};
-ghost use Rattle.spread.specs.Hit.{under};
+ghost use Rattle.frontier.specs.Regions.{entryOf, valueOf};
+ghost use Rattle.lasso.specs.Limit.{under};
 ghost use Rattle.rounds.specs.Promises.{StartDistancesPut, RoundsReady, SumsFit, SumsPut};
 use lasso::Best;
 use lasso::LengthFound;
@@ -20,17 +20,17 @@ use lasso::Transitions;
 use model::Header;
 use model::is_marked;
 use spread::Answer;
-use spread::distances;
 use spread::spread;
 use table::copy_down;
 use table::get;
 use table::put;
+use walks::distances;
 
 // Puts the distances from the start into region 0.
 pub fn start_distances(file: &[u8], h: Header, work: &mut [u16])
     requires { ⌜ Valid (now file) h ⌝ }
     requires { ⌜ 6 * h .states ≤ length (now work) ⌝ }
-    ensures { λ _. ⌜ StartDistancesPut (graphOf (now (file .entry))) (now (work .entry)) (now (work .exit)) ⌝ }
+    ensures { λ _. ⌜ StartDistancesPut (graphIn (now (file .entry)) h) (now (work .entry)) (now (work .exit)) ⌝ }
 {
     let n = h.states;
     let start = h.start;
@@ -42,7 +42,7 @@ pub fn start_distances(file: &[u8], h: Header, work: &mut [u16])
 pub fn is_candidate(file: &[u8], h: Header, work: &[u16], s: usize) -> bool
     requires { ⌜ RoundsReady (now file) h (now work) ⌝ }
     requires { ⌜ s < h .states ⌝ }
-    ensures { λ r. ⌜ r ≡ candidateb (graphOf (now (file .entry))) s ⌝ }
+    ensures { λ r. ⌜ r ≡ candidateb (graphIn (now (file .entry)) h) s ⌝ }
 {
     if get(work, s) == 0 {
         return false;
@@ -53,7 +53,7 @@ pub fn is_candidate(file: &[u8], h: Header, work: &[u16], s: usize) -> bool
 // The number of candidates.
 pub fn count_candidates(file: &[u8], h: Header, work: &[u16]) -> usize
     requires { ⌜ RoundsReady (now file) h (now work) ⌝ }
-    ensures { λ r. ⌜ r ≡ length (candidates (graphOf (now (file .entry)))) ⌝ }
+    ensures { λ r. ⌜ r ≡ length (candidates (graphIn (now (file .entry)) h)) ⌝ }
 {
     let states = h.states;
     let mut count = 0;
@@ -104,7 +104,7 @@ fn round(file: &[u8], h: Header, work: &mut [u16], r: usize, limit: usize) -> Le
     requires { ⌜ RoundsReady (now file) h (now work) ⌝ }
     requires { ⌜ r < h .states ⌝ }
     requires { ⌜ limit ≤ h .states ⌝ }
-    ensures { λ found. ⌜ foundOf found ≡ under (suc limit) (roundLength (graphOf (now (file .entry))) r) ⌝ }
+    ensures { λ found. ⌜ foundOf found ≡ under (suc limit) (roundLength (graphIn (now (file .entry)) h) r) ⌝ }
     ensures same { λ _. ⌜ SameOutside (2 * h .states) (6 * h .states) (now (work .entry)) (now (work .exit)) ⌝ }
 {
     if limit == 0 {
@@ -147,9 +147,9 @@ fn after_round(
     so_far: RoundRecord,
 ) -> RoundRecord
     requires { ⌜ RoundsReady (now file) h (now work) ⌝ }
-    requires { ⌜ «so_far» .done < length (candidates (graphOf (now file))) ⌝ }
-    requires { ⌜ r ≡ getD (candidates (graphOf (now file))) («so_far» .done) 0 ⌝ }
-    ensures { λ a. ⌜ recordOf a ≡ afterRound (graphOf (now (file .entry))) (recordOf «so_far») ⌝ }
+    requires { ⌜ «so_far» .done < length (candidates (graphIn (now file) h)) ⌝ }
+    requires { ⌜ r ≡ getD (candidates (graphIn (now file) h)) («so_far» .done) 0 ⌝ }
+    ensures { λ a. ⌜ recordOf a ≡ afterRound (graphIn (now (file .entry)) h) (recordOf «so_far») ⌝ }
     ensures same { λ _. ⌜ SameOutside (2 * h .states) (6 * h .states) (now (work .entry)) (now (work .exit)) ⌝ }
 {
     let limit = limit_of(so_far, h.states);
@@ -160,8 +160,8 @@ fn after_round(
 // The candidate at a place, the first having place 0.
 fn candidate_at(file: &[u8], h: Header, work: &[u16], place: usize) -> usize
     requires { ⌜ RoundsReady (now file) h (now work) ⌝ }
-    requires { ⌜ place < length (candidates (graphOf (now file))) ⌝ }
-    ensures { λ r. ⌜ r ≡ getD (candidates (graphOf (now (file .entry)))) place 0 ⌝ }
+    requires { ⌜ place < length (candidates (graphIn (now file) h)) ⌝ }
+    ensures { λ r. ⌜ r ≡ getD (candidates (graphIn (now (file .entry)) h)) place 0 ⌝ }
 {
     let mut before: usize = 0;
     let mut s = 0;
@@ -179,8 +179,8 @@ fn candidate_at(file: &[u8], h: Header, work: &[u16], place: usize) -> usize
 // The record after one more round: the one for the candidate whose place is the count.
 pub fn next_round(file: &[u8], h: Header, work: &mut [u16], so_far: RoundRecord) -> RoundRecord
     requires { ⌜ RoundsReady (now file) h (now work) ⌝ }
-    requires { ⌜ «so_far» .done < length (candidates (graphOf (now file))) ⌝ }
-    ensures { λ a. ⌜ recordOf a ≡ afterRound (graphOf (now (file .entry))) (recordOf «so_far») ⌝ }
+    requires { ⌜ «so_far» .done < length (candidates (graphIn (now file) h)) ⌝ }
+    ensures { λ a. ⌜ recordOf a ≡ afterRound (graphIn (now (file .entry)) h) (recordOf «so_far») ⌝ }
     ensures same { λ _. ⌜ SameOutside (2 * h .states) (6 * h .states) (now (work .entry)) (now (work .exit)) ⌝ }
 {
     let place = so_far.done as usize;
@@ -191,7 +191,7 @@ pub fn next_round(file: &[u8], h: Header, work: &mut [u16], so_far: RoundRecord)
 // The record after all rounds that the allowance admits.
 pub fn run_rounds(file: &[u8], h: Header, work: &mut [u16], allowance: usize) -> RoundRecord
     requires { ⌜ RoundsReady (now file) h (now work) ⌝ }
-    ensures { λ a. ⌜ recordOf a ≡ afterAllowed (graphOf (now (file .entry))) allowance ⌝ }
+    ensures { λ a. ⌜ recordOf a ≡ afterAllowed (graphIn (now (file .entry)) h) allowance ⌝ }
     ensures same { λ _. ⌜ SameOutside (2 * h .states) (6 * h .states) (now (work .entry)) (now (work .exit)) ⌝ }
 {
     let n = h.states;

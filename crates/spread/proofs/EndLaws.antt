@@ -13,14 +13,16 @@ use Rattle.lasso.specs.Graph.{Graph, WellFormed, edgeb}
 use Rattle.lasso.proofs.Tests.{lt-or-ge}
 use Rattle.lasso.proofs.Least.{IsLeast, isLeast-unique}
 use Rattle.lasso.proofs.Walk.{Run, done, next, Walk, walk-here, walk-edge, walk-append}
-use Rattle.spread.specs.Regions.{entry, entryOf}
-use Rattle.spread.specs.Hit.{under, hitLevel, hitLength}
-use Rattle.spread.specs.Promises.{sources, FoundFrom, ExhaustedFrom}
-use Rattle.spread.specs.Search.{Hit, start, step, ReachedBy, State}
-use Rattle.spread.proofs.UnderLaws.{under-lt, under-least}
+use Rattle.frontier.specs.Regions.{entry, entryOf}
+use Rattle.lasso.specs.Limit.{under}
+use Rattle.spread.specs.Hit.{hitLevel, hitLength}
+use Rattle.frontier.specs.Buckets.{sources}
+use Rattle.spread.specs.Promises.{FoundFrom, ExhaustedFrom}
+use Rattle.frontier.specs.Search.{Hit, start, step, ReachedBy, State}
+use Rattle.lasso.proofs.UnderLaws.{under-lt, under-least}
 use Rattle.spread.proofs.HitLaws.{Timed, hitLevel-least, hitLength-least}
-use Rattle.spread.proofs.BucketLaws.{source-entry}
-use Rattle.spread.proofs.PushLaws.{level-le}
+use Rattle.frontier.proofs.BucketLaws.{source-entry}
+use Rattle.frontier.proofs.PushLaws.{level-le}
 
 -- a hit goes on along a run
 run-hit : {g : Graph} {source : ℕ → Option ℕ} {s t : ℕ} {us : List ℕ} (j k : ℕ) → Hit (g .size) (g .succs) source j s → Run g s us t → j + length us ≡ k → Hit (g .size) (g .succs) source k t

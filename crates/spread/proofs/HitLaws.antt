@@ -14,8 +14,9 @@ use Rattle.lasso.proofs.Tests.{below-lt, lt-below}
 use Rattle.lasso.proofs.Least.{IsLeast, Sums, OfEntry, isLeast-unique, isLeast-iff, isLeast-own, sum-least, leastOf-least}
 use Rattle.lasso.proofs.Walk.{Walk}
 use Rattle.lasso.proofs.Distance.{dist-least, distPlus-least, distPlus-range}
-use Rattle.spread.specs.Hit.{under, hitLevel, hitLength}
-use Rattle.spread.proofs.UnderLaws.{under-least, under-some, some-under}
+use Rattle.lasso.specs.Limit.{under}
+use Rattle.spread.specs.Hit.{hitLevel, hitLength}
+use Rattle.lasso.proofs.UnderLaws.{under-least, under-some, some-under}
 
 -- k is the start level a of a source s below n, and m more that P allows from s
 abbrev pub Timed : ℕ → (ℕ → Option ℕ) → (ℕ → ℕ → Type 0) → ℕ → Type 0

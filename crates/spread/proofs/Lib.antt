@@ -1,11 +1,5 @@
 -- The laws of hits, of the search's working table, and of what the searches find for their callers.
-pub mod UnderLaws
 pub mod HitLaws
-pub mod BucketLaws
-pub mod PushLaws
-pub mod AdmitLaws
 pub mod RowLaws
 pub mod EndLaws
 pub mod SearchLaws
-pub mod ThroughSteps
-pub mod ThroughLaws

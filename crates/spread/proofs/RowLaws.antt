@@ -6,11 +6,11 @@ use mathlib.Core.List.{List}
 use native.Mathlib.Omega.{arith}
 use lib.ListN.{length, getD}
 use Rattle.lasso.proofs.Tests.{lt-or-ge, memb-at, at-memb}
-use Rattle.spread.specs.Regions.{entry, queued}
-use Rattle.spread.specs.Promises.{sources}
-use Rattle.spread.specs.Buckets.{Planned}
-use Rattle.spread.specs.Search.{Hit, step, ReachedBy, State, Reached}
-use Rattle.spread.proofs.PushLaws.{reach-state, reach-kept, reach-queue, reach-here}
+use Rattle.frontier.specs.Regions.{entry, queued}
+use Rattle.frontier.specs.Buckets.{sources}
+use Rattle.frontier.specs.Buckets.{Planned}
+use Rattle.frontier.specs.Search.{Hit, step, ReachedBy, State, Reached}
+use Rattle.frontier.proofs.PushLaws.{reach-state, reach-kept, reach-queue, reach-here}
 
 -- a place of region 3 holds the queue's state after those before it
 pub queued-entry : (n place : ℕ) (w : List ℕ) → 3 * n ≤ place → getD w place 0 ≡ entry 3 n w (queued n place)

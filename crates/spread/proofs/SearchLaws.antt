@@ -14,11 +14,12 @@ use Rattle.table.specs.Changes.{SameOutside}
 use Rattle.table.proofs.Laws.{sameOutside-trans}
 use Rattle.spread.specs.declared.Answer.{Answer}
 use Rattle.spread.specs.declared.Answer.the-variants.{Length, Nothing}
-use Rattle.spread.specs.Regions.{entry, valueOf, entryOf}
-use Rattle.spread.specs.Hit.{under, hitLevel, hitLength}
+use Rattle.frontier.specs.Regions.{entry, valueOf, entryOf}
+use Rattle.lasso.specs.Limit.{under}
+use Rattle.spread.specs.Hit.{hitLevel, hitLength}
 use Rattle.spread.specs.Promises.{ExhaustedFrom, SpreadFrom}
-use Rattle.spread.proofs.UnderLaws.{under-lt, under-some, some-under, under-under}
-use Rattle.spread.proofs.BucketLaws.{source-entry, entry-source}
+use Rattle.lasso.proofs.UnderLaws.{under-lt, under-some, some-under, under-under}
+use Rattle.frontier.proofs.BucketLaws.{source-entry, entry-source}
 use Rattle.spread.proofs.HitLaws.{Timed, Single, hitLength-least, hitLevel-cong, hitLength-cong, hitLevel-single, hitLevel-under, hitLength-under}
 
 -- an entry stands for the value that it was made from

@@ -1,16 +1,10 @@
 -- Sources with start levels of their own, the level at which a state is first hit, and the length into a target.
 use Prim.Native.Nat.{ℕ}
-use mathlib.Core.Option.{Option, some, none}
-use lib.Dec.{ltb}
-use Rattle.lasso.specs.Lists.{below, someIf}
+use mathlib.Core.Option.{Option}
+use Rattle.lasso.specs.Lists.{below}
 use Rattle.lasso.specs.Graph.{Graph}
 use Rattle.lasso.specs.Distance.{dist, distPlus}
 use Rattle.lasso.specs.Rounds.{sum, leastOf}
-
--- the number if there is one and it is below the limit
-abbrev pub under : ℕ → Option ℕ → Option ℕ
-under limit none = none
-under limit (some k) = someIf (ltb k limit) k none
 
 -- the least level at which a walk from a source hits t: a source's walk starts at the source's level
 abbrev pub hitLevel : Graph → (ℕ → Option ℕ) → ℕ → Option ℕ

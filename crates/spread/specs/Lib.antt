@@ -1,8 +1,3 @@
--- What the search finds: the least level at which each state is hit, and the least length into the target; and what its
--- parts leave in the working table.
-pub mod Regions
+-- What the search finds: the least level at which each state is hit, and the least length into the target.
 pub mod Hit
 pub mod Promises
-pub mod Buckets
-pub mod Search
-pub mod Through

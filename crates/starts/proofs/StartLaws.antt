@@ -14,9 +14,9 @@ use Rattle.lasso.proofs.Walk.{Walk, walk-here, walk-edge, walk-cons, walk-uncon
 use Rattle.lasso.proofs.Distance.{dist-walk, dist-le}
 use Rattle.lasso.proofs.Lasso.{Knot, knot→lasso, lasso→lassob}
 use Rattle.lasso.proofs.RollLaws.{leastLength-le}
-use Rattle.spread.specs.Through.{loopLength}
-use Rattle.spread.proofs.UnderLaws.{under-some, some-under}
-use Rattle.spread.proofs.ThroughLaws.{ViaMark, loopLength-least}
+use Rattle.walks.specs.Through.{loopLength}
+use Rattle.lasso.proofs.UnderLaws.{under-some, some-under}
+use Rattle.walks.proofs.ThroughLaws.{ViaMark, loopLength-least}
 use Rattle.starts.specs.LoopStarts.{loopWithin, startLoop}
 
 -- k is the length of a closed walk from x through a mark

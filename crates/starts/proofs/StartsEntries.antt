@@ -8,9 +8,9 @@ use native.Mathlib.Omega.{arith}
 use lib.ListN.{getD}
 use Rattle.lasso.specs.Graph.{Graph, WellFormed}
 use Rattle.lasso.specs.Distance.{dist}
-use Rattle.spread.specs.Regions.{entryOf}
-use Rattle.spread.specs.Hit.{under}
-use Rattle.spread.specs.Through.{loopLength}
+use Rattle.frontier.specs.Regions.{entryOf}
+use Rattle.lasso.specs.Limit.{under}
+use Rattle.walks.specs.Through.{loopLength}
 use Rattle.rounds.specs.Promises.{StartDistances}
 use Rattle.starts.specs.LoopStarts.{startLoop}
 use Rattle.starts.proofs.StartLaws.{loopLength-closed, dist-state, startLoop-iff}

@@ -13,7 +13,7 @@ use Rattle.lasso.specs.Graph.{Graph, WellFormed, edgeb}
 use Rattle.lasso.proofs.Tests.{lt-or-ge, memb-at, at-memb}
 use Rattle.model.specs.declared.Header.{Header}
 use Rattle.model.specs.Values.{Valid}
-use Rattle.model.specs.Model.{graphOf}
+use Rattle.model.specs.Model.{graphIn}
 use Rattle.model.proofs.Laws.{valid-sizes, valid-well-formed}
 use Rattle.table.specs.Changes.{SameOutside}
 use Rattle.table.proofs.Laws.{sameOutside-refl, sameOutside-trans, set-sameOutside}
@@ -81,10 +81,10 @@ low-pass {w = w} {d = d} t e h high a =
     ]) a
 
 -- what a row of an accepted file holds is a state
-pub row-state : {f ss : List ℕ} {h : Header} {t : ℕ} (u k : ℕ) → Valid f h → ss ≡ graphOf f .succs u → k < length ss
+pub row-state : {f ss : List ℕ} {h : Header} {t : ℕ} (u k : ℕ) → Valid f h → ss ≡ graphIn f h .succs u → k < length ss
     → t ≡ getD ss k 0 → t < h .states
 row-state {f} {ss} {t = t} u k valid row l e =
-    let edge : T (edgeb (graphOf f) u t) = rw (e, ← row) (at-memb ss k l) in
+    let edge : T (edgeb (graphIn f h) u t) = rw (e, ← row) (at-memb ss k l) in
     omega (arith, valid-well-formed valid .edge-states u t edge, valid-sizes valid .states-are)
 
 -- a state's row is done: each successor whose entry is no greater is flagged

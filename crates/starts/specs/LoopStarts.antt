@@ -5,9 +5,9 @@ use mathlib.Core.List.{List}
 use mathlib.Core.Option.{Option, some, none}
 use Rattle.lasso.specs.Graph.{Graph}
 use Rattle.lasso.specs.Distance.{dist}
-use Rattle.spread.specs.Regions.{entry, entryOf}
-use Rattle.spread.specs.Hit.{under}
-use Rattle.spread.specs.Through.{loopLength}
+use Rattle.frontier.specs.Regions.{entry, entryOf}
+use Rattle.lasso.specs.Limit.{under}
+use Rattle.walks.specs.Through.{loopLength}
 
 -- the loop length, if the stem of d transitions and the loop have at most l transitions together
 abbrev pub loopWithin : ℕ → Option ℕ → Option ℕ → Option ℕ

@@ -6,9 +6,9 @@ ghost use Prim.Native.Nat.{_*_, _≤_, _<_};
 ghost use lib.ListN.{length};
 ghost use Rattle.lasso.specs.Roll.{leastLength};
 ghost use Rattle.model.specs.Values.{Valid};
-ghost use Rattle.model.specs.Model.{graphOf};
+ghost use Rattle.model.specs.Model.{graphIn};
 ghost use Rattle.table.specs.Changes.{SameOutside};
-ghost use Rattle.spread.specs.Regions.{entryOf};
+ghost use Rattle.frontier.specs.Regions.{entryOf};
 ghost use Rattle.rounds.specs.Promises.{RoundsReady};
 ghost use Rattle.starts.specs.LoopStarts.{startLoop, StartLoops};
 ghost use Rattle.starts.specs.Flags.{FlagsRow, FlagsStarts};
@@ -28,7 +28,7 @@ fn flag_row(file: &[u8], h: Header, work: &mut [u16], u: usize)
     requires { ⌜ Valid (now file) h ⌝ }
     requires { ⌜ 2 * h .states ≤ length (now work) ⌝ }
     requires { ⌜ u < h .states ⌝ }
-    ensures { λ _. ⌜ FlagsRow (graphOf (now (file .entry))) (h .states) u (now (work .entry)) (now (work .exit)) ⌝ }
+    ensures { λ _. ⌜ FlagsRow (graphIn (now (file .entry)) h) (h .states) u (now (work .entry)) (now (work .exit)) ⌝ }
 {
     let n = h.states;
     let distance = get(work, u);
@@ -49,7 +49,7 @@ fn flag_row(file: &[u8], h: Header, work: &mut [u16], u: usize)
 fn flag_starts(file: &[u8], h: Header, work: &mut [u16])
     requires { ⌜ Valid (now file) h ⌝ }
     requires { ⌜ 2 * h .states ≤ length (now work) ⌝ }
-    ensures { λ _. ⌜ FlagsStarts (graphOf (now (file .entry))) (h .states) (now (work .entry)) (now (work .exit)) ⌝ }
+    ensures { λ _. ⌜ FlagsStarts (graphIn (now (file .entry)) h) (h .states) (now (work .entry)) (now (work .exit)) ⌝ }
 {
     let n = h.states;
     clear(work, n, 2 * n);
@@ -67,7 +67,7 @@ fn start_loop(file: &[u8], h: Header, work: &mut [u16], length: Transitions, s: 
     requires { ⌜ RoundsReady (now file) h (now work) ⌝ }
     requires { ⌜ length .0 ≤ h .states ⌝ }
     requires { ⌜ s < h .states ⌝ }
-    ensures { λ r. ⌜ (r ≡ entryOf (startLoop (graphOf (now (file .entry))) (length .0) s)) × (r < 65536) ⌝ }
+    ensures { λ r. ⌜ (r ≡ entryOf (startLoop (graphIn (now (file .entry)) h) (length .0) s)) × (r < 65536) ⌝ }
     ensures same { λ r. ⌜ SameOutside (2 * h .states) (6 * h .states) (now (work .entry)) (now (work .exit)) ⌝ }
 {
     let reached = get(work, s);
@@ -88,8 +88,8 @@ fn start_loop(file: &[u8], h: Header, work: &mut [u16], length: Transitions, s: 
 // Puts the loop length of each state that can start the loop of a shortest lasso into region 1.
 pub fn prepare(file: &[u8], h: Header, work: &mut [u16], length: Transitions)
     requires { ⌜ RoundsReady (now file) h (now work) ⌝ }
-    requires { ⌜ leastLength (graphOf (now file)) ≡ some (length .0) ⌝ }
-    ensures { λ _. ⌜ StartLoops (graphOf (now (file .entry))) (length .0) (now (work .exit)) ⌝ }
+    requires { ⌜ leastLength (graphIn (now file) h) ≡ some (length .0) ⌝ }
+    ensures { λ _. ⌜ StartLoops (graphIn (now (file .entry)) h) (length .0) (now (work .exit)) ⌝ }
     ensures same { λ _. ⌜ SameOutside (h .states) (6 * h .states) (now (work .entry)) (now (work .exit)) ⌝ }
 {
     let n = h.states;

@@ -7,8 +7,8 @@ use mathlib.Core.Logic.{⊎-elim}
 use mathlib.Core.List.{List, _∷_}
 use native.Mathlib.Omega.{arith}
 use lib.ListN.{getD}
-use Rattle.model.specs.Model.{graphOf}
-use Rattle.spread.specs.Regions.{entry}
+use Rattle.model.specs.Model.{graphIn}
+use Rattle.frontier.specs.Regions.{entry}
 use Rattle.follow.specs.Follow.{Decides}
 use Rattle.follow.proofs.FollowTests.{MarkFrom, markFrom-here, markFrom-skip, from-more, read-two}
 use Rattle.follow.proofs.closes_marked.Statement.{statement}
@@ -17,11 +17,11 @@ use Rattle.follow.proofs.closes_marked.Tie as tie
 -- the state at place x is not reached soon enough, or no state from it on is marked
 abbrev Unclosed : List ℕ → ℕ → ℕ → List ℕ → ℕ → ℕ → ℕ → Type 0
 Unclosed f n start w place left x =
-    (a : ℕ) → MarkFrom (graphOf f) start w place x → entry 2 n w (getD (start ∷ w) x 0) ≡ suc a → a ≤ left → ⊥
+    (a : ℕ) → MarkFrom (graphIn f h) start w place x → entry 2 n w (getD (start ∷ w) x 0) ≡ suc a → a ≤ left → ⊥
 
 abbrev Inv-loop : tie.InvT-loop
 Inv-loop file h work place left n marked₀ k₀ marked k =
-    (k ≤ place + 1) × Decides (MarkFrom (graphOf file) (h .start) work place k) marked × ((x : ℕ) → k ≤ x → Unclosed file (h .states) (h .start) work place left x)
+    (k ≤ place + 1) × Decides (MarkFrom (graphIn file h) (h .start) work place k) marked × ((x : ℕ) → k ≤ x → Unclosed file (h .states) (h .start) work place left x)
 
 abbrev μ-loop : tie.MeasureT-loop
 μ-loop file h work place left n marked₀ k₀ marked k = k
@@ -49,19 +49,19 @@ is-marked-requires c κs = (c .before .before .before .before .before .pre .0, i
 
 -- what the mark's test answers of the state at the place
 mark : (c : tie.After-is-marked Inv-loop μ-loop) → let at = c .before .before .before in let a = at .before .before .before .args in
-    graphOf (a .file .now) .marked (getD (a .h .start ∷ a .work .now) (at .loop .k - 1) 0) ≡ c .is-marked .result
+    graphIn (a .file .now) (a .h) .marked (getD (a .h .start ∷ a .work .now) (at .loop .k - 1) 0) ≡ c .is-marked .result
 mark c =
     let at = c .before .before .before in
     let a = at .before .before .before .args in
-    sym (c .is-marked .ensures ∙ ap (graphOf (a .file .now) .marked) (c .before .list-at .ensures))
+    sym (c .is-marked .ensures ∙ ap (graphIn (a .file .now) (a .h) .marked) (c .before .list-at .ensures))
 
 -- after its state is looked at, the flag tells if a state from a place on is marked
 flag : (c : tie.Joined1 Inv-loop μ-loop) → let at = c .before .before .before .before in let a = at .before .before .before .args in
-    Decides (MarkFrom (graphOf (a .file .now)) (a .h .start) (a .work .now) (a .place) (at .loop .k - 1)) (c .if1 .marked)
+    Decides (MarkFrom (graphIn (a .file .now) (a .h)) (a .h .start) (a .work .now) (a .place) (at .loop .k - 1)) (c .if1 .marked)
 flag c =
     let at = c .before .before .before .before in
     let a = at .before .before .before .args in
-    let g = graphOf (a .file .now) in
+    let g = graphIn (a .file .now) (a .h) in
     let l : 1 ≤ at .loop .k = omega arith in
     ⊎-elim (λ v. markFrom-here g (a .h .start) (a .work .now) (a .place) (at .loop .k) l (omega arith) (mark (c .before) ∙ v .0 .taken) (c .if1 .marked) (v .1)) (λ v. markFrom-skip g (a .h .start) (a .work .now) (a .place) (at .loop .k) l (mark (c .before) ∙ v .0 .left) (c .if1 .marked) (at .loop .marked) (v .1) (at .loop .inv .1)) (c .if1 .came)
 

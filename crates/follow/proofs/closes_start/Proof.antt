@@ -7,7 +7,7 @@ use mathlib.Core.List.{List, _∷_}
 use native.Mathlib.Omega.{arith}
 use borrow.Author.Count.{below-more}
 use lib.ListN.{getD}
-use Rattle.spread.specs.Regions.{entry}
+use Rattle.frontier.specs.Regions.{entry}
 use Rattle.follow.proofs.FollowTests.{read-one, read-two}
 use Rattle.follow.proofs.closes_start.Statement.{statement}
 use Rattle.follow.proofs.closes_start.Tie as tie

@@ -6,9 +6,9 @@ use native.Mathlib.Omega.{arith}
 use lib.ListN.{length}
 use borrow.Author.Tests.{not-true}
 use borrow.Author.Needs.{needs}
-use Rattle.model.specs.Model.{graphOf}
+use Rattle.model.specs.Model.{graphIn}
 use Rattle.table.specs.Changes.{SameOutside}
-use Rattle.spread.specs.Through.{DistancesWithin}
+use Rattle.walks.specs.Through.{DistancesWithin}
 use Rattle.follow.specs.Follow.{StatesTo, StartsAhead, ClosesMarked}
 use Rattle.follow.proofs.FollowTable.{Asked, asked-sizes, asked-states, asked-same, starts-follows, marked-follows, far-not-follows, searched-outside, via-decides}
 use Rattle.follow.proofs.may_follow.Statement.{statement}
@@ -33,7 +33,7 @@ searched c = c .distances .last .1 .1 .0
 
 -- the first search leaves the distances from the state
 distances-left : (c : tie.After-distances) → let a = entered c .args in
-    DistancesWithin (graphOf (a .file .now)) (a .t) (measured c .number .result - (a .place + 1) + 1) (a .work .now) (searched c)
+    DistancesWithin (graphIn (a .file .now) (a .h)) (a .t) (measured c .number .result - (a .place + 1) + 1) (a .work .now) (searched c)
 distances-left c = c .distances .ensures
 
 -- it changes regions 2 to 5 only
@@ -66,7 +66,7 @@ no-mark-at c = no-start-at (c .before .before .before)
 
 -- no loop start is passed with a mark
 no-mark : (c : tie.Else2) → let a = entered (no-mark-at c) .args in
-    ClosesMarked (graphOf (a .file .now)) (a .h .states) (a .h .start) (searched (no-mark-at c)) (a .place) (measured (no-mark-at c) .number .result - (a .place + 1)) → ⊥
+    ClosesMarked (graphIn (a .file .now) (a .h)) (a .h .states) (a .h .start) (searched (no-mark-at c)) (a .place) (measured (no-mark-at c) .number .result - (a .place + 1)) → ⊥
 no-mark c = rw (c .if2 .left) at (c .before .closes-marked .ensures)
 
 -- the place after the first search, from the place after the second
@@ -79,7 +79,7 @@ searched-on c = c .from-marks .last .1 .1 .0
 
 -- both searches change regions 2 to 5 only
 outside-on : (c : tie.After-from-marks) → let a = entered (second-at c) .args in
-    SameOutside (2 * graphOf (a .file .now) .size) (6 * graphOf (a .file .now) .size) (a .work .now) (searched-on c)
+    SameOutside (2 * graphIn (a .file .now) (a .h) .size) (6 * graphIn (a .file .now) (a .h) .size) (a .work .now) (searched-on c)
 outside-on c =
     let at = second-at c in
     searched-outside (asked (measured at)) (searched at) (distances-left at) (searched-on c) (c .from-marks .result) (c .from-marks .ensures)

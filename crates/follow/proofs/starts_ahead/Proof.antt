@@ -5,7 +5,7 @@ use mathlib.Core.Logic.{⊎-elim}
 use mathlib.Core.List.{List}
 use native.Mathlib.Omega.{arith}
 use borrow.Author.Count.{below-more}
-use Rattle.spread.specs.Regions.{entry}
+use Rattle.frontier.specs.Regions.{entry}
 use Rattle.follow.proofs.FollowTests.{read-one}
 use Rattle.follow.proofs.starts_ahead.Statement.{statement}
 use Rattle.follow.proofs.starts_ahead.Tie as tie

@@ -8,11 +8,11 @@ use mathlib.Core.Option.{none}
 use borrow.Author.Tests.{eq-eqb, ne-eqb}
 use denote.Ref.{now}
 use lib.ListN.{length}
-use Prim.Native.Nat.{ℕ}
+use Prim.Native.Nat.{ℕ, _≤_}
 use Rattle.model.specs.Bytes.{long}
-use Rattle.model.specs.Layout.{states, edgeCount, totalOf}
-use Rattle.model.specs.Rules.{badOffsets, badLength, badRows, badTargets, badOrder, badSpare}
-use Rattle.model.proofs.Reasons.{KeptTo, passed, refused, accepted, false-not}
+use Rattle.model.specs.Layout.{HasTables}
+use Rattle.model.specs.Rules.{badOffsets, badLength, badRows, badTargets, badOrder, badSpare, KeptTo}
+use Rattle.model.proofs.Reasons.{passed, refused, accepted, false-not}
 use Rattle.model.proofs.Kept.{length-kept}
 use Rattle.model.proofs.Laws.{header-numbers}
 use borrow.Author.Needs.{needs}
@@ -39,8 +39,12 @@ from10 c = from9 (c .before .before)
 abbrev fileOf : tie.Start → List ℕ
 fileOf c = now (c .args .file)
 
+-- the total length that it is to have
+abbrev totalFor : tie.Start → ℕ
+totalFor c = c .args .total
+
 -- past rule 6 its test is false
-offsets-kept : (c : tie.Else1) → badOffsets (fileOf (from6 c)) ≡ false
+offsets-kept : (c : tie.Else1) → badOffsets (totalFor (from6 c)) (fileOf (from6 c)) ≡ false
 offsets-kept c = sym (c .before .offsets-broken .ensures) ∙ c .if1 .left
 
 -- past rule 7 its test is false
@@ -54,32 +58,32 @@ rows-kept : (c : tie.Else3) → badRows (fileOf (from8 c)) ≡ false
 rows-kept c = sym (c .before .rows-broken .ensures) ∙ c .if3 .left
 
 -- past each rule those behind it decide
-kept-6 : (c : tie.Else1) → KeptTo 6 (fileOf (from6 c))
-kept-6 c = passed _ (badOffsets (fileOf (from6 c))) 6 _ (from6 c .pre .1 .1 .1) (offsets-kept c)
+kept-6 : (c : tie.Else1) → KeptTo 6 (totalFor (from6 c)) (fileOf (from6 c))
+kept-6 c = passed _ (badOffsets (totalFor (from6 c)) (fileOf (from6 c))) 6 _ (from6 c .pre .1 .1 .1 .1) (offsets-kept c)
 
-kept-7 : (c : tie.Else2) → KeptTo 7 (fileOf (from7 c))
+kept-7 : (c : tie.Else2) → KeptTo 7 (totalFor (from7 c)) (fileOf (from7 c))
 kept-7 c = passed _ (badLength (fileOf (from7 c))) 7 _ (kept-6 (c .before .before)) (own-length-kept c)
 
-kept-8 : (c : tie.Else3) → KeptTo 8 (fileOf (from8 c))
+kept-8 : (c : tie.Else3) → KeptTo 8 (totalFor (from8 c)) (fileOf (from8 c))
 kept-8 c = passed _ (badRows (fileOf (from8 c))) 8 _ (kept-7 (c .before .before)) (rows-kept c)
 
-kept-9 : (c : tie.Else4) → KeptTo 9 (fileOf (from9 c))
+kept-9 : (c : tie.Else4) → KeptTo 9 (totalFor (from9 c)) (fileOf (from9 c))
 kept-9 c =
     passed _ (badTargets (fileOf (from9 c))) 9 _ (kept-8 (c .before .before)) (sym (c .before .targets-broken .ensures) ∙ c .if4 .left)
 
-kept-10 : (c : tie.Else5) → KeptTo 10 (fileOf (from10 c))
+kept-10 : (c : tie.Else5) → KeptTo 10 (totalFor (from10 c)) (fileOf (from10 c))
 kept-10 c =
     passed _ (badOrder (fileOf (from10 c))) 10 _ (kept-9 (c .before .before)) (sym (c .before .order-broken .ensures) ∙ c .if5 .left)
 
--- past rule 7 the file has the length that the header gives
+-- past rule 7 the file has room for the tables of its header
 sized : (c : tie.Else2) →
     let h = from7 c .args .h in
-    let file = fileOf (from7 c) in
-    ((h .states ≡ states file) × (h .edges ≡ edgeCount file)) × (length file ≡ totalOf (h .states) (h .edges))
+    HasTables (fileOf (from7 c)) (h .states) (h .edges)
 sized c =
     let file = fileOf (from7 c) in
+    let total = totalFor (from7 c) in
     let numbers = header-numbers file (from7 c .pre .1 .0) in
-    let total = length-kept file (false-not (badOffsets file) (offsets-kept (c .before .before))) (false-not (badLength file) (own-length-kept c)) in
+    let long = length-kept total file (false-not (badOffsets total file) (offsets-kept (c .before .before))) (false-not (badLength file) (own-length-kept c)) in
     omega arith
 
 offsets-broken-requires : tie.Need-offsets-broken-requires
@@ -88,55 +92,59 @@ offsets-broken-requires c κs = omega (arith, header-numbers (fileOf (c .before)
 returns : tie.Need-returns
 returns c =
     let start = c .before .before .before in
-    refused (fileOf start) (badOffsets (fileOf start)) 6 _ (start .pre .1 .1 .1) (sym (c .before .offsets-broken .ensures) ∙ c .if1 .taken)
+    refused (totalFor start) (fileOf start) (badOffsets (totalFor start) (fileOf start)) 6 _ (start .pre .1 .1 .1 .1) (sym (c .before .offsets-broken .ensures) ∙ c .if1 .taken)
 
 long-requires : tie.Need-long-requires
 long-requires c κs = search needs
 
 returns-2 : tie.Need-returns-2
 returns-2 c =
-    let file = fileOf (from6 (c .before .before)) in
-    refused file (badLength file) 7 _ (kept-6 (c .before .before)) (rw (ne-eqb (length file) (long file 20) (omega arith)))
+    let start = from6 (c .before .before) in
+    let file = fileOf start in
+    refused (totalFor start) file (badLength file) 7 _ (kept-6 (c .before .before)) (rw (ne-eqb (length file) (long file 20) (omega arith)))
 
 rows-broken-requires : tie.Need-rows-broken-requires
 rows-broken-requires c κs = sized c
 
 returns-3 : tie.Need-returns-3
 returns-3 c =
-    let file = fileOf (from7 (c .before .before)) in
-    refused file (badRows file) 8 _ (kept-7 (c .before .before)) (sym (c .before .rows-broken .ensures) ∙ c .if3 .taken)
+    let start = from7 (c .before .before) in
+    let file = fileOf start in
+    refused (totalFor start) file (badRows file) 8 _ (kept-7 (c .before .before)) (sym (c .before .rows-broken .ensures) ∙ c .if3 .taken)
 
 targets-broken-requires : tie.Need-targets-broken-requires
 targets-broken-requires c κs = sized (c .before .before)
 
 returns-4 : tie.Need-returns-4
 returns-4 c =
-    let file = fileOf (from8 (c .before .before)) in
-    refused file (badTargets file) 9 _ (kept-8 (c .before .before)) (sym (c .before .targets-broken .ensures) ∙ c .if4 .taken)
+    let start = from8 (c .before .before) in
+    let file = fileOf start in
+    refused (totalFor start) file (badTargets file) 9 _ (kept-8 (c .before .before)) (sym (c .before .targets-broken .ensures) ∙ c .if4 .taken)
 
 order-broken-requires : tie.Need-order-broken-requires
 order-broken-requires c κs =
-    let first = sized (c .before .before .before .before) in
-    (first .0, (first .1, rows-kept (c .before .before)))
+    (sized (c .before .before .before .before), rows-kept (c .before .before))
 
 returns-5 : tie.Need-returns-5
 returns-5 c =
-    let file = fileOf (from9 (c .before .before)) in
-    refused file (badOrder file) 10 _ (kept-9 (c .before .before)) (sym (c .before .order-broken .ensures) ∙ c .if5 .taken)
+    let start = from9 (c .before .before) in
+    let file = fileOf start in
+    refused (totalFor start) file (badOrder file) 10 _ (kept-9 (c .before .before)) (sym (c .before .order-broken .ensures) ∙ c .if5 .taken)
 
 spare-set-requires : tie.Need-spare-set-requires
 spare-set-requires c κs = sized (c .before .before .before .before .before .before)
 
 returns-6 : tie.Need-returns-6
 returns-6 c =
-    let file = fileOf (from10 (c .before .before)) in
-    refused file (badSpare file) 11 _ (kept-10 (c .before .before)) (sym (c .before .spare-set .ensures) ∙ c .if6 .taken)
+    let start = from10 (c .before .before) in
+    let file = fileOf start in
+    refused (totalFor start) file (badSpare file) 11 _ (kept-10 (c .before .before)) (sym (c .before .spare-set .ensures) ∙ c .if6 .taken)
 
 returns-7 : tie.Need-returns-7
 returns-7 c =
     let start = from10 (c .before .before) in
     let file = fileOf start in
-    accepted file (start .args .h) (start .pre .1 .0)
+    accepted (totalFor start) file (start .args .h) (start .pre .1 .0)
     (passed _ (badSpare file) 11 none (kept-10 (c .before .before)) (sym (c .before .spare-set .ensures) ∙ c .if6 .left))
 
 pub check-tables-spec : {M : Type 1} → statement M

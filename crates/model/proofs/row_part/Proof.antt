@@ -1,8 +1,7 @@
 -- `row_part` meets its contract: a valid file's row entries are in order and within its edge table.
 use native.Mathlib.Omega.{arith}
-use mathlib.Core.Path.{sym, _∙_}
 use denote.Ref.{now}
-use Rattle.model.proofs.Laws.{row-end-le, succs-row, valid-facts, valid-sizes}
+use Rattle.model.proofs.Laws.{row-end-le, steps-succs, valid-facts, valid-sizes}
 use Rattle.model.proofs.row_part.Statement.{statement}
 use Rattle.model.proofs.row_part.Tie as tie
 
@@ -16,8 +15,7 @@ row-requires c κs =
 returns : tie.Need-returns
 returns c =
     let a = c .before .before .args in
-    let S = valid-sizes (c .before .before .pre .0) in
-    c .row .ensures ∙ sym (succs-row (now (a .file)) (a .s) (omega arith))
+    steps-succs (now (a .file)) (a .h) (a .s) _ (omega arith) (c .row .ensures)
 
 pub row-part-spec : {M : Type 1} → statement M
 row-part-spec = tie.close (tie.spec row-requires returns)

@@ -7,7 +7,7 @@ use native.Mathlib.Omega.{arith}
 use Rattle.lasso.specs.Rounds.{roundLength, bestLength, withRound}
 use Rattle.lasso.specs.Values.{recordOf}
 use Rattle.lasso.proofs.RoundLaws.{candidates-length-le, candidate-at-state}
-use Rattle.model.specs.Model.{graphOf}
+use Rattle.model.specs.Model.{graphIn}
 use Rattle.model.proofs.Laws.{valid-sizes, valid-well-formed}
 use Rattle.rounds.proofs.Laws.{limit-le, withRound-limit, roundLength-le}
 use Rattle.rounds.proofs.after_round.Statement.{statement}
@@ -24,7 +24,7 @@ round-requires c κs =
     let sizes = valid-sizes (start .pre .0 .valid) in (
       start .pre .0,
       (
-        omega (arith, start .pre .1 .1, candidate-at-state (graphOf (a .file .now)) (a .so-far .done) (start .pre .1 .0)),
+        omega (arith, start .pre .1 .1, candidate-at-state (graphIn (a .file .now) (a .h)) (a .so-far .done) (start .pre .1 .0)),
         limit-le (bestLength (recordOf (a .so-far))) (a .h .states) (limit .limit-of .result) (limit .limit-of .ensures),
       ),
     )
@@ -33,7 +33,7 @@ with-round-requires : tie.Need-with-round-requires
 with-round-requires c κs =
     let start = c .before .before .before .before .before .before .before in
     let sizes = valid-sizes (start .pre .0 .valid) in
-    omega (arith, start .pre .1 .0, candidates-length-le (graphOf (start .args .file .now)))
+    omega (arith, start .pre .1 .0, candidates-length-le (graphIn (start .args .file .now) (start .args .h)))
 
 same-length : tie.Need-same-length
 same-length c = search needs
@@ -44,7 +44,7 @@ returns c =
     let limit = done .before .before in
     let start = limit .before .before .before in
     let a = start .args in
-    let g = graphOf (a .file .now) in
+    let g = graphIn (a .file .now) (a .h) in
     let valid = start .pre .0 .valid in
     let sizes = valid-sizes valid in
     let at = start .pre .1 .1 in

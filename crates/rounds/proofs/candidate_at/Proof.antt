@@ -6,14 +6,14 @@ use mathlib.Core.Logic.{⊎-elim}
 use native.Mathlib.Omega.{arith}
 use lib.ListN.{getD}
 use Rattle.lasso.specs.Rounds.{candidates}
-use Rattle.model.specs.Model.{graphOf}
+use Rattle.model.specs.Model.{graphIn}
 use Rattle.model.proofs.Laws.{valid-sizes}
 use Rattle.rounds.proofs.CandidateLaws.{Counted, counted-none, counted-yes, counted-no, counted-at, counted-inside}
 use Rattle.rounds.proofs.candidate_at.Statement.{statement}
 use Rattle.rounds.proofs.candidate_at.Tie as tie
 
 abbrev Inv-loop : tie.InvT-loop
-Inv-loop file h work place before₀ s₀ before s = (before ≤ place) × (before ≤ s) × Counted (graphOf file) before s
+Inv-loop file h work place before₀ s₀ before s = (before ≤ place) × (before ≤ s) × Counted (graphIn file h) before s
 
 abbrev μ-loop : tie.MeasureT-loop
 μ-loop file h work place before₀ s₀ before s = h .states - s
@@ -23,11 +23,11 @@ abbrev start : tie.At-loop Inv-loop μ-loop → tie.Start Inv-loop μ-loop
 start c = c .before .before .before
 
 -- the loop has not passed the last state
-inside : (c : tie.At-loop Inv-loop μ-loop) → c .loop .s < graphOf (start c .args .file .now) .size
+inside : (c : tie.At-loop Inv-loop μ-loop) → c .loop .s < graphIn (start c .args .file .now) (start c .args .h) .size
 inside c = counted-inside (omega (arith, start c .pre .1, c .loop .inv .0)) (c .loop .inv .2)
 
 loop-holds : tie.Need-loop-holds Inv-loop μ-loop
-loop-holds c = (omega arith, omega arith, counted-none (graphOf (c .before .before .args .file .now)))
+loop-holds c = (omega arith, omega arith, counted-none (graphIn (c .before .before .args .file .now) (c .before .before .args .h)))
 
 is-candidate-requires : tie.Need-is-candidate-requires Inv-loop μ-loop
 is-candidate-requires c κs =
@@ -39,7 +39,7 @@ returns c =
     let tested = c .before .before in
     let at = tested .before in
     let there = counted-at (inside at) (sym (tested .is-candidate .ensures) ∙ c .before .if1 .taken) (at .loop .inv .2) in
-    sym there ∙ ap (λ (i : ℕ). getD (candidates (graphOf (start at .args .file .now))) i 0) (c .if2 .taken)
+    sym there ∙ ap (λ (i : ℕ). getD (candidates (graphIn (start at .args .file .now) (start at .args .h))) i 0) (c .if2 .taken)
 
 add-before : tie.Need-add-before Inv-loop μ-loop
 add-before c = omega (arith, c .before .before .before .loop .inv .0)

@@ -4,7 +4,7 @@ use mathlib.Core.Path.{sym, _∙_}
 use mathlib.Core.Logic.{⊎-elim}
 use borrow.Author.Needs.{needs}
 use native.Mathlib.Omega.{arith}
-use Rattle.model.specs.Model.{graphOf}
+use Rattle.model.specs.Model.{graphIn}
 use Rattle.model.proofs.Laws.{valid-sizes}
 use Rattle.rounds.proofs.CandidateLaws.{Counted, counted-none, counted-yes, counted-no, counted-all}
 use Rattle.rounds.proofs.count_candidates.Statement.{statement}
@@ -12,13 +12,13 @@ use Rattle.rounds.proofs.count_candidates.Tie as tie
 
 abbrev Inv-loop : tie.InvT-loop
 Inv-loop file h work states count₀ s₀ count s =
-    (s ≤ states) × (count ≤ s) × Counted (graphOf file) count s
+    (s ≤ states) × (count ≤ s) × Counted (graphIn file h) count s
 
 abbrev μ-loop : tie.MeasureT-loop
 μ-loop file h work states count₀ s₀ count s = states - s
 
 loop-holds : tie.Need-loop-holds Inv-loop μ-loop
-loop-holds c = (omega arith, omega arith, counted-none (graphOf (c .before .before .args .file .now)))
+loop-holds c = (omega arith, omega arith, counted-none (graphIn (c .before .before .args .file .now) (c .before .before .args .h)))
 
 is-candidate-requires : tie.Need-is-candidate-requires Inv-loop μ-loop
 is-candidate-requires c κs = search needs
@@ -37,7 +37,7 @@ loop-again c =
     let at = c .before .before .before in
     let sizes = valid-sizes (at .before .before .before .pre .valid) in
     let test = sym (c .before .is-candidate .ensures) in
-    let inside : at .loop .s < graphOf (at .before .before .before .args .file .now) .size = omega arith in
+    let inside : at .loop .s < graphIn (at .before .before .before .args .file .now) (at .before .before .before .args .h) .size = omega arith in
     ⊎-elim (λ w. (omega arith, omega arith, rw (w .1) (counted-yes inside (test ∙ w .0 .taken) (at .loop .inv .2))))
     (λ w. (omega arith, omega arith, rw (w .1) (counted-no inside (test ∙ w .0 .left) (at .loop .inv .2)))) (c .if1 .came)
 

@@ -5,7 +5,7 @@ use mathlib.Core.Path.{sym, _∙_}
 use mathlib.Core.Logic.{⊎-elim}
 use native.Mathlib.Omega.{arith}
 use Rattle.lasso.specs.Values.{recordOf}
-use Rattle.model.specs.Model.{graphOf}
+use Rattle.model.specs.Model.{graphIn}
 use Rattle.model.proofs.Laws.{valid-sizes}
 use Rattle.table.specs.Changes.{SameOutside}
 use Rattle.table.proofs.Laws.{sameOutside-refl, sameOutside-trans}
@@ -17,7 +17,7 @@ use Rattle.rounds.proofs.run_rounds.Tie as tie
 
 abbrev Inv-loop : tie.InvT-loop
 Inv-loop file h work₀ allowance n record₀ s₀ work «record» s =
-    (s ≤ n) × SameOutside (2 * n) (6 * n) work₀ work × Underway (graphOf file) allowance s (recordOf «record»)
+    (s ≤ n) × SameOutside (2 * n) (6 * n) work₀ work × Underway (graphIn file h) allowance s (recordOf «record»)
 
 abbrev μ-loop : tie.MeasureT-loop
 μ-loop file h work₀ allowance n record₀ s₀ work «record» s = n - s
@@ -25,7 +25,7 @@ abbrev μ-loop : tie.MeasureT-loop
 loop-holds : tie.Need-loop-holds Inv-loop μ-loop
 loop-holds c =
     let start = c .before .before in
-    (omega arith, sameOutside-refl _ _ _, underway-none (graphOf (start .args .file .now)) (start .args .allowance))
+    (omega arith, sameOutside-refl _ _ _, underway-none (graphIn (start .args .file .now) (start .args .h)) (start .args .allowance))
 
 cast-done : tie.Need-cast-done Inv-loop μ-loop
 cast-done c = omega arith
@@ -50,7 +50,7 @@ after-round-requires c κs =
     let ready = at .before .before .before .pre in
     let sizes = valid-sizes (ready .valid) in
     let test = sym (tested .is-candidate .ensures) ∙ c .before .if2 .taken in
-    let inside : at .loop .s < graphOf (at .before .before .before .args .file .now) .size = omega arith in
+    let inside : at .loop .s < graphIn (at .before .before .before .args .file .now) (at .before .before .before .args .h) .size = omega arith in
     let counted = at .loop .inv .2 .counted in
     (ready-kept ready (at .loop .inv .1), (counted-left inside test counted, sym (counted-at inside test counted)))
 
@@ -66,7 +66,7 @@ loop-again c =
     let at = c .before .before .before .before .before .before in
     let start = at .before .before .before in
     let sizes = valid-sizes (start .pre .valid) in
-    let inside : at .loop .s < graphOf (start .args .file .now) .size = omega arith in
+    let inside : at .loop .s < graphIn (start .args .file .now) (start .args .h) .size = omega arith in
     let (within, same, underway) = at .loop .inv in
     ⊎-elim
     (λ w. (omega arith, rw (w .5) (sameOutside-trans same (w .2 .ensures .1)), rw (w .6) (underway-yes inside (test ∙ w .0 .taken) (omega arith) (w .2 .ensures .0) underway)))

@@ -1,5 +1,6 @@
 -- `rounds::start_distances` meets its contract: the distances found in region 2 are copied to region 0.
 use borrow.Author.Needs.{needs}
+use mathlib.Core.Path.{refl}
 use native.Mathlib.Omega.{arith}
 use Rattle.model.proofs.Laws.{valid-sizes}
 use Rattle.rounds.proofs.TableLaws.{started}
@@ -25,8 +26,7 @@ returns : tie.Need-returns
 returns c =
     let copied = c .before .before in
     let found = copied .before .before .before .before in
-    let sizes = valid-sizes (found .before .before .before .before .pre .0) in
-    started (sizes .states-are) (sizes .start-is) (found .distances .ensures) (copied .copy-down .ensures)
+    started refl refl (found .distances .ensures) (copied .copy-down .ensures)
 
 pub start-distances-spec : {M : Type 1} → statement M
 start-distances-spec =

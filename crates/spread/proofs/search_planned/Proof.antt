@@ -9,12 +9,12 @@ use lib.ListN.{length, getD}
 use lib.Dec.{T}
 use Rattle.lasso.specs.Graph.{Graph, edgeb}
 use Rattle.lasso.proofs.Tests.{at-memb}
-use Rattle.model.specs.Model.{graphOf}
+use Rattle.model.specs.Model.{graphIn}
 use Rattle.model.proofs.Laws.{Sizes, valid-sizes, valid-well-formed}
-use Rattle.spread.specs.Regions.{entry, queued}
-use Rattle.spread.specs.Buckets.{Planned, HasPlan}
-use Rattle.spread.specs.Search.{State}
-use Rattle.spread.proofs.PushLaws.{queue-room}
+use Rattle.frontier.specs.Regions.{entry, queued}
+use Rattle.frontier.specs.Buckets.{Planned, HasPlan}
+use Rattle.frontier.specs.Search.{State}
+use Rattle.frontier.proofs.PushLaws.{queue-room}
 use Rattle.spread.proofs.RowLaws.{Row, queued-entry, planned-state, row-start, row-inside, row-hit, row-step, row-done, level-done}
 use Rattle.spread.proofs.EndLaws.{found, exhausted}
 use Rattle.spread.proofs.search_planned.Statement.{statement}
@@ -23,8 +23,8 @@ use Rattle.spread.proofs.search_planned.Tie as tie
 abbrev Inv-loop2 : tie.InvT-loop2
 Inv-loop2 file h work₀ limit target n queue level at tail₀ end s part d k₀ work tail k =
     (tail₀ ≤ tail) ×
-    ((w : List ℕ) → Row n (graphOf file .succs) limit target w (level + 1) (queued n at) (queued n end) (queued n tail₀) s k₀ work₀ →
-    Row n (graphOf file .succs) limit target w (level + 1) (queued n at) (queued n end) (queued n tail) s k work)
+    ((w : List ℕ) → Row n (graphIn file h .succs) limit target w (level + 1) (queued n at) (queued n end) (queued n tail₀) s k₀ work₀ →
+    Row n (graphIn file h .succs) limit target w (level + 1) (queued n at) (queued n end) (queued n tail) s k work)
 
 abbrev μ-loop2 : tie.MeasureT-loop2
 μ-loop2 file h work₀ limit target n queue level at tail₀ end s part d k₀ work tail k = d - k
@@ -32,8 +32,8 @@ abbrev μ-loop2 : tie.MeasureT-loop2
 abbrev Inv-loop : tie.InvT-loop
 Inv-loop file h work₀ limit target n queue level at₀ tail₀ end work at tail =
     (at₀ ≤ at) × (tail₀ ≤ tail) ×
-    ((w : List ℕ) → State n (graphOf file .succs) limit target w (level + 1) (queued n at₀) (queued n end) (queued n tail₀) work₀ →
-    State n (graphOf file .succs) limit target w (level + 1) (queued n at) (queued n end) (queued n tail) work)
+    ((w : List ℕ) → State n (graphIn file h .succs) limit target w (level + 1) (queued n at₀) (queued n end) (queued n tail₀) work₀ →
+    State n (graphIn file h .succs) limit target w (level + 1) (queued n at) (queued n end) (queued n tail) work)
 
 abbrev μ-loop : tie.MeasureT-loop
 μ-loop file h work₀ limit target n queue level at₀ tail₀ end work at tail = end - at
@@ -41,8 +41,8 @@ abbrev μ-loop : tie.MeasureT-loop
 abbrev Inv-levels : tie.InvT-levels
 Inv-levels file h work₀ limit target n queue level₀ at₀ tail₀ work level at tail =
     (level ≤ limit) × (at₀ ≤ at) × (tail₀ ≤ tail) ×
-    ((w : List ℕ) → State n (graphOf file .succs) limit target w level₀ (queued n at₀) (queued n at₀) (queued n tail₀) work₀ →
-    State n (graphOf file .succs) limit target w level (queued n at) (queued n at) (queued n tail) work)
+    ((w : List ℕ) → State n (graphIn file h .succs) limit target w level₀ (queued n at₀) (queued n at₀) (queued n tail₀) work₀ →
+    State n (graphIn file h .succs) limit target w level (queued n at) (queued n at) (queued n tail) work)
 
 abbrev μ-levels : tie.MeasureT-levels
 μ-levels file h work₀ limit target n queue level₀ at₀ tail₀ work level at tail = limit - level
@@ -92,7 +92,7 @@ end-of c = c .before .before .before .admit .result
 
 -- the file's graph
 abbrev graph : Start → Graph
-graph c = graphOf (c .args .file .now)
+graph c = graphIn (c .args .file .now) (c .args .h)
 
 -- the numbers of the file and its header
 sizes : (c : Start) → Sizes (c .args .file .now) (c .args .h)
@@ -233,11 +233,7 @@ same-length c =
 returns : tie.Need-returns Inv-loop2 μ-loop2 Inv-loop μ-loop Inv-levels μ-levels
 returns c =
     let s = start (c .before) in
-    let a = s .args in
-    let l = c .before .levels in
-    λ w P.
-    exhausted (valid-well-formed (s .pre .0)) (omega arith)
-    (subst (λ (n : ℕ). State n (graph s .succs) (a .limit) (a .target) w (l .level) (queued (a .h .states) (l .at)) (queued (a .h .states) (l .at)) (queued (a .h .states) (l .tail)) (l .work)) (sizes s .states-are) (level-from (c .before) w P))
+    λ w P. exhausted {g = graph s} (valid-well-formed (s .pre .0)) (omega arith) (level-from (c .before) w P)
 
 admit-requires : tie.Need-admit-requires Inv-loop2 μ-loop2 Inv-loop μ-loop Inv-levels μ-levels
 admit-requires c κs =
@@ -354,10 +350,9 @@ returns-2 c =
     let r = t .before .before in
     let l = level-of (queue-of r) in
     let s = start l in
-    let a = s .args in
     λ w P.
-    let R = subst (λ (n : ℕ). Row n (graph s .succs) (a .limit) (a .target) w (l .levels .level + 1) (queued (a .h .states) (queue-of r .loop .at)) (queued (a .h .states) (end-of (queue-of r))) (queued (a .h .states) (r .loop2 .tail)) (row-s r) (r .loop2 .k) (r .loop2 .work)) (sizes s .states-are) (row-from r w P) in
-    found (l .levels .level) (valid-well-formed (s .pre .0)) (level-below (queue-of r)) (R .state) (row-hit (l .levels .level) R)
+    let R = row-from r w P in
+    found {g = graph s} (l .levels .level) (valid-well-formed (s .pre .0)) (level-below (queue-of r)) (R .state) (row-hit (l .levels .level) R)
     (subst (λ (x : ℕ). T (edgeb (graph s) (row-s r) x)) (c .if2 .taken) (successor-edge t))
 
 pub search-planned-spec : {M : Type 1} → statement M

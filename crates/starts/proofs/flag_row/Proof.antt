@@ -7,7 +7,7 @@ use lib.ListN.{getD, set}
 use native.Mathlib.Omega.{arith}
 use borrow.Author.Tests.{leb-false}
 use borrow.Author.Needs.{needs}
-use Rattle.model.specs.Model.{graphOf}
+use Rattle.model.specs.Model.{graphIn}
 use Rattle.model.specs.Bytes.{words}
 use Rattle.starts.specs.Flags.{Flagging}
 use Rattle.starts.proofs.StartsFlags.{LowBefore, flagging-none, low-put, low-pass, row-state, row-flagged}
@@ -88,7 +88,7 @@ returns c =
     let s = start (c .before) in
     let row = c .before .before .before .row-part .ensures in
     let d = c .before .before .before .before .get .ensures .0 in
-    row-flagged (graphOf (s .args .file .now)) (s .args .u) row (omega (arith, c .before .before .degree .ensures)) d (c .before .loop .inv .1)
+    row-flagged (graphIn (s .args .file .now) (s .args .h)) (s .args .u) row (omega (arith, c .before .before .degree .ensures)) d (c .before .loop .inv .1)
 
 pub flag-row-spec : {M : Type 1} → statement M
 flag-row-spec =

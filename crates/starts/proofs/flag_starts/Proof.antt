@@ -5,7 +5,7 @@ use mathlib.Core.Path.{_≡_, _∙_}
 use mathlib.Core.Logic.{inl, inr}
 use native.Mathlib.Omega.{arith}
 use borrow.Author.Tests.{eqb-true}
-use Rattle.model.specs.Model.{graphOf}
+use Rattle.model.specs.Model.{graphIn}
 use Rattle.model.proofs.Laws.{valid-sizes, valid-well-formed}
 use Rattle.table.specs.Changes.{Cleared}
 use Rattle.starts.specs.Flags.{Flagging, FlagsRow}
@@ -14,7 +14,7 @@ use Rattle.starts.proofs.flag_starts.Statement.{statement}
 use Rattle.starts.proofs.flag_starts.Tie as tie
 
 abbrev Inv-loop : tie.InvT-loop
-Inv-loop file h work₀ n u₀ work u = (u ≤ n) × Flagging n (EnteredBefore (graphOf file) work₀ u) work₀ work
+Inv-loop file h work₀ n u₀ work u = (u ≤ n) × Flagging n (EnteredBefore (graphIn file h) work₀ u) work₀ work
 
 abbrev μ-loop : tie.MeasureT-loop
 μ-loop file h work₀ n u₀ work u = n - u
@@ -30,14 +30,14 @@ cleared c = c .before .before .before .clear .ensures
 state-passed : (c : tie.Joined1 Inv-loop μ-loop) →
     let l = c .before .before .before .before in
     let w = l .before .before .before .clear .last .0 in
-    Flagging (start l .args .h .states) (EnteredBefore (graphOf (start l .args .file .now)) w (l .loop .u + 1)) w (c .if1 .work)
+    Flagging (start l .args .h .states) (EnteredBefore (graphIn (start l .args .file .now) (start l .args .h)) w (l .loop .u + 1)) w (c .if1 .work)
 state-passed c =
     let l = c .before .before .before .before in
     let s = start l in
     elim (c .if1 .came) [
       | inl w ↦
           let e = w .5 in
-          let row : FlagsRow (graphOf (s .args .file .now)) (s .args .h .states) (l .loop .u) (l .loop .work) (c .if1 .work) =
+          let row : FlagsRow (graphIn (s .args .file .now) (s .args .h)) (s .args .h .states) (l .loop .u) (l .loop .work) (c .if1 .work) =
           rw e (w .2 .ensures) in
           entered-row (valid-well-formed (s .pre .0)) (valid-sizes (s .pre .0) .states-are) (l .loop .inv .1) row
       | inr w ↦

@@ -6,7 +6,7 @@ use mathlib.Core.Logic.{inl, inr}
 use native.Mathlib.Omega.{arith}
 use borrow.Author.Tests.{eqb-true}
 use Rattle.lasso.proofs.RollLaws.{leastLength-range}
-use Rattle.model.specs.Model.{graphOf}
+use Rattle.model.specs.Model.{graphIn}
 use Rattle.model.proofs.Laws.{valid-sizes, valid-well-formed}
 use Rattle.table.specs.Changes.{SameOutside}
 use Rattle.table.proofs.Laws.{sameOutside-widen, sameOutside-trans}
@@ -16,7 +16,7 @@ use Rattle.starts.proofs.prepare.Statement.{statement}
 use Rattle.starts.proofs.prepare.Tie as tie
 
 abbrev Inv-loop : tie.InvT-loop
-Inv-loop file h work₀ length n s₀ work s = (s ≤ n) × Filling (graphOf file) (length .0) s n work₀ work
+Inv-loop file h work₀ length n s₀ work s = (s ≤ n) × Filling (graphIn file h) (length .0) s n work₀ work
 
 abbrev μ-loop : tie.MeasureT-loop
 μ-loop file h work₀ length n s₀ work s = n - s
@@ -39,13 +39,13 @@ ready c = ready-same (6 * start c .args .h .states) (changed c) (start c .pre .0
 length-le : (c : tie.At-loop Inv-loop μ-loop) → start c .args .length .0 ≤ start c .args .h .states
 length-le c =
     let s = start c in
-    omega (arith, leastLength-range (graphOf (s .args .file .now)) (s .args .length .0) (s .pre .1), valid-sizes (s .pre .0 .valid) .states-are)
+    omega (arith, leastLength-range (graphIn (s .args .file .now) (s .args .h)) (s .args .length .0) (s .pre .1), valid-sizes (s .pre .0 .valid) .states-are)
 
 -- one more state is passed
 state-passed : (c : tie.Joined1 Inv-loop μ-loop) →
     let l = c .before .before .before .before in
     let s = start l .args in
-    Filling (graphOf (s .file .now)) (s .length .0) (l .loop .s + 1) (s .h .states) (l .before .before .before .flag-starts .last .1 .1 .0) (c .if1 .work)
+    Filling (graphIn (s .file .now) (s .h)) (s .length .0) (l .loop .s + 1) (s .h .states) (l .before .before .before .flag-starts .last .1 .1 .0) (c .if1 .work)
 state-passed c =
     let l = c .before .before .before .before in
     elim (c .if1 .came) [

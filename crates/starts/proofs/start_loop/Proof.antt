@@ -8,12 +8,12 @@ use borrow.Author.Tests.{eqb-true, eqb-false, ltb-true}
 use borrow.Author.Needs.{needs}
 use Rattle.lasso.specs.Graph.{Graph}
 use Rattle.lasso.specs.Distance.{dist}
-use Rattle.model.specs.Model.{graphOf}
+use Rattle.model.specs.Model.{graphIn}
 use Rattle.model.proofs.Laws.{valid-sizes, valid-well-formed}
 use Rattle.table.proofs.Laws.{sameOutside-refl}
-use Rattle.spread.specs.Regions.{entryOf}
-use Rattle.spread.specs.Hit.{under}
-use Rattle.spread.specs.Through.{loopLength}
+use Rattle.frontier.specs.Regions.{entryOf}
+use Rattle.lasso.specs.Limit.{under}
+use Rattle.walks.specs.Through.{loopLength}
 use Rattle.starts.specs.LoopStarts.{startLoop}
 use Rattle.starts.proofs.StartLaws.{startLoop-iff}
 use Rattle.starts.proofs.StartsEntries.{start-distance, startLoop-unreached, startLoop-far, startLoop-reached}
@@ -24,7 +24,7 @@ abbrev start : tie.After-get → tie.Start
 start c = c .before .before .before .before
 
 abbrev graph : tie.After-get → Graph
-graph c = graphOf (start c .args .file .now)
+graph c = graphIn (start c .args .file .now) (start c .args .h)
 
 -- what was read is the entry of the distance from the initial state
 distance-entry : (c : tie.After-get) → c .get .result ≡ entryOf (dist (graph c) (graph c .start) (start c .args .s))

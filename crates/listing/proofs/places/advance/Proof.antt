@@ -5,7 +5,7 @@ use Prim.Native.Nat.{_-_, _+_}
 use mathlib.Core.Path.{ap}
 use native.Mathlib.Omega.{arith}
 use lib.ListN.{set}
-use Rattle.model.specs.Model.{graphOf}
+use Rattle.model.specs.Model.{graphIn}
 use Rattle.follow.specs.Follow.{upTo}
 use Rattle.listing.specs.Places.{LeastFollower, Completed}
 use Rattle.listing.proofs.PlacesTable.{length-fits, put-asks, same-kept}
@@ -32,7 +32,7 @@ raise c =
 found : (c : tie.After-next Inv-loop μ-loop)
     → let get = c .before .before .before .before .before .before in
     let at = get .before .before .before in
-    let g = graphOf (at .before .before .before .before .args .file .now) in
+    let g = graphIn (at .before .before .before .before .args .file .now) (at .before .before .before .before .args .h) in
     LeastFollower g (at .before .before .before .before .args .length .0) (upTo g (at .loop .work) (at .loop .place - 1)) (get .get .result + 1) (c .next .given .0 .0)
 found c = rw (c .next .given .1) at (c .before .before .before .before .least-follower .ensures .0)
 
@@ -41,7 +41,7 @@ completed : (c : tie.After-complete Inv-loop μ-loop)
     → let store = c .before .before .before .before in
     let next = store .before .before .before in
     let a = next .before .before .before .before .before .before .before .before .before .before .before .before .before .args in
-    Completed (graphOf (a .file .now)) (a .length .0) (next .before .before .before .before .before .before .before .before .before .loop .place - 1 + 1)
+    Completed (graphIn (a .file .now) (a .h)) (a .length .0) (next .before .before .before .before .before .before .before .before .before .loop .place - 1 + 1)
     (set (next .before .before .before .before .least-follower .last .1 .1 .0) (next .before .before .before .before .before .before .before .before .before .loop .place - 1) (next .next .given .0 .0))
     (c .complete .last .1 .1 .0)
 completed c = rw (c .before .before .before .before .put .ensures) at (c .complete .ensures)

@@ -7,7 +7,7 @@ use native.Mathlib.Omega.{arith}
 use lib.ListN.{length, getD}
 use Rattle.lasso.proofs.PlaceByPlace.{Extends}
 use Rattle.model.specs.Bytes.{words}
-use Rattle.model.specs.Model.{graphOf}
+use Rattle.model.specs.Model.{graphIn}
 use Rattle.table.proofs.Laws.{sameOutside-trans}
 use Rattle.follow.specs.Follow.{Decides, upTo}
 use Rattle.listing.proofs.PlacesExtend.{extends-path}
@@ -19,7 +19,7 @@ use Rattle.listing.proofs.places.first_follower.Tie as tie
 
 abbrev Inv-loop : tie.InvT-loop
 Inv-loop file h work₀ length place s part d tried₀ work tried =
-    Tried (graphOf file) (h .states) (length .0) (upTo (graphOf file) work₀ place) 0 (graphOf file .succs s) work₀ work tried × (tried < d)
+    Tried (graphIn file h) (h .states) (length .0) (upTo (graphIn file h) work₀ place) 0 (graphIn file h .succs s) work₀ work tried × (tried < d)
 
 abbrev μ-loop : tie.MeasureT-loop
 μ-loop file h work₀ length place s part d tried₀ work tried = d - tried
@@ -30,28 +30,28 @@ row : (c : tie.After-list-at Inv-loop μ-loop)
 row c =
     let p = c .before .before .before .before .pre in
     let a = c .before .before .before .before .args in
-    let g = graphOf (a .file .now) in
+    let g = graphIn (a .file .now) (a .h) in
     read-row (p .0) (p .1 .0) (extends-path g (a .length .0) (upTo g (a .work .now) (a .place)) (p .1 .1)) (c .list-at .ensures)
 
 -- the number of the last state's successors
 degree : (c : tie.After-degree Inv-loop μ-loop)
-    → c .degree .result ≡ length (graphOf (c .before .before .before .before .before .before .args .file .now) .succs (c .before .before .list-at .result))
+    → c .degree .result ≡ length (graphIn (c .before .before .before .before .before .before .args .file .now) (c .before .before .before .before .before .before .args .h) .succs (c .before .before .list-at .result))
 degree c = c .degree .ensures ∙ ap length (c .before .row-part .ensures)
 
 -- the entry of the row's part at the place reached is the successor there
 entry-at : (c : tie.At-loop Inv-loop μ-loop) (t : ℕ) → t ≡ getD (words (c .before .before .row-part .result .now)) (c .loop .tried) 0
-    → t ≡ getD (graphOf (c .before .before .before .before .before .before .before .args .file .now) .succs (c .before .before .before .list-at .result)) (c .loop .tried) 0
+    → t ≡ getD (graphIn (c .before .before .before .before .before .before .before .args .file .now) (c .before .before .before .before .before .before .before .args .h) .succs (c .before .before .before .list-at .result)) (c .loop .tried) 0
 entry-at c t e = e ∙ ap (λ (ts : List ℕ). getD ts (c .loop .tried) 0) (c .before .before .row-part .ensures)
 
 -- the successor at the place reached is one of the row
 within : (c : tie.At-loop Inv-loop μ-loop)
-    → c .loop .tried < length (graphOf (c .before .before .before .before .before .before .before .args .file .now) .succs (c .before .before .before .list-at .result))
+    → c .loop .tried < length (graphIn (c .before .before .before .before .before .before .before .args .file .now) (c .before .before .before .before .before .before .before .args .h) .succs (c .before .before .before .list-at .result))
 within c = omega (arith, c .loop .inv .1, degree (c .before))
 
 -- what the test of the successor answers
 answer : (c : tie.After-may-follow Inv-loop μ-loop)
     → let a = c .before .before .before .before .before .before .before .before .before .before .before .args in
-    Decides (Extends (graphOf (a .file .now)) (a .length .0) (upTo (graphOf (a .file .now)) (a .work .now) (a .place) ++ c .before .before .successor .result ∷ [])) (c .may-follow .result)
+    Decides (Extends (graphIn (a .file .now) (a .h)) (a .length .0) (upTo (graphIn (a .file .now) (a .h)) (a .work .now) (a .place) ++ c .before .before .successor .result ∷ [])) (c .may-follow .result)
 answer c =
     let at = c .before .before .before .before in
     test-answers (c .before .before .successor .result) (c .may-follow .result) (row (at .before .before .before)) (at .loop .inv .0 .same) (c .may-follow .ensures .0)

@@ -7,7 +7,7 @@ use mathlib.Core.List.{List, [], _∷_, _++_}
 use native.Mathlib.Omega.{arith}
 use lib.ListN.{length, getD}
 use Rattle.lasso.proofs.PlaceByPlace.{Extends}
-use Rattle.model.specs.Model.{graphOf}
+use Rattle.model.specs.Model.{graphIn}
 use Rattle.table.proofs.Laws.{sameOutside-refl, sameOutside-trans}
 use Rattle.follow.specs.Follow.{Decides, upTo}
 use Rattle.listing.proofs.PlacesFollower.{Tried, tried-none, tried-more, tried-found, tried-all}
@@ -17,7 +17,7 @@ use Rattle.listing.proofs.places.least_follower.Statement.{statement}
 use Rattle.listing.proofs.places.least_follower.Tie as tie
 
 abbrev Inv-loop : tie.InvT-loop
-Inv-loop file h work₀ length place bound s part d k₀ work k = Tried (graphOf file) (h .states) (length .0) (upTo (graphOf file) work₀ place) bound (graphOf file .succs s) work₀ work k
+Inv-loop file h work₀ length place bound s part d k₀ work k = Tried (graphIn file h) (h .states) (length .0) (upTo (graphIn file h) work₀ place) bound (graphIn file h .succs s) work₀ work k
 
 abbrev μ-loop : tie.MeasureT-loop
 μ-loop file h work₀ length place bound s part d k₀ work k = d - k
@@ -31,23 +31,23 @@ row c =
 
 -- the number of its successors
 degree : (c : tie.After-degree Inv-loop μ-loop)
-    → c .degree .result ≡ length (graphOf (c .before .before .before .before .before .before .args .file .now) .succs (c .before .before .list-at .result))
+    → c .degree .result ≡ length (graphIn (c .before .before .before .before .before .before .args .file .now) (c .before .before .before .before .before .before .args .h) .succs (c .before .before .list-at .result))
 degree c = c .degree .ensures ∙ ap length (c .before .row-part .ensures)
 
 -- the successor at k stands at place k of the row
 successor-at : (c : tie.After-successor Inv-loop μ-loop)
-    → c .successor .result ≡ getD (graphOf (c .before .before .before .before .before .before .before .before .before .args .file .now) .succs (c .before .before .before .before .before .list-at .result)) (c .before .before .loop .k) 0
+    → c .successor .result ≡ getD (graphIn (c .before .before .before .before .before .before .before .before .before .args .file .now) (c .before .before .before .before .before .before .before .before .before .args .h) .succs (c .before .before .before .before .before .list-at .result)) (c .before .before .loop .k) 0
 successor-at c = c .successor .ensures ∙ ap (λ (ts : List ℕ). getD ts (c .before .before .loop .k) 0) (c .before .before .before .before .row-part .ensures)
 
 -- the successor at k is one of the row
 within : (c : tie.In-loop Inv-loop μ-loop)
-    → c .before .loop .k < length (graphOf (c .before .before .before .before .before .before .before .before .args .file .now) .succs (c .before .before .before .before .list-at .result))
+    → c .before .loop .k < length (graphIn (c .before .before .before .before .before .before .before .before .args .file .now) (c .before .before .before .before .before .before .before .before .args .h) .succs (c .before .before .before .before .list-at .result))
 within c = omega (arith, c .loop-test .taken, degree (c .before .before))
 
 -- what the test of the successor answers
 answer : (c : tie.After-may-follow Inv-loop μ-loop)
     → let a = c .before .before .before .before .before .before .before .before .before .before .before .before .args in
-    Decides (Extends (graphOf (a .file .now)) (a .length .0) (upTo (graphOf (a .file .now)) (a .work .now) (a .place) ++ c .before .before .before .successor .result ∷ [])) (c .may-follow .result)
+    Decides (Extends (graphIn (a .file .now) (a .h)) (a .length .0) (upTo (graphIn (a .file .now) (a .h)) (a .work .now) (a .place) ++ c .before .before .before .successor .result ∷ [])) (c .may-follow .result)
 answer c =
     let at = c .before .before .before .before .before in
     test-answers (c .before .before .before .successor .result) (c .may-follow .result) (row (at .before .before .before)) (at .loop .inv .same) (c .may-follow .ensures .0)
@@ -96,7 +96,7 @@ tested : (c : tie.Else2 Inv-loop μ-loop)
     → let test = c .before .before .before in
     let at = test .before .before .before .before .before in
     let a = at .before .before .before .before .before .before .before .args in
-    Tried (graphOf (a .file .now)) (a .h .states) (a .length .0) (upTo (graphOf (a .file .now)) (a .work .now) (a .place)) (a .bound) (graphOf (a .file .now) .succs (at .before .before .before .list-at .result)) (a .work .now) (test .may-follow .last .1 .1 .0) (at .loop .k + 1)
+    Tried (graphIn (a .file .now) (a .h)) (a .h .states) (a .length .0) (upTo (graphIn (a .file .now) (a .h)) (a .work .now) (a .place)) (a .bound) (graphIn (a .file .now) (a .h) .succs (at .before .before .before .list-at .result)) (a .work .now) (test .may-follow .last .1 .1 .0) (at .loop .k + 1)
 tested c =
     let test = c .before .before .before in
     let at = test .before .before .before .before .before in

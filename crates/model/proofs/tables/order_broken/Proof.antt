@@ -32,13 +32,13 @@ row-tested : (c : tie.After-ascends Inv-loop μ-loop) →
 row-tested c = c .ascends .ensures ∙ ap ascendingb (c .before .row .ensures)
 
 loop-holds : tie.Need-loop-holds Inv-loop μ-loop
-loop-holds c = rw (c .before .pre .0 .0) (left-below (unordered (now (c .before .args .file))) _)
+loop-holds c = rw (c .before .pre .0 .states-are) (left-below (unordered (now (c .before .args .file))) _)
 
 row-requires : tie.Need-row-requires Inv-loop μ-loop
 row-requires c κs =
     let start = c .before .before .before in
     let file = now (start .args .file) in
-    let kept : T (not (badRows file)) = rw (start .pre .1 .1) tt in
+    let kept : T (not (badRows file)) = rw (start .pre .1) tt in
     let up = rows-ascend-kept file kept in
     let s = c .before .loop .s in
     omega (arith, up s (omega arith), row-end-within file up (row-last-kept file kept) s (omega arith))

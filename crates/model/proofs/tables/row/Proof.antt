@@ -5,17 +5,11 @@ use borrow.Author.Needs.{needs}
 use Rattle.model.proofs.tables.row.Statement.{statement}
 use Rattle.model.proofs.tables.row.Tie as tie
 
-add-base : tie.Need-add-base
-add-base c = search needs
+edges-at-requires : tie.Need-edges-at-requires
+edges-at-requires c κs = search needs
 
-mul-base : tie.Need-mul-base
-mul-base c = search needs
-
-add-base-2 : tie.Need-add-base-2
-add-base-2 c = search needs
-
-entry-requires : tie.Need-entry-requires
-entry-requires c κs = search needs
+row-entry-requires : tie.Need-row-entry-requires
+row-entry-requires c κs = search needs
 
 mul-from : tie.Need-mul-from
 mul-from c = search needs
@@ -23,11 +17,11 @@ mul-from c = search needs
 add-from : tie.Need-add-from
 add-from c = search needs
 
-add-entry : tie.Need-add-entry
-add-entry c = search needs
+add-row-entry : tie.Need-add-row-entry
+add-row-entry c = search needs
 
-entry-requires-2 : tie.Need-entry-requires-2
-entry-requires-2 c κs = search needs
+row-entry-requires-2 : tie.Need-row-entry-requires-2
+row-entry-requires-2 c κs = search needs
 
 mul-to : tie.Need-mul-to
 mul-to c = search needs
@@ -46,25 +40,25 @@ part-result-end c = search needs
 
 returns : tie.Need-returns
 returns c =
-    let start = c .before .before .before .before in
+    let base = c .before .before .before in
+    let start = base .before .before in
     let a = start .args in
-    let from = c .before .before .entry in
-    let to = c .before .entry2 in
-    words-row (now (a .file)) (a .n) (a .s) (from .result) (to .result) (start .pre .0) (from .ensures .0) (to .ensures .0)
-    (search needs) (search needs)
+    let from = c .before .before .row-entry in
+    let to = c .before .row-entry2 in
+    rw (base .edges-at .ensures)
+    (words-row (now (a .file)) (a .n) (a .s) (from .result) (to .result) (start .pre .0 .0) (from .ensures .0) (to .ensures .0)
+    (search needs) (search needs))
 
 pub row-spec : {M : Type 1} → statement M
 row-spec =
     tie.close
     (tie.spec
-    add-base
-    mul-base
-    add-base-2
-    entry-requires
+    edges-at-requires
+    row-entry-requires
     mul-from
     add-from
-    add-entry
-    entry-requires-2
+    add-row-entry
+    row-entry-requires-2
     mul-to
     add-to
     sub-result

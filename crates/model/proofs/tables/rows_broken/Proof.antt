@@ -26,10 +26,10 @@ abbrev μ-loop : tie.MeasureT-loop
 
 -- past the first test the first entry is 0
 first-zero : (c : tie.Else1 Inv-loop μ-loop) → eqb (rowEntry (now (c .before .before .before .args .file)) 0) 0 ≡ true
-first-zero c = eq-eqb _ 0 (sym (c .before .entry .ensures .0) ∙ c .if1 .left)
+first-zero c = eq-eqb _ 0 (sym (c .before .row-entry .ensures .0) ∙ c .if1 .left)
 
-entry-requires : tie.Need-entry-requires Inv-loop μ-loop
-entry-requires c κs = search needs
+row-entry-requires : tie.Need-row-entry-requires Inv-loop μ-loop
+row-entry-requires c κs = search needs
 
 returns : tie.Need-returns Inv-loop μ-loop
 returns c =
@@ -37,16 +37,16 @@ returns c =
     rw (ne-eqb (rowEntry file 0) 0 (omega arith))
 
 loop-holds : tie.Need-loop-holds Inv-loop μ-loop
-loop-holds c = rw (c .before .before .before .pre .0 .0) (left-below (falls (now (c .before .before .before .args .file))) _)
+loop-holds c = rw (c .before .before .before .pre .states-are) (left-below (falls (now (c .before .before .before .args .file))) _)
 
-add-entry : tie.Need-add-entry Inv-loop μ-loop
-add-entry c = search needs
+add-row-entry : tie.Need-add-row-entry Inv-loop μ-loop
+add-row-entry c = search needs
 
-entry-requires-2 : tie.Need-entry-requires-2 Inv-loop μ-loop
-entry-requires-2 c κs = search needs
+row-entry-requires-2 : tie.Need-row-entry-requires-2 Inv-loop μ-loop
+row-entry-requires-2 c κs = search needs
 
-entry-requires-3 : tie.Need-entry-requires-3 Inv-loop μ-loop
-entry-requires-3 c κs = search needs
+row-entry-requires-3 : tie.Need-row-entry-requires-3 Inv-loop μ-loop
+row-entry-requires-3 c κs = search needs
 
 returns-2 : tie.Need-returns-2 Inv-loop μ-loop
 returns-2 c =
@@ -67,16 +67,16 @@ loop-again c =
     let file = now (at .before .before .before .before .args .file) in
     left-next (at .loop .inv) (search needs) (le-ltb (rowEntry file (at .loop .s + 1)) (rowEntry file (at .loop .s)) (omega arith))
 
-entry-requires-4 : tie.Need-entry-requires-4 Inv-loop μ-loop
-entry-requires-4 c κs = search needs
+row-entry-requires-4 : tie.Need-row-entry-requires-4 Inv-loop μ-loop
+row-entry-requires-4 c κs = search needs
 
 returns-3 : tie.Need-returns-3 Inv-loop μ-loop
 returns-3 c =
     let at = c .before .before in
     let start = at .before .before .before .before in
     let none = left-none (at .loop .inv) (c .before .loop-test .left) in
-    let last = rw (start .pre .0 .0) at (c .entry4 .ensures .0) in
-    rw (first-zero (at .before), none) (ap₂ (λ (x y : ℕ). not (eqb x y)) last (start .pre .0 .1))
+    let last = rw (start .pre .states-are) at (c .row-entry4 .ensures .0) in
+    rw (first-zero (at .before), none) (ap₂ (λ (x y : ℕ). not (eqb x y)) last (start .pre .edges-are))
 
 pub rows-broken-spec : {M : Type 1} → statement M
 rows-broken-spec =
@@ -84,15 +84,15 @@ rows-broken-spec =
     (tie.spec
     Inv-loop
     μ-loop
-    entry-requires
+    row-entry-requires
     returns
     loop-holds
-    add-entry
-    entry-requires-2
-    entry-requires-3
+    add-row-entry
+    row-entry-requires-2
+    row-entry-requires-3
     returns-2
     add-s
     loop-less
     loop-again
-    entry-requires-4
+    row-entry-requires-4
     returns-3)

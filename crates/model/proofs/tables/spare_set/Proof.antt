@@ -18,35 +18,26 @@ abbrev μ-loop : tie.MeasureT-loop
 
 -- the bit that a turn of the loop reads
 bit-read : (c : tie.After-bit Inv-loop μ-loop) →
-    let start = c .before .before .before .before in
+    let start = c .before .before .before .before .before .before in
     c .bit .result ≡ markBit (now (start .args .file)) (c .before .before .loop .s)
 bit-read c =
-    let start = c .before .before .before .before in
-    rw (start .pre .0 .0, start .pre .0 .1) at (c .bit .ensures)
+    let marks = c .before .before .before .before in
+    let start = marks .before .before in
+    rw (marks .marks-at .ensures, start .pre .states-are, start .pre .edges-are) at (c .bit .ensures)
 
-add-marks : tie.Need-add-marks Inv-loop μ-loop
-add-marks c = search needs
+marks-at-requires : tie.Need-marks-at-requires Inv-loop μ-loop
+marks-at-requires c κs = search needs
 
-mul-marks : tie.Need-mul-marks Inv-loop μ-loop
-mul-marks c = search needs
-
-add-marks-2 : tie.Need-add-marks-2 Inv-loop μ-loop
-add-marks-2 c = search needs
-
-mul-marks-2 : tie.Need-mul-marks-2 Inv-loop μ-loop
-mul-marks-2 c = search needs
-
-add-marks-3 : tie.Need-add-marks-3 Inv-loop μ-loop
-add-marks-3 c = search needs
-
-add-end : tie.Need-add-end Inv-loop μ-loop
-add-end c = search needs
+mark-bytes-requires : tie.Need-mark-bytes-requires Inv-loop μ-loop
+mark-bytes-requires c κs = search needs
 
 mul-end : tie.Need-mul-end Inv-loop μ-loop
 mul-end c = search needs
 
 loop-holds : tie.Need-loop-holds Inv-loop μ-loop
-loop-holds c = rw (c .before .pre .0 .0) (left-from (markBit (now (c .before .args .file))) _ _ (omega arith))
+loop-holds c =
+    let start = c .before .before .before in
+    rw (c .mark-bytes .ensures, start .pre .states-are) (left-from (markBit (now (start .args .file))) _ _ (omega arith))
 
 bit-requires : tie.Need-bit-requires Inv-loop μ-loop
 bit-requires c κs = search needs
@@ -72,12 +63,8 @@ spare-set-spec =
     (tie.spec
     Inv-loop
     μ-loop
-    add-marks
-    mul-marks
-    add-marks-2
-    mul-marks-2
-    add-marks-3
-    add-end
+    marks-at-requires
+    mark-bytes-requires
     mul-end
     loop-holds
     bit-requires

@@ -26,28 +26,24 @@ abbrev μ-loop : tie.MeasureT-loop
 
 -- the target that a turn of the loop reads
 target-read : (c : tie.After-entry Inv-loop μ-loop) →
-    let start = c .before .before .before .before in
+    let start = c .before .before .before .before .before in
     c .entry .result ≡ target (now (start .args .file)) (c .before .before .loop .e)
-target-read c = let start = c .before .before .before .before in rw (start .pre .0 .0) at (c .entry .ensures .0)
+target-read c =
+    let base = c .before .before .before in
+    rw (base .edges-at .ensures, base .before .before .pre .states-are) at (c .entry .ensures .0)
 
-add-base : tie.Need-add-base Inv-loop μ-loop
-add-base c = search needs
-
-mul-base : tie.Need-mul-base Inv-loop μ-loop
-mul-base c = search needs
-
-add-base-2 : tie.Need-add-base-2 Inv-loop μ-loop
-add-base-2 c = search needs
+edges-at-requires : tie.Need-edges-at-requires Inv-loop μ-loop
+edges-at-requires c κs = search needs
 
 loop-holds : tie.Need-loop-holds Inv-loop μ-loop
-loop-holds c = rw (c .before .pre .0 .1) (left-below (outside (now (c .before .args .file))) _)
+loop-holds c = rw (c .before .before .pre .edges-are) (left-below (outside (now (c .before .before .args .file))) _)
 
 entry-requires : tie.Need-entry-requires Inv-loop μ-loop
 entry-requires c κs = search needs
 
 returns : tie.Need-returns Inv-loop μ-loop
 returns c =
-    let file = now (c .before .before .before .before .before .args .file) in
+    let file = now (c .before .before .before .before .before .before .args .file) in
     let at = c .before .before .before in
     sym (left-found (at .loop .inv) (c .before .before .loop-test .taken)
     (rw (le-ltb (target file (at .loop .e)) (states file) (omega (arith, target-read (c .before))))))
@@ -60,7 +56,7 @@ loop-less c = search needs
 
 loop-again : tie.Need-loop-again Inv-loop μ-loop
 loop-again c =
-    let file = now (c .before .before .before .before .before .args .file) in
+    let file = now (c .before .before .before .before .before .before .args .file) in
     let at = c .before .before .before in
     left-next (at .loop .inv) (c .before .before .loop-test .taken)
     (rw (lt-ltb (target file (at .loop .e)) (states file) (omega (arith, target-read (c .before)))))
@@ -74,9 +70,7 @@ targets-broken-spec =
     (tie.spec
     Inv-loop
     μ-loop
-    add-base
-    mul-base
-    add-base-2
+    edges-at-requires
     loop-holds
     entry-requires
     returns
