@@ -13,9 +13,9 @@ use current::list_at;
 use lasso::Transitions;
 use model::Header;
 use model::is_marked;
-use spread::distances;
-use spread::from_marks;
 use table::get;
+use walks::distances;
+use walks::from_marks;
 
 // A state that can start the loop of a shortest lasso is reached soon enough.
 fn starts_ahead(work: &[u16], n: usize, left: usize) -> bool

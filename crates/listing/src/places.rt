@@ -42,10 +42,10 @@ fn least_follower(
 {
     let s = list_at(h, work, place);
     let part = row_part(file, h, s);
-    let d = degree(part);
+    let d = degree(part, h, s);
     let mut k = 0;
     while k < d {
-        let t = successor(part, k);
+        let t = successor(part, h, s, k);
         if bound <= t {
             if may_follow(file, h, work, length, place, t) {
                 return Follower::State(t);
@@ -72,16 +72,16 @@ fn first_follower(
 {
     let s = list_at(h, work, place);
     let part = row_part(file, h, s);
-    let d = degree(part);
+    let d = degree(part, h, s);
     let mut tried = 0;
     while tried + 1 < d {
-        let t = successor(part, tried);
+        let t = successor(part, h, s, tried);
         if may_follow(file, h, work, length, place, t) {
             return t;
         }
         tried += 1;
     }
-    successor(part, tried)
+    successor(part, h, s, tried)
 }
 
 // Completes the list after a place, with the least state that may stand at each.

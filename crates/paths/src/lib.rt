@@ -5,41 +5,21 @@ ghost use Prim.Native.Nat.{_≤_, _<_};
 ghost use lib.ListN.{length, getD};
 ghost use lib.Dec.{T, eqb};
 ghost use Rattle.lasso.specs.Lists.{anyb, below};
-ghost use Rattle.lasso.specs.Graph.{edgeb, edges, pathb, loopsb, lassob};
-ghost use Rattle.model.specs.Model.{graphOf};
+ghost use Rattle.lasso.specs.Graph.{edges, pathb, loopsb, lassob};
+ghost use Rattle.model.specs.Model.{graphIn};
 ghost use Rattle.model.specs.Values.{Valid};
 use lasso::Entries;
 use lasso::Transitions;
 use model::Header;
-use model::degree;
+use model::has_edge;
 use model::is_marked;
-use model::row_part;
-use model::successor;
 use table::get;
-
-// There is an edge from s to t.
-fn has_edge(file: &[u8], h: Header, s: usize, t: usize) -> bool
-    requires { ⌜ Valid (now file) h ⌝ }
-    requires { ⌜ s < h .states ⌝ }
-    ensures { λ r. ⌜ r ≡ edgeb (graphOf (now (file .entry))) s t ⌝ }
-{
-    let part = row_part(file, h, s);
-    let d = degree(part);
-    let mut k = 0;
-    while k < d {
-        if successor(part, k) == t {
-            return true;
-        }
-        k += 1;
-    }
-    false
-}
 
 // The list is a path from the start: each entry but the last has an edge to the next.
 pub fn is_path(file: &[u8], h: Header, list: &[u16]) -> bool
     requires { ⌜ Valid (now file) h ⌝ }
     requires { ⌜ 1 ≤ length (now list) ⌝ }
-    ensures { λ r. ⌜ r ≡ (eqb (getD (now (list .entry)) 0 0) (h .start) && pathb (graphOf (now (file .entry))) (now (list .entry))) ⌝ }
+    ensures { λ r. ⌜ r ≡ (eqb (getD (now (list .entry)) 0 0) (h .start) && pathb (graphIn (now (file .entry)) h) (now (list .entry))) ⌝ }
 {
     if get(list, 0) != h.start {
         return false;
@@ -60,8 +40,8 @@ pub fn is_path(file: &[u8], h: Header, list: &[u16]) -> bool
 pub fn closes(file: &[u8], h: Header, list: &[u16]) -> bool
     requires { ⌜ Valid (now file) h ⌝ }
     requires { ⌜ 1 ≤ length (now list) ⌝ }
-    requires { ⌜ (getD (now list) 0 0 ≡ h .start) × T (pathb (graphOf (now file)) (now list)) ⌝ }
-    ensures { λ r. ⌜ r ≡ anyb (loopsb (graphOf (now (file .entry))) (now (list .entry))) (below (edges (now (list .entry)))) ⌝ }
+    requires { ⌜ (getD (now list) 0 0 ≡ h .start) × T (pathb (graphIn (now file) h) (now list)) ⌝ }
+    ensures { λ r. ⌜ r ≡ anyb (loopsb (graphIn (now (file .entry)) h) (now (list .entry))) (below (edges (now (list .entry)))) ⌝ }
 {
     let end = list.len() - 1;
     let last = get(list, end);
@@ -85,7 +65,7 @@ pub fn closes(file: &[u8], h: Header, list: &[u16]) -> bool
 // The list is a lasso of the given length.
 pub fn is_lasso(file: &[u8], h: Header, list: &[u16], length: Transitions) -> bool
     requires { ⌜ Valid (now file) h ⌝ }
-    ensures { λ r. ⌜ r ≡ (lassob (graphOf (now (file .entry))) (now (list .entry)) && eqb (edges (now (list .entry))) (length .0)) ⌝ }
+    ensures { λ r. ⌜ r ≡ (lassob (graphIn (now (file .entry)) h) (now (list .entry)) && eqb (edges (now (list .entry))) (length .0)) ⌝ }
 {
     let entries = length.entries();
     let given = Entries(list.len());

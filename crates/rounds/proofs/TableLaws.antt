@@ -111,7 +111,7 @@ ready-kept {f} {h} {w} {w'} ready same =
 ready-start : {f : List ℕ} {h : Header} {w w₁ : List ℕ} {r limit : ℕ} → RoundsReady f h w
     → DistancesWithin (graphIn f h) r limit w w₁ → (s : ℕ) → s < graphIn f h .size
     → entry 0 (graphIn f h .size) w₁ s ≡ entryOf (dist (graphIn f h) (graphIn f h .start) s)
-ready-start {f} ready found s l =
+ready-start {f} {h} ready found s l =
     found .outside .same-before (0 * graphIn f h .size + s) (omega arith) ∙ ready .start-distances .distances s l
 
 -- the sums for the first s states stand in region 2, and all other entries are as before
@@ -174,7 +174,7 @@ round-fits {f} {h} {w} {w₁} {r} {limit} ready found s l =
 round-sources : {f : List ℕ} {h : Header} {w w₁ : List ℕ} {r limit : ℕ} (w₂ : List ℕ) → RoundsReady f h w
     → DistancesWithin (graphIn f h) r limit w w₁ → SumsPut (graphIn f h .size) (graphIn f h .size) w₁ w₂ → (s : ℕ) → s < graphIn f h .size
     → sources (graphIn f h .size) limit w₂ s ≡ under limit (sum (dist (graphIn f h) (graphIn f h .start) s) (dist (graphIn f h) r s))
-round-sources {f} {r = r} {limit} w₂ ready found sums s l =
+round-sources {f} {h} {r = r} {limit} w₂ ready found sums s l =
     let g = graphIn f h in
     let a = dist g (g .start) s in
     let b = under (suc limit) (dist g r s) in
@@ -189,9 +189,9 @@ round-length : {f : List ℕ} {h : Header} {w w₁ : List ℕ} {r limit : ℕ} (
     → DistancesWithin (graphIn f h) r limit w w₁ → SumsPut (h .states) (h .states) w₁ w₂
     → under (suc limit) (roundLength (graphIn f h) r)
     ≡ under (suc limit) (hitLength (graphIn f h) (sources (graphIn f h .size) limit w₂) r)
-round-length {f} {r = r} {limit} w₂ ready found sums =
+round-length {f} {h} {r = r} {limit} w₂ ready found sums =
     sym (round-found (graphIn f h) limit r (sources (graphIn f h .size) limit w₂)
-    (round-sources w₂ ready found (rw (valid-sizes (ready .valid) .states-are) at sums)))
+    (round-sources w₂ ready found sums))
 
 -- a length that the search finds is at most the limit
 pub found-le : {g : Graph} {source : ℕ → Option ℕ} {limit target l : ℕ} {w w' : List ℕ}

@@ -83,9 +83,9 @@ low-pass {w = w} {d = d} t e h high a =
 -- what a row of an accepted file holds is a state
 pub row-state : {f ss : List ℕ} {h : Header} {t : ℕ} (u k : ℕ) → Valid f h → ss ≡ graphIn f h .succs u → k < length ss
     → t ≡ getD ss k 0 → t < h .states
-row-state {f} {ss} {t = t} u k valid row l e =
+row-state {f} {ss} {h} {t} u k valid row l e =
     let edge : T (edgeb (graphIn f h) u t) = rw (e, ← row) (at-memb ss k l) in
-    omega (arith, valid-well-formed valid .edge-states u t edge, valid-sizes valid .states-are)
+    omega (arith, valid-well-formed valid .edge-states u t edge)
 
 -- a state's row is done: each successor whose entry is no greater is flagged
 pub row-flagged : {ss w w' : List ℕ} {n d k : ℕ} (g : Graph) (u : ℕ) → ss ≡ g .succs u → length ss ≤ k → d ≡ getD w u 0

@@ -18,10 +18,10 @@ use model::degree;
 use model::row_part;
 use model::successor;
 use spread::Answer;
-use spread::loop_length;
 use table::clear;
 use table::get;
 use table::put;
+use walks::loop_length;
 
 // Flags in region 1 each successor of u that is no further from the start than u, and takes no flag away.
 fn flag_row(file: &[u8], h: Header, work: &mut [u16], u: usize)
@@ -33,10 +33,10 @@ fn flag_row(file: &[u8], h: Header, work: &mut [u16], u: usize)
     let n = h.states;
     let distance = get(work, u);
     let part = row_part(file, h, u);
-    let d = degree(part);
+    let d = degree(part, h, u);
     let mut k = 0;
     while k < d {
-        let t = successor(part, k);
+        let t = successor(part, h, u, k);
         if get(work, t) <= distance {
             put(work, n + t, 1);
         }

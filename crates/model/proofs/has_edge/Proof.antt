@@ -1,6 +1,6 @@
 -- `has_edge` meets its contract. The loop's invariant: the successors from place k on decide.
-<use Prim.Native.Nat.{_-_, _≤_}
-=use mathlib.Core.Path.{_≡_, refl, sym, _∙_, ap}
+use Prim.Native.Nat.{ℕ, _-_, _≤_}
+use mathlib.Core.Path.{_≡_, refl, sym, _∙_, ap}
 use mathlib.Core.List.{List}
 use denote.Ref.{now}
 use native.Mathlib.Omega.{arith}
@@ -8,12 +8,11 @@ use borrow.Author.Needs.{needs}
 use lib.ListN.{drop}
 use Rattle.lasso.specs.Lists.{memb}
 use Rattle.lasso.specs.Graph.{edgeb}
-<use Rattle.model.specs.Bytes.{words}
-use Rattle.model.specs.Model.{graphOf}
-use Rattle.paths.proofs.PathTests.{memb-here, memb-past, memb-end}
-use Rattle.paths.proofs.has_edge.Statement.{statement}
-use Rattle.paths.proofs.has_edge.Tie as tie
-=
+use Rattle.model.specs.Model.{graphIn, stepsOf}
+use Rattle.model.proofs.Member.{memb-here, memb-past, memb-end}
+use Rattle.model.proofs.has_edge.Statement.{statement}
+use Rattle.model.proofs.has_edge.Tie as tie
+
 abbrev Inv-loop : tie.InvT-loop
 Inv-loop file h s t part d k₀ k = (k ≤ d) × (memb t (stepsOf h s part) ≡ memb t (drop k (stepsOf h s part)))
 

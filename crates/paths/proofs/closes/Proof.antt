@@ -6,7 +6,7 @@ use mathlib.Core.Logic.{⊎-elim}
 use mathlib.Core.Bool.{_||_}
 use native.Mathlib.Omega.{arith}
 use borrow.Author.Needs.{needs}
-use Rattle.model.specs.Model.{graphOf}
+use Rattle.model.specs.Model.{graphIn}
 use Rattle.lasso.proofs.Walk.{path-states}
 use Rattle.model.proofs.Laws.{valid-sizes, valid-well-formed}
 use Rattle.paths.proofs.LoopTests.{markAt, Unclosed, unclosed-start, unclosed-unmarked, unclosed-apart, closed-here, unclosed-end}
@@ -14,7 +14,7 @@ use Rattle.paths.proofs.closes.Statement.{statement}
 use Rattle.paths.proofs.closes.Tie as tie
 
 abbrev Inv-loop : tie.InvT-loop
-Inv-loop file h list end last marked₀ k₀ marked k = Unclosed (graphOf file) list marked k
+Inv-loop file h list end last marked₀ k₀ marked k = Unclosed (graphIn file h) list marked k
 
 abbrev μ-loop : tie.MeasureT-loop
 μ-loop file h list end last marked₀ k₀ marked k = k
@@ -27,11 +27,11 @@ start c = c .before .before .before .before
 mark-joined : (c : tie.Joined1 Inv-loop μ-loop)
     → let at = c .before .before .before .before in
     let a = start at .args in
-    c .if1 .marked ≡ (markAt (graphOf (a .file .now)) (a .list .now) (at .loop .k - 1) || at .loop .marked)
+    c .if1 .marked ≡ (markAt (graphIn (a .file .now) (a .h)) (a .list .now) (at .loop .k - 1) || at .loop .marked)
 mark-joined c =
     let at = c .before .before .before .before in
     let a = start at .args in
-    let g = graphOf (a .file .now) in
+    let g = graphIn (a .file .now) (a .h) in
     let mark : c .before .is-marked .result ≡ markAt g (a .list .now) (at .loop .k - 1) =
     c .before .is-marked .ensures ∙ ap (λ (s : ℕ). g .marked s) (c .before .before .get2 .ensures .0) in
     ⊎-elim (λ w. rw (← mark, w .0 .taken) (w .1)) (λ w. rw (← mark, w .0 .left) (w .1)) (c .if1 .came)
@@ -56,7 +56,7 @@ is-marked-requires c κs =
     let at = c .before .before in
     let s = start at in
     let sizes = valid-sizes (s .pre .0) in
-    let state = path-states (graphOf (s .args .file .now)) (s .args .list .now) (valid-well-formed (s .pre .0)) (s .pre .1 .1 .1) (omega (arith, s .pre .1 .1 .0)) (at .loop .k - 1) (omega (arith, at .loop .inv .within, c .before .loop-test .taken)) in
+    let state = path-states (graphIn (s .args .file .now) (s .args .h)) (s .args .list .now) (valid-well-formed (s .pre .0)) (s .pre .1 .1 .1) (omega (arith, s .pre .1 .1 .0)) (at .loop .k - 1) (omega (arith, at .loop .inv .within, c .before .loop-test .taken)) in
     (s .pre .0, omega (arith, c .get2 .ensures .0, state))
 
 returns : tie.Need-returns Inv-loop μ-loop

@@ -10,7 +10,7 @@ use lib.ListN.{getD}
 use lib.Dec.{T, eqb, eqb→eq}
 use Rattle.lasso.specs.Graph.{pathb}
 use Rattle.lasso.proofs.Tests.{parts}
-use Rattle.model.specs.Model.{graphOf}
+use Rattle.model.specs.Model.{graphIn}
 use Rattle.model.proofs.Laws.{valid-sizes}
 use Rattle.paths.proofs.LoopTests.{lassoOf-other, lassoOf-no-path, lassoOf-closes}
 use Rattle.paths.proofs.is_lasso.Statement.{statement}
@@ -23,16 +23,13 @@ start c = c .before .before .before .before .before .before .before
 -- the test of a path from the start
 path-tested : (c : tie.After-is-path)
     → let a = start c .args in
-    (eqb (getD (now (a .list)) 0 0) (graphOf (now (a .file)) .start) && pathb (graphOf (now (a .file))) (now (a .list))) ≡ c .is-path .result
-path-tested c =
-    let a = start c .args in
-    ap (λ (s : ℕ). eqb (getD (now (a .list)) 0 0) s && pathb (graphOf (now (a .file))) (now (a .list))) (sym (valid-sizes (start c .pre) .start-is))
-    ∙ sym (c .is-path .ensures)
+    (eqb (getD (now (a .list)) 0 0) (graphIn (now (a .file)) (a .h) .start) && pathb (graphIn (now (a .file)) (a .h)) (now (a .list))) ≡ c .is-path .result
+path-tested c = sym (c .is-path .ensures)
 
 -- the list is a path from the start
 is-path : (c : tie.Else2)
     → let a = start (c .before) .args in
-    T (eqb (getD (now (a .list)) 0 0) (graphOf (now (a .file)) .start) && pathb (graphOf (now (a .file))) (now (a .list)))
+    T (eqb (getD (now (a .list)) 0 0) (graphIn (now (a .file)) (a .h) .start) && pathb (graphIn (now (a .file)) (a .h)) (now (a .list)))
 is-path c = rw (path-tested (c .before) ∙ not-false _ (c .if2 .left)) tt
 
 entries-requires : tie.Need-entries-requires
@@ -42,7 +39,7 @@ returns : tie.Need-returns
 returns c =
     let counted = c .before .before .before in
     let a = counted .before .before .before .args in
-    sym (lassoOf-other (graphOf (now (a .file))) (now (a .list)) (a .length .0) (λ e. omega (arith, c .if1 .taken, counted .entries .ensures, e)))
+    sym (lassoOf-other (graphIn (now (a .file)) (a .h)) (now (a .list)) (a .length .0) (λ e. omega (arith, c .if1 .taken, counted .entries .ensures, e)))
 
 is-path-requires : tie.Need-is-path-requires
 is-path-requires c κs = search needs
@@ -50,20 +47,20 @@ is-path-requires c κs = search needs
 returns-2 : tie.Need-returns-2
 returns-2 c =
     let a = start (c .before) .args in
-    sym (lassoOf-no-path (graphOf (now (a .file))) (now (a .list)) (a .length .0) (path-tested (c .before) ∙ not-true _ (c .if2 .taken)))
+    sym (lassoOf-no-path (graphIn (now (a .file)) (a .h)) (now (a .list)) (a .length .0) (path-tested (c .before) ∙ not-true _ (c .if2 .taken)))
 
 closes-requires : tie.Need-closes-requires
 closes-requires c κs =
     let s = start (c .before) in
     let walk = is-path c in
-    let first : getD (now (s .args .list)) 0 0 ≡ graphOf (now (s .args .file)) .start = search (parts, eqb→eq) in
+    let first : getD (now (s .args .list)) 0 0 ≡ graphIn (now (s .args .file)) (s .args .h) .start = search (parts, eqb→eq) in
     (s .pre, (omega (arith, c .before .before .if1 .left, c .before .before .before .before .before .entries .ensures), (first ∙ sym (valid-sizes (s .pre) .start-is), search parts)))
 
 returns-3 : tie.Need-returns-3
 returns-3 c =
     let tested = c .before .before in
     let a = start tested .args in
-    c .closes .ensures ∙ lassoOf-closes (graphOf (now (a .file))) (now (a .list)) (a .length .0) (omega (arith, tested .before .if1 .left, tested .before .before .before .before .entries .ensures)) (is-path (c .before))
+    c .closes .ensures ∙ lassoOf-closes (graphIn (now (a .file)) (a .h)) (now (a .list)) (a .length .0) (omega (arith, tested .before .if1 .left, tested .before .before .before .before .entries .ensures)) (is-path (c .before))
 
 pub is-lasso-spec : {M : Type 1} → statement M
 is-lasso-spec =

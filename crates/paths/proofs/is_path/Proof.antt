@@ -7,14 +7,14 @@ use borrow.Author.Needs.{needs}
 use borrow.Author.Tests.{eq-eqb, ne-eqb, not-true, not-false}
 use lib.ListN.{length, getD}
 use Rattle.lasso.specs.Graph.{edgeb}
-use Rattle.model.specs.Model.{graphOf}
+use Rattle.model.specs.Model.{graphIn}
 use Rattle.model.proofs.Laws.{valid-sizes, valid-well-formed}
 use Rattle.paths.proofs.PathTests.{PathLeft, path-start, path-next, path-broken, path-done}
 use Rattle.paths.proofs.is_path.Statement.{statement}
 use Rattle.paths.proofs.is_path.Tie as tie
 
 abbrev Inv-loop : tie.InvT-loop
-Inv-loop file h list j₀ j = PathLeft (graphOf file) list j
+Inv-loop file h list j₀ j = PathLeft (graphIn file h) list j
 
 abbrev μ-loop : tie.MeasureT-loop
 μ-loop file h list j₀ j = length list - j
@@ -31,7 +31,7 @@ starts c = sym (c .before .before .get .ensures .0) ∙ c .if1 .left
 edge-tested : (c : tie.After-has-edge Inv-loop μ-loop)
     → let at = c .before .before .before .before in
     let a = start at .args in
-    edgeb (graphOf (a .file .now)) (getD (a .list .now) (at .loop .j) 0) (getD (a .list .now) (at .loop .j + 1) 0) ≡ c .has-edge .result
+    edgeb (graphIn (a .file .now) (a .h)) (getD (a .list .now) (at .loop .j) 0) (getD (a .list .now) (at .loop .j + 1) 0) ≡ c .has-edge .result
 edge-tested c =
     sym (rw (c .before .before .get2 .ensures .0, c .before .get3 .ensures .0) at (c .has-edge .ensures))
 
@@ -48,7 +48,7 @@ loop-holds : tie.Need-loop-holds Inv-loop μ-loop
 loop-holds c =
     let s = c .before .before .before .before .before in
     let sizes = valid-sizes (s .pre .0) in
-    path-start (graphOf (s .args .file .now)) (s .args .list .now) (s .pre .1) (omega (arith, starts c))
+    path-start (graphIn (s .args .file .now) (s .args .h)) (s .args .list .now) (s .pre .1) (omega (arith, starts c))
 
 add-loop : tie.Need-add-loop Inv-loop μ-loop
 add-loop c = omega (arith, c .loop .inv .within)

@@ -7,18 +7,18 @@ use lib.ListN.{getD, set}
 use native.Mathlib.Omega.{arith}
 use borrow.Author.Tests.{leb-false}
 use borrow.Author.Needs.{needs}
-use Rattle.model.specs.Model.{graphIn}
-use Rattle.model.specs.Bytes.{words}
+use Rattle.model.specs.Model.{graphIn, stepsOf}
 use Rattle.starts.specs.Flags.{Flagging}
 use Rattle.starts.proofs.StartsFlags.{LowBefore, flagging-none, low-put, low-pass, row-state, row-flagged}
 use Rattle.starts.proofs.flag_row.Statement.{statement}
 use Rattle.starts.proofs.flag_row.Tie as tie
 
 abbrev Inv-loop : tie.InvT-loop
-Inv-loop file work₀ u n distance part d k₀ work k = (k ≤ d) × Flagging n (LowBefore (words part) work₀ distance k) work₀ work
+Inv-loop file h work₀ u n distance part d k₀ work k =
+    (k ≤ d) × Flagging n (LowBefore (stepsOf h u part) work₀ distance k) work₀ work
 
 abbrev μ-loop : tie.MeasureT-loop
-μ-loop file work₀ u n distance part d k₀ work k = d - k
+μ-loop file h work₀ u n distance part d k₀ work k = d - k
 
 abbrev start : tie.At-loop Inv-loop μ-loop → tie.Start Inv-loop μ-loop
 start c = c .before .before .before .before .before .before .before
@@ -32,11 +32,11 @@ successor-state c =
 -- one more successor is passed
 successor-passed : (c : tie.Joined1 Inv-loop μ-loop) →
     let l = c .before .before .before .before .before in
-    Flagging (start l .args .h .states) (LowBefore (words (l .before .before .row-part .result .now)) (start l .args .work .now) (l .before .before .before .get .result) (l .loop .k + 1)) (start l .args .work .now) (c .if1 .work)
+    Flagging (start l .args .h .states) (LowBefore (stepsOf (start l .args .h) (start l .args .u) (l .before .before .row-part .result .now)) (start l .args .work .now) (l .before .before .before .get .result) (l .loop .k + 1)) (start l .args .work .now) (c .if1 .work)
 successor-passed c =
     let l = c .before .before .before .before .before in
     let t = c .before .before .before .successor .result in
-    let at : getD (words (l .before .before .row-part .result .now)) (l .loop .k) 0 ≡ t = sym (c .before .before .before .successor .ensures) in
+    let at : getD (stepsOf (start l .args .h) (start l .args .u) (l .before .before .row-part .result .now)) (l .loop .k) 0 ≡ t = sym (c .before .before .before .successor .ensures) in
     let state : t < start l .args .h .states = successor-state (c .before .before .before) in
     elim (c .if1 .came) [
       | inl w ↦

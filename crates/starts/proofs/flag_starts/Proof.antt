@@ -1,7 +1,7 @@
 -- `starts::flag_starts` meets its contract. The loop's invariant: each state is flagged that an edge enters from one
 -- of the first u states, which is reached and whose entry in region 0 is no less.
 use Prim.Native.Nat.{_+_, _*_, _-_, _≤_}
-use mathlib.Core.Path.{_≡_, _∙_}
+use mathlib.Core.Path.{_≡_, _∙_, refl}
 use mathlib.Core.Logic.{inl, inr}
 use native.Mathlib.Omega.{arith}
 use borrow.Author.Tests.{eqb-true}
@@ -39,7 +39,7 @@ state-passed c =
           let e = w .5 in
           let row : FlagsRow (graphIn (s .args .file .now) (s .args .h)) (s .args .h .states) (l .loop .u) (l .loop .work) (c .if1 .work) =
           rw e (w .2 .ensures) in
-          entered-row (valid-well-formed (s .pre .0)) (valid-sizes (s .pre .0) .states-are) (l .loop .inv .1) row
+          entered-row (valid-well-formed (s .pre .0)) refl (l .loop .inv .1) row
       | inr w ↦
           let e : c .if1 .work ≡ l .loop .work = w .1 in
           rw e (entered-pass (omega arith) (omega (arith, eqb-true, w .0 .left, c .before .get .ensures .0)) (l .loop .inv .1))
@@ -75,8 +75,7 @@ same-length c = c .before .loop .inv .1 .same .same-length ∙ cleared (c .befor
 returns : tie.Need-returns Inv-loop μ-loop
 returns c =
     let s = start (c .before) in
-    let size = valid-sizes (s .pre .0) .states-are in
-    all-flagged (valid-well-formed (s .pre .0)) size (omega arith) (cleared (c .before) .others) (c .before .loop .inv .1)
+    all-flagged (valid-well-formed (s .pre .0)) refl (omega arith) (cleared (c .before) .others) (c .before .loop .inv .1)
 
 pub flag-starts-spec : {M : Type 1} → statement M
 flag-starts-spec =

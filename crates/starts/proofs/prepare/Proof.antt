@@ -1,7 +1,7 @@
 -- `starts::prepare` meets its contract. The loop's invariant: the entries of the first s states are in region 1, and
 -- among the others those that are not flagged start no loop.
 use Prim.Native.Nat.{_+_, _*_, _-_, _≤_}
-use mathlib.Core.Path.{_≡_, _∙_}
+use mathlib.Core.Path.{_≡_, _∙_, refl}
 use mathlib.Core.Logic.{inl, inr}
 use native.Mathlib.Omega.{arith}
 use borrow.Author.Tests.{eqb-true}
@@ -102,8 +102,7 @@ same-length c = changed (c .before) .same-length
 
 returns : tie.Need-returns Inv-loop μ-loop
 returns c =
-    let size = valid-sizes (start (c .before) .pre .0 .valid) .states-are in
-    (filling-done size (omega arith) (c .before .loop .inv .1), changed (c .before))
+    (filling-done refl (omega arith) (c .before .loop .inv .1), changed (c .before))
 
 pub prepare-spec : {M : Type 1} → statement M
 prepare-spec =
