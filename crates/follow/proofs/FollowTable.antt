@@ -76,12 +76,11 @@ module _ {f : List ℕ} {h : Header} {w : List ℕ} {l place t : ℕ} (asked : A
   -- after a search the states of the list are states
   pub asked-states : (v : List ℕ) → SameOutside (2 * graphIn f h .size) (6 * graphIn f h .size) w v → StatesTo h v place
   asked-states v same k b =
-      let S : Sizes f h = asked-sizes .2 in
-      rw (S .start-is, S .states-are, list-same (graphIn f h) w v same place (omega (arith, asked-sizes, asked .within)) k b) (place-state asked-beginning k b)
+      rw (list-same (graphIn f h) w v same place (omega (arith, asked-sizes, asked .within)) k b) (place-state asked-beginning k b)
 
   -- a search changes regions 2 to 5 only, by the header's number of states
   pub asked-same : (v : List ℕ) → SameOutside (2 * graphIn f h .size) (6 * graphIn f h .size) w v → SameOutside (2 * h .states) (6 * h .states) w v
-  asked-same v same = rw (asked-sizes .2 .states-are) same
+  asked-same v same = same
 
   -- after the search from t
   module _ (v : List ℕ) (D : DistancesWithin (graphIn f h) t (l - (place + 1) + 1) w v) where
@@ -91,11 +90,11 @@ module _ {f : List ℕ} {h : Header} {w : List ℕ} {l place t : ℕ} (asked : A
 
     -- a loop start ahead: t may follow
     pub starts-follows : StartsAhead (h .states) v (l - (place + 1)) → MayFollow (graphIn f h) l w place t
-    starts-follows x = starts-extends asked-beginning near (rw (asked-sizes .2 .states-are) at x)
+    starts-follows x = starts-extends asked-beginning near x
 
     -- a loop start and a mark passed: t may follow
     pub marked-follows : ClosesMarked (graphIn f h) (h .states) (h .start) v place (l - (place + 1)) → MayFollow (graphIn f h) l w place t
-    marked-follows x = marked-extends asked-beginning near (rw (asked-sizes .2 .states-are, asked-sizes .2 .start-is) at x)
+    marked-follows x = marked-extends asked-beginning near x
 
     -- what the search on from the marked states leaves, if its limit is that of the search from t and it has no target
     abbrev SearchedOn : List ℕ → Answer → Type 0
@@ -111,12 +110,10 @@ module _ {f : List ℕ} {h : Header} {w : List ℕ} {l place t : ℕ} (asked : A
       -- no state of the list that can start the loop is near enough: t may not follow
       pub far-not-follows : (ClosesStart (h .states) (h .start) v place (l - (place + 1)) → ⊥) → MayFollow (graphIn f h) l w place t → ⊥
       far-not-follows far =
-          let S : Sizes f h = asked-sizes .2 in
-          closes-not-extends asked-beginning near (rw (S .states-are) at no-start) (rw (S .states-are, S .start-is) at no-mark) (rw (S .states-are, S .start-is) at far)
+          closes-not-extends asked-beginning near no-start no-mark far
 
       -- the search on from the marked states decides whether t may follow
       pub via-decides : (u : List ℕ) (r : Answer) → SearchedOn u r → (b : Bool) → Decides (ClosesStart (h .states) (h .start) u place (l - (place + 1))) b → Decides (MayFollow (graphIn f h) l w place t) b
       via-decides u r sp b known =
-          let S : Sizes f h = asked-sizes .2 in
-          let levels = marks-levels D (asked-beginning .well-formed) u r (rw (S .states-are) at sp) in
-          closes-decides asked-beginning near (rw (S .states-are) at no-start) (rw (S .states-are, S .start-is) at no-mark) (asked-holds u (searched-outside u r sp) levels) b (rw (S .states-are, S .start-is) at known)
+          let levels = marks-levels D (asked-beginning .well-formed) u r sp in
+          closes-decides asked-beginning near no-start no-mark (asked-holds u (searched-outside u r sp) levels) b known

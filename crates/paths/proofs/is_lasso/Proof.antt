@@ -54,7 +54,7 @@ closes-requires c κs =
     let s = start (c .before) in
     let walk = is-path c in
     let first : getD (now (s .args .list)) 0 0 ≡ graphIn (now (s .args .file)) (s .args .h) .start = search (parts, eqb→eq) in
-    (s .pre, (omega (arith, c .before .before .if1 .left, c .before .before .before .before .before .entries .ensures), (first ∙ sym (valid-sizes (s .pre) .start-is), search parts)))
+    (s .pre, (omega (arith, c .before .before .if1 .left, c .before .before .before .before .before .entries .ensures), (first, search parts)))
 
 returns-3 : tie.Need-returns-3
 returns-3 c =
