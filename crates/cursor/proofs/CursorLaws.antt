@@ -12,7 +12,7 @@ use Rattle.lasso.specs.Following.{following}
 use Rattle.lasso.specs.Rounds.{Record, candidates, bestLength, afterRounds, afterAllowed}
 use Rattle.lasso.proofs.RoundLaws.{afterRounds-done, afterRounds-leastLength}
 use Rattle.model.specs.declared.Header.{Header}
-use Rattle.model.specs.Model.{graphOf}
+use Rattle.model.specs.Model.{graphIn}
 use Rattle.rounds.specs.Promises.{RoundsReady}
 use Rattle.starts.specs.LoopStarts.{StartLoops}
 use Rattle.follow.specs.Follow.{Prepared, upTo}
@@ -34,14 +34,14 @@ all-rounds {g} wf rec allowance e enough =
     )
 
 -- the loop lengths are there: the table is prepared
-pub prepared-start : {f : List ℕ} {h : Header} {l : ℕ} {w w' : List ℕ} → RoundsReady f h w → leastLength (graphOf f) ≡ some l
-    → StartLoops (graphOf f) l w' → length w' ≡ length w → Prepared f h w' l
+pub prepared-start : {f : List ℕ} {h : Header} {l : ℕ} {w w' : List ℕ} → RoundsReady f h w → leastLength (graphIn f h) ≡ some l
+    → StartLoops (graphIn f h) l w' → length w' ≡ length w → Prepared f h w' l
 prepared-start r e loops same =
     record { valid = r .valid; room = omega (arith, r .room); least = e; start-loops = loops }
 
 -- the table is at the first list
 pub at-first : {f : List ℕ} {h : Header} {l : ℕ} {w : List ℕ} → Prepared f h w l
-    → head? (roll (graphOf f)) ≡ some (upTo (graphOf f) w l) → At f h l 0 w
+    → head? (roll (graphIn f h)) ≡ some (upTo (graphIn f h) w l) → At f h l 0 w
 at-first p e = record { prepared = p; current = stands-first e }
 
 -- an entry of a list is at some place
@@ -51,17 +51,17 @@ mem-at xs (r ∷ rs) (List·Memᴰ·head e) = (0, omega arith, sym e)
 mem-at xs (r ∷ rs) (List·Memᴰ·tail m) = let (i, low, at) = mem-at xs rs m in (suc i, omega arith, at)
 
 -- the table is at the place of a list of the roll
-pub placed-at : {f : List ℕ} {h : Header} {l : ℕ} {w : List ℕ} (xs : List ℕ) → Prepared f h w l → upTo (graphOf f) w l ≡ xs
-    → List·Memᴰ xs (roll (graphOf f)) → PlacedAt f h l xs w
-placed-at {f} xs p e m =
-    let (i, low, at) = mem-at xs (roll (graphOf f)) m in
+pub placed-at : {f : List ℕ} {h : Header} {l : ℕ} {w : List ℕ} (xs : List ℕ) → Prepared f h w l → upTo (graphIn f h) w l ≡ xs
+    → List·Memᴰ xs (roll (graphIn f h)) → PlacedAt f h l xs w
+placed-at {f} {h} xs p e m =
+    let (i, low, at) = mem-at xs (roll (graphIn f h)) m in
     record {
       placed = record { place = i; at = record { prepared = p; current = record { place-in = low; list-at = at ∙ sym e } } };
       list-is = e;
     }
 
 -- a step of the listing is one to the next place, or there is none
-pub moved-on : {f : List ℕ} {h : Header} {l : ℕ} {w w' : List ℕ} (r : Bool) → Replaced (graphOf f) l w w' r
+pub moved-on : {f : List ℕ} {h : Header} {l : ℕ} {w w' : List ℕ} (r : Bool) → Replaced (graphIn f h) l w w' r
     → Kept (h .states) w w' → MovedOn f h l w w' r
 moved-on {w' = w'} true a kept place at =
     record { prepared = prepared-kept (at .prepared) kept; current = stands-next w' (at .current) a }
@@ -69,18 +69,18 @@ moved-on false a kept place at = stands-last (at .current) (a .0)
 
 -- from the place of a list to the next: the list there follows
 pub moved-some : {f : List ℕ} {h : Header} {l : ℕ} {xs w : List ℕ} (w' : List ℕ) (r : Bool) → PlacedAt f h l xs w
-    → MovedOn f h l w w' r → r ≡ true → following xs (roll (graphOf f)) ≡ some (upTo (graphOf f) w' l)
-moved-some {f} {l = l} w' true p m e =
+    → MovedOn f h l w w' r → r ≡ true → following xs (roll (graphIn f h)) ≡ some (upTo (graphIn f h) w' l)
+moved-some {f} {h} {l} w' true p m e =
     let at = p .placed .at in
-    subst (λ (zs : List ℕ). following zs (roll (graphOf f)) ≡ some (upTo (graphOf f) w' l)) (p .list-is)
+    subst (λ (zs : List ℕ). following zs (roll (graphIn f h)) ≡ some (upTo (graphIn f h) w' l)) (p .list-is)
     (follows-next w' (at .current) (m (p .placed .place) at .current))
 moved-some w' false p m e = let z : _≡_ {A = ℕ} 0 1 = cc in absurd (omega arith)
 
 -- no place is left: nothing follows
 pub moved-none : {f : List ℕ} {h : Header} {l : ℕ} {xs w : List ℕ} (w' : List ℕ) (r : Bool) → PlacedAt f h l xs w
-    → MovedOn f h l w w' r → r ≡ false → following xs (roll (graphOf f)) ≡ none
+    → MovedOn f h l w w' r → r ≡ false → following xs (roll (graphIn f h)) ≡ none
 moved-none w' true p m e = let z : _≡_ {A = ℕ} 0 1 = cc in absurd (omega arith)
-moved-none {f} w' false p m e =
+moved-none {f} {h} w' false p m e =
     let at = p .placed .at in
-    subst (λ (zs : List ℕ). following zs (roll (graphOf f)) ≡ none) (p .list-is)
+    subst (λ (zs : List ℕ). following zs (roll (graphIn f h)) ≡ none) (p .list-is)
     (follows-none (at .current) (m (p .placed .place) at))

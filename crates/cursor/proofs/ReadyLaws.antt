@@ -5,11 +5,11 @@ use native.Mathlib.Omega.{arith}
 use lib.ListN.{length}
 use Rattle.model.specs.declared.Header.{Header}
 use Rattle.model.specs.Values.{Valid}
-use Rattle.model.specs.Model.{graphOf}
+use Rattle.model.specs.Model.{graphIn}
 use Rattle.rounds.specs.Promises.{StartDistancesPut, RoundsReady}
 
 -- with the distances from the start the table is ready
 pub ready-started : {f : List ℕ} {h : Header} {w w' : List ℕ} → Valid f h → 6 * h .states ≤ length w
-    → StartDistancesPut (graphOf f) w w' → RoundsReady f h w'
+    → StartDistancesPut (graphIn f h) w w' → RoundsReady f h w'
 ready-started v room s =
     record { valid = v; room = omega (arith, s .same-length); start-distances = s .start-distances }

@@ -11,7 +11,7 @@ use Rattle.lasso.specs.Roll.{leastLength, roll}
 use Rattle.lasso.proofs.Tests.{parts}
 use Rattle.lasso.proofs.RollLaws.{leastLength-range, roll-length, roll-lasso}
 use Rattle.model.specs.declared.Header.{Header}
-use Rattle.model.specs.Model.{graphOf}
+use Rattle.model.specs.Model.{graphIn}
 use Rattle.model.proofs.Laws.{valid-sizes}
 use Rattle.rounds.specs.Promises.{RoundsReady}
 use Rattle.starts.specs.LoopStarts.{StartLoops}
@@ -35,26 +35,26 @@ module _ (g : Graph) (l : ℕ) (least : leastLength g ≡ some l) (xs : List ℕ
   loaded-upTo w w' e =
       ap (λ (z : List ℕ). upTo g z l) e ∙ loaded-list (g .start) xs w l (roll-length g l least xs m) roll-start
 
-module _ {f : List ℕ} {h : Header} {w : List ℕ} (ready : RoundsReady f h w) (l : ℕ) (least : leastLength (graphOf f) ≡ some l) where
+module _ {f : List ℕ} {h : Header} {w : List ℕ} (ready : RoundsReady f h w) (l : ℕ) (least : leastLength (graphIn f h) ≡ some l) where
   -- the least length fits region 0
   pub least-fits : (1 ≤ l) × (l ≤ h .states) × (h .states ≤ 4096)
   least-fits =
       let sizes = valid-sizes (ready .valid) in
-      omega (arith, leastLength-range (graphOf f) l least)
+      omega (arith, leastLength-range (graphIn f h) l least)
 
   -- a list of the roll leaves the table's length as it is
-  pub loaded-kept : (w₁ w₂ : List ℕ) → length w₁ ≡ length w → (xs : List ℕ) → List·Memᴰ xs (roll (graphOf f))
+  pub loaded-kept : (w₁ w₂ : List ℕ) → length w₁ ≡ length w → (xs : List ℕ) → List·Memᴰ xs (roll (graphIn f h))
       → w₂ ≡ loaded xs w₁ → length w₂ ≡ length w
   loaded-kept w₁ w₂ same xs m e =
       ap length e
-      ∙ loaded-length xs w₁ (omega (arith, least-fits, ready .room, roll-edges (graphOf f) l least xs m))
+      ∙ loaded-length xs w₁ (omega (arith, least-fits, ready .room, roll-edges (graphIn f h) l least xs m))
       ∙ same
 
   -- a prepared table is prepared with a list of the roll in region 0
-  pub prepared-loaded : (w₁ w₂ : List ℕ) → length w₁ ≡ length w → StartLoops (graphOf f) l w₁ → (xs : List ℕ)
-      → List·Memᴰ xs (roll (graphOf f)) → w₂ ≡ loaded xs w₁ → Prepared f h w₂ l
+  pub prepared-loaded : (w₁ w₂ : List ℕ) → length w₁ ≡ length w → StartLoops (graphIn f h) l w₁ → (xs : List ℕ)
+      → List·Memᴰ xs (roll (graphIn f h)) → w₂ ≡ loaded xs w₁ → Prepared f h w₂ l
   prepared-loaded w₁ w₂ same loops xs m e =
-      let g : Graph = graphOf f in
+      let g : Graph = graphIn f h in
       let sizes = valid-sizes (ready .valid) in
       let long : length xs ≡ suc l = roll-length g l least xs m in
       record {

@@ -11,7 +11,7 @@ use Rattle.lasso.specs.Rounds.{candidates, afterRounds}
 use Rattle.lasso.specs.Values.{recordOf}
 use Rattle.lasso.specs.declared.RoundRecord.{RoundRecord}
 use Rattle.model.specs.declared.Header.{Header}
-use Rattle.model.specs.Model.{graphOf}
+use Rattle.model.specs.Model.{graphIn}
 use Rattle.follow.specs.Follow.{Prepared, upTo}
 use Rattle.cursor.specs.declared.Begun.{Begun}
 use Rattle.cursor.specs.declared.Begun.the-variants as Begins
@@ -41,7 +41,7 @@ pub record Stands (g : Graph) (l : ℕ) (w : List ℕ) (place : ℕ) : Type 0 wh
 -- the working table is at a place of the roll: the list there stands in region 0, and what is needed to go on is prepared
 pub record At (f : List ℕ) (h : Header) (l place : ℕ) (w : List ℕ) : Type 0 where
   pub prepared : Prepared f h w l
-  pub current : Stands (graphOf f) l w place
+  pub current : Stands (graphIn f h) l w place
 
 -- it is at some place of the roll
 pub record Placed (f : List ℕ) (h : Header) (l : ℕ) (w : List ℕ) : Type 0 where
@@ -51,12 +51,12 @@ pub record Placed (f : List ℕ) (h : Header) (l : ℕ) (w : List ℕ) : Type 0 
 -- it is at the place of a given list
 pub record PlacedAt (f : List ℕ) (h : Header) (l : ℕ) (xs w : List ℕ) : Type 0 where
   pub placed : Placed f h l w
-  pub list-is : upTo (graphOf f) w l ≡ xs
+  pub list-is : upTo (graphIn f h) w l ≡ xs
 
 -- after a place: true if the table is at the next one, false if there is none
 abbrev pub MovedTo : List ℕ → Header → ℕ → ℕ → List ℕ → Bool → Type 0
 MovedTo f h l place w true = At f h l (place + 1) w
-MovedTo f h l place w false = length (roll (graphOf f)) ≡ place + 1
+MovedTo f h l place w false = length (roll (graphIn f h)) ≡ place + 1
 
 -- the step from wherever the table is
 abbrev pub MovedOn : List ℕ → Header → ℕ → List ℕ → List ℕ → Bool → Type 0

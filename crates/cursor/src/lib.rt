@@ -9,7 +9,7 @@ ghost use lib.ListN;
 ghost use Rattle.lasso.specs.Graph.{edges};
 ghost use Rattle.lasso.specs.Roll.{leastLength, roll};
 ghost use Rattle.model.specs.Values.{Valid};
-ghost use Rattle.model.specs.Model.{graphOf};
+ghost use Rattle.model.specs.Model.{graphIn};
 ghost use Rattle.rounds.specs.Promises.{RoundsReady};
 ghost use Rattle.cursor.specs.Cursor.{BegunSays, At, Placed, PlacedAt, MovedOn};
 pub use current::write_list;
@@ -37,7 +37,7 @@ pub enum Begun {
 pub fn begin(file: &[u8], h: Header, allowance: u16, work: &mut [u16]) -> Begun
     requires { ⌜ Valid (now file) h ⌝ }
     requires { ⌜ 6 * h .states ≤ lib.ListN.length (now work) ⌝ }
-    ensures says { λ r. ⌜ BegunSays (graphOf (now (file .entry))) allowance r ⌝ }
+    ensures says { λ r. ⌜ BegunSays (graphIn (now (file .entry)) h) allowance r ⌝ }
     ensures ready { λ _. ⌜ RoundsReady (now (file .entry)) h (now (work .exit)) ⌝ }
     ensures kept { λ _. ⌜ lib.ListN.length (now (work .exit)) ≡ lib.ListN.length (now (work .entry)) ⌝ }
 {
@@ -59,7 +59,7 @@ pub fn begin(file: &[u8], h: Header, allowance: u16, work: &mut [u16]) -> Begun
 // Goes to the first list of the roll.
 pub fn to_first(file: &[u8], h: Header, length: Transitions, work: &mut [u16])
     requires { ⌜ RoundsReady (now file) h (now work) ⌝ }
-    requires { ⌜ leastLength (graphOf (now file)) ≡ some (length .0) ⌝ }
+    requires { ⌜ leastLength (graphIn (now file) h) ≡ some (length .0) ⌝ }
     ensures at { λ _. ⌜ At (now (file .entry)) h (length .0) 0 (now (work .exit)) ⌝ }
     ensures kept { λ _. ⌜ lib.ListN.length (now (work .exit)) ≡ lib.ListN.length (now (work .entry)) ⌝ }
 {
@@ -84,8 +84,8 @@ fn load(list: &[u16], work: &mut [u16])
 // Goes to a given list of the roll.
 pub fn to_list(file: &[u8], h: Header, length: Transitions, list: &[u16], work: &mut [u16])
     requires { ⌜ RoundsReady (now file) h (now work) ⌝ }
-    requires { ⌜ leastLength (graphOf (now file)) ≡ some (length .0) ⌝ }
-    requires { ⌜ List·Memᴰ (now list) (roll (graphOf (now file))) ⌝ }
+    requires { ⌜ leastLength (graphIn (now file) h) ≡ some (length .0) ⌝ }
+    requires { ⌜ List·Memᴰ (now list) (roll (graphIn (now file) h)) ⌝ }
     ensures at { λ _. ⌜ PlacedAt (now (file .entry)) h (length .0) (now (list .entry)) (now (work .exit)) ⌝ }
     ensures kept { λ _. ⌜ lib.ListN.length (now (work .exit)) ≡ lib.ListN.length (now (work .entry)) ⌝ }
 {

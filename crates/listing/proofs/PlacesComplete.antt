@@ -83,7 +83,7 @@ completing-more {f} {w} {w'} {v} {h} {l} {from} {place} t c inside same o =
 pub completing-all : {f w w' : List ℕ} {h : Header} {l from place : ℕ} → Completing f h l from w w' place → l ≤ place → Completed (graphIn f h) l from w w'
 completing-all {f} {w} {w'} {h} {l} {from} {place} c all =
     record {
-      kept = subst (λ (n : ℕ). Kept n w w') (sizes .states-are) (c .kept);
+      kept = c .kept;
       prefix = c .prefix;
       lasso = whole .0;
       length = whole .1;

@@ -27,11 +27,11 @@ use Rattle.listing.proofs.PlacesTable.{length-fits, kept-trans, same-ke
 
 -- completing keeps region 1 and what stands past the regions
 pub completed-kept : {f v w w' : List ℕ} {h : Header} {l from : ℕ} → Prepared f h v l → Completed (graphIn f h) l from w w' → Kept (h .states) w w'
-completed-kept {w = w} {w' = w'} p c = subst (λ (n : ℕ). Kept n w w') (sym (valid-sizes (p .valid) .states-are)) (c .kept)
+completed-kept p c = c .kept
 
 -- the list completed from place 0 is the first of the roll
 pub completed-first : {f w w' : List ℕ} {h : Header} {l : ℕ} → Prepared f h w l → Completed (graphIn f h) l 0 w w' → head? (roll (graphIn f h)) ≡ some (upTo (graphIn f h) w' l)
-completed-first {f} {w' = w'} {l = l} p c =
+completed-first {f} {w' = w'} {h} {l} p c =
     first-of-roll (graphIn f h) (valid-well-formed (p .valid)) l (p .least) (upTo (graphIn f h) w' l) (c .lasso) (c .length) none-less
   where
     none-less : (j y : ℕ) → j ≤ l → y < getD (upTo (graphIn f h) w' l) j 0 → Extends (graphIn f h) l (take j (upTo (graphIn f h) w' l) ++ y ∷ []) → ⊥

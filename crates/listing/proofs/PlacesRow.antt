@@ -49,14 +49,14 @@ read-row {f} {w} {h} {l} {place} {s} p inside path at =
     long = length-take-le place w short
 
     last : s ≡ getD (upTo (graphIn f h) w place) (length (take place w)) 0
-    last = at ∙ ap (λ (x : ℕ). getD (x ∷ w) place 0) (sizes .start-is) ∙ sym (upTo-last (graphIn f h .start) w place short)
+    last = at ∙ sym (upTo-last (graphIn f h .start) w place short)
 
     state : s < h .states
     state = omega (arith, last, sizes, path-states (graphIn f h) (upTo (graphIn f h) w place) wf path (wf .start-state) (length (take place w)) (omega arith))
 
 -- the successor at place k is joined to s by an edge
 successor-edge : {f w : List ℕ} {h : Header} {l place s k : ℕ} (t : ℕ) → Row f h w l place s → k < length (graphIn f h .succs s) → t ≡ getD (graphIn f h .succs s) k 0 → T (edgeb (graphIn f h) s t)
-successor-edge {f} {s = s} {k = k} t r inside at = subst (λ (u : ℕ). T (edgeb (graphIn f h) s u)) (sym at) (at-memb (graphIn f h .succs s) k inside)
+successor-edge {f} {h = h} {s = s} {k = k} t r inside at = subst (λ (u : ℕ). T (edgeb (graphIn f h) s u)) (sym at) (at-memb (graphIn f h .succs s) k inside)
 
 -- the successor at place k is a state
 pub successor-state : {f w : List ℕ} {h : Header} {l place s k : ℕ} (t : ℕ) → Row f h w l place s → k < length (graphIn f h .succs s) → t ≡ getD (graphIn f h .succs s) k 0 → t < h .states

@@ -73,7 +73,7 @@ upTo-last x w (suc p) h = rw (length-take-le (suc p) w h) (getD-take (suc p) w p
 
 -- the list fits into region 0
 pub length-fits : {f w : List ℕ} {h : Header} {l : ℕ} → Prepared f h w l → l ≤ h .states
-length-fits {f} {l = l} p = omega (arith, leastLength-range (graphIn f h) l (p .least), valid-sizes (p .valid))
+length-fits {f} {h = h} {l} p = omega (arith, leastLength-range (graphIn f h) l (p .least), valid-sizes (p .valid))
 
 -- what the store of a state that may stand at a place asks
 pub put-asks : {f w v q : List ℕ} {h : Header} {l place bound t : ℕ} → Prepared f h w l → place < l → SameOutside (2 * h .states) (6 * h .states) w v → LeastFollower (graphIn f h) l q bound t → (place < length v) × (t < 65536)

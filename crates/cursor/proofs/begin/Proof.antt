@@ -8,7 +8,7 @@ use lib.ListN.{length}
 use Rattle.lasso.specs.Roll.{leastLength}
 use Rattle.lasso.specs.Rounds.{candidates, bestLength, afterRounds}
 use Rattle.lasso.specs.Values.{bestOf, recordOf}
-use Rattle.model.specs.Model.{graphOf}
+use Rattle.model.specs.Model.{graphIn}
 use Rattle.model.proofs.Laws.{valid-well-formed}
 use Rattle.rounds.specs.Promises.{RoundsReady}
 use Rattle.rounds.proofs.TableLaws.{ready-kept}
@@ -42,12 +42,12 @@ ready c =
     ready-kept (ready-started (s .pre .0) (s .pre .1) (started c .start-distances .ensures)) (c .run-rounds .ensures .1)
 
 -- the allowance suffices
-enough : (c : tie.Else1) → let a = start (rounds c) .args in length (candidates (graphOf (a .file .now))) ≤ a .allowance
+enough : (c : tie.Else1) → let a = start (rounds c) .args in length (candidates (graphIn (a .file .now) (a .h))) ≤ a .allowance
 enough c = omega (arith, counted (rounds c) .count-candidates .ensures, c .if1 .left)
 
 -- the record holds the number of candidates and the least length of an accepting path
 all-done : (c : tie.Else1)
-    → let g = graphOf (start (rounds c) .args .file .now) in
+    → let g = graphIn (start (rounds c) .args .file .now) (start (rounds c) .args .h) in
     (rounds c .run-rounds .result .done ≡ length (candidates g)) × (bestLength (recordOf (rounds c .run-rounds .result)) ≡ leastLength g)
 all-done c =
     let s = start (rounds c) in
@@ -69,7 +69,7 @@ returns : tie.Need-returns
 returns c =
     let done = c .before .before .before in
     let a = start done .args in
-    let g = graphOf (a .file .now) in
+    let g = graphIn (a .file .now) (a .h) in
     let q : min (a .allowance) (length (candidates g)) ≡ a .allowance = omega (arith, counted done .count-candidates .ensures, c .if1 .taken) in (
       record {
         short = omega (arith, counted done .count-candidates .ensures, c .if1 .taken);

@@ -6,8 +6,7 @@ use mathlib.Core.List.{List, [], _∷_, _++_}
 use native.Mathlib.Omega.{arith}
 use lib.ListN.{length, getD}
 use Rattle.lasso.proofs.PlaceByPlace.{Extends}
-use Rattle.model.specs.Bytes.{words}
-use Rattle.model.specs.Model.{graphIn}
+use Rattle.model.specs.Model.{graphIn, stepsOf}
 use Rattle.table.proofs.Laws.{sameOutside-trans}
 use Rattle.follow.specs.Follow.{Decides, upTo}
 use Rattle.listing.proofs.PlacesExtend.{extends-path}
@@ -39,7 +38,7 @@ degree : (c : tie.After-degree Inv-loop μ-loop)
 degree c = c .degree .ensures ∙ ap length (c .before .row-part .ensures)
 
 -- the entry of the row's part at the place reached is the successor there
-entry-at : (c : tie.At-loop Inv-loop μ-loop) (t : ℕ) → t ≡ getD (words (c .before .before .row-part .result .now)) (c .loop .tried) 0
+entry-at : (c : tie.At-loop Inv-loop μ-loop) (t : ℕ) → t ≡ getD (stepsOf (c .before .before .before .before .before .before .before .args .h) (c .before .before .before .list-at .result) (c .before .before .row-part .result .now)) (c .loop .tried) 0
     → t ≡ getD (graphIn (c .before .before .before .before .before .before .before .args .file .now) (c .before .before .before .before .before .before .before .args .h) .succs (c .before .before .before .list-at .result)) (c .loop .tried) 0
 entry-at c t e = e ∙ ap (λ (ts : List ℕ). getD ts (c .loop .tried) 0) (c .before .before .row-part .ensures)
 
