@@ -4,7 +4,7 @@ ghost use mathlib.Core.Option.{some};
 ghost use Prim.Native.Nat.{_*_, _≤_};
 ghost use lib.ListN;
 ghost use Rattle.lasso.specs.Roll.{leastLength};
-ghost use Rattle.model.specs.Model.{graphOf};
+ghost use Rattle.model.specs.Model.{graphIn};
 ghost use Rattle.model.specs.Values.{Valid};
 ghost use Rattle.rounds.specs.Promises.{RoundsReady};
 ghost use Rattle.finder.specs.Outcomes.{nextOutcomeOf};
@@ -33,7 +33,7 @@ fn next_list(
     work: &mut [u16],
 ) -> NextAnswer
     requires { ⌜ RoundsReady (now file) h (now work) ⌝ }
-    requires { ⌜ leastLength (graphOf (now file)) ≡ some (length .0) ⌝ }
+    requires { ⌜ leastLength (graphIn (now file) h) ≡ some (length .0) ⌝ }
     ensures outcome { λ r. ⌜ nextOutcomeOf r
         ≡ nextOutcome (now (file .entry)) (now (earlier .entry)) (lib.ListN.length (now (answer .entry)))
         (lib.ListN.length (now (work .entry))) ⌝ }

@@ -5,7 +5,7 @@ ghost use Prim.Native.Nat.{_*_, _≤_};
 ghost use lib.ListN.{length};
 ghost use Rattle.lasso.specs.Roll.{leastLength};
 ghost use Rattle.lasso.specs.Rounds.{candidates};
-ghost use Rattle.model.specs.Model.{graphOf};
+ghost use Rattle.model.specs.Model.{graphIn};
 ghost use Rattle.model.specs.Values.{Valid};
 ghost use Rattle.gate.specs.declared.Ask.{Ask};
 ghost use Rattle.rounds.specs.Promises.{RoundsReady};
@@ -32,8 +32,8 @@ fn first_list(
     work: &mut [u16],
 ) -> SearchAnswer
     requires { ⌜ RoundsReady (now file) h (now work) ⌝ }
-    requires { ⌜ leastLength (graphOf (now file)) ≡ some (length .0) ⌝ }
-    requires { ⌜ rounds ≡ lib.ListN.length (candidates (graphOf (now file))) ⌝ }
+    requires { ⌜ leastLength (graphIn (now file) h) ≡ some (length .0) ⌝ }
+    requires { ⌜ rounds ≡ lib.ListN.length (candidates (graphIn (now file) h)) ⌝ }
     ensures outcome { λ r. ⌜ ((ask : Ask) → rounds ≤ ask .allowance → searchOutcomeOf r ≡ searchOutcome (now (file .entry)) ask (lib.ListN.length (now (answer .entry))) (lib.ListN.length (now (work .entry)))) ⌝ }
     ensures answer { λ _. ⌜ ((ask : Ask) → rounds ≤ ask .allowance → now (answer .exit) ≡ searchAnswer (now (file .entry)) ask (now (answer .entry)) (lib.ListN.length (now (work .entry)))) ⌝ }
     ensures kept { λ _. ⌜ lib.ListN.length (now (work .exit)) ≡ lib.ListN.length (now (work .entry)) ⌝ }

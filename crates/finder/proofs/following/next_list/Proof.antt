@@ -1,23 +1,26 @@
 -- `following::next_list` meets its contract: 13 if the earlier list is no lasso of the least length, never 14, no more if it
 -- is the last of the roll; else 15 without room for the list that follows, or that list with its figures.
 use Prim.Native.Nat.{_≤_}
-use mathlib.Core.Path.{_≡_, refl, sym, _∙_}
+use mathlib.Core.Path.{_≡_, refl, sym, _∙_, subst}
+use mathlib.Core.Bool.{true}
 use mathlib.Core.List.{List·Memᴰ}
-use mathlib.Core.Option.{some}
+use mathlib.Core.Option.{some, none}
 use native.Mathlib.Omega.{arith}
 use borrow.Author.Needs.{needs}
 use borrow.Author.Tests.{not-true, not-false}
 use lib.ListN.{length}
 use lib.Seq.{length-take-le}
+use Rattle.lasso.specs.Graph.{Graph}
 use Rattle.lasso.specs.Roll.{roll}
 use Rattle.lasso.specs.Following.{following}
-use Rattle.model.specs.Model.{graphOf}
-use Rattle.model.proofs.Laws.{valid-sizes, valid-well-formed}
+use Rattle.model.specs.Model.{graphIn, graphOf}
+use Rattle.model.proofs.Laws.{valid-graph, valid-sizes, valid-well-formed}
 use Rattle.follow.specs.Follow.{upTo}
 use Rattle.gate.proofs.GateLaws.{valid-room}
 use Rattle.paths.proofs.LoopTests.{lassoOf}
 use Rattle.cursor.proofs.TableLaws.{least-fits}
 use Rattle.cursor.proofs.CursorLaws.{moved-none, moved-some}
+use Rattle.finder.specs.Next.{notShortest}
 use Rattle.finder.proofs.NextLaws.{lassoOf-mem, notShortest-lasso, next-answer, next-not-shortest, next-no-more, next-no-room, following-written}
 use Rattle.finder.proofs.following.next_list.Statement.{statement}
 use Rattle.finder.proofs.following.next_list.Tie as tie
@@ -39,32 +42,41 @@ origin c = start (tested (put c) .before)
 
 -- the test of the earlier list
 list-tested : (c : tie.After-is-lasso)
-    → let a = start c .args in lassoOf (graphOf (a .file .now)) (a .earlier .now) (a .length .0) ≡ c .is-lasso .result
+    → let a = start c .args in lassoOf (graphIn (a .file .now) (a .h)) (a .earlier .now) (a .length .0) ≡ c .is-lasso .result
 list-tested c = sym (c .is-lasso .ensures)
 
 -- the earlier list is in the roll
-in-roll : (c : tie.Else1) → let a = start (c .before) .args in List·Memᴰ (a .earlier .now) (roll (graphOf (a .file .now)))
+in-roll : (c : tie.Else1) → let a = start (c .before) .args in List·Memᴰ (a .earlier .now) (roll (graphIn (a .file .now) (a .h)))
 in-roll c =
     let s = start (c .before) in
-    lassoOf-mem (graphOf (s .args .file .now)) (valid-well-formed (s .pre .0 .valid)) (s .args .length .0) (s .pre .1) (s .args .earlier .now)
+    lassoOf-mem (graphIn (s .args .file .now) (s .args .h)) (valid-well-formed (s .pre .0 .valid)) (s .args .length .0) (s .pre .1) (s .args .earlier .now)
     (list-tested (c .before) ∙ not-false _ (c .if1 .left))
 
+-- the same of the file's graph
+in-file-roll : (c : tie.Else1) → let a = start (c .before) .args in List·Memᴰ (a .earlier .now) (roll (graphOf (a .file .now)))
+in-file-roll c =
+    let s = start (c .before) in
+    subst (λ (g : Graph). List·Memᴰ (s .args .earlier .now) (roll g)) (valid-graph (s .pre .0 .valid)) (in-roll c)
+
 -- the working table keeps its length
-kept : (c : tie.After-to-next) → length (c .to-next .last .1 .1 .0) ≡ length (origin c .args .work .now)
+kept : (c : tie.After-to-next) → length (c .to-next .last .1 .1 .1 .0) ≡ length (origin c .args .work .now)
 kept c = c .to-next .ensures .1 ∙ put c .to-list .ensures .1
 
 -- the list that follows stands in region 0
 follows : (c : tie.Else3)
     → let adv = c .before .before .before in
     let a = origin adv .args in
-    following (a .earlier .now) (roll (graphOf (a .file .now))) ≡ some (upTo (graphOf (a .file .now)) (adv .to-next .last .1 .1 .0) (a .length .0))
+    following (a .earlier .now) (roll (graphOf (a .file .now))) ≡ some (upTo (graphOf (a .file .now)) (adv .to-next .last .1 .1 .1 .0) (a .length .0))
 follows c =
     let adv = c .before .before .before in
-    let a = origin adv .args in
-    moved-some (adv .to-next .last .1 .1 .0) (adv .to-next .result) (put adv .to-list .ensures .0) (adv .to-next .ensures .0) (not-false _ (c .if3 .left))
+    let s = origin adv in
+    let a = s .args in
+    let w = adv .to-next .last .1 .1 .1 .0 in
+    subst (λ (g : Graph). following (a .earlier .now) (roll g) ≡ some (upTo g w (a .length .0))) (valid-graph (s .pre .0 .valid))
+    (moved-some w (adv .to-next .result) (put adv .to-list .ensures .0) (adv .to-next .ensures .0) (not-false _ (c .if3 .left)))
 
 -- a list of the least length fits the table
-fits : (c : tie.After-to-next) → origin c .args .length .0 ≤ length (c .to-next .last .1 .1 .0)
+fits : (c : tie.After-to-next) → origin c .args .length .0 ≤ length (c .to-next .last .1 .1 .1 .0)
 fits c =
     let s = origin c in
     omega (arith, kept c, least-fits (s .pre .0) (s .args .length .0) (s .pre .1), s .pre .0 .room)
@@ -77,7 +89,9 @@ returns c =
     let s = start (c .before) in
     let a = s .args in
     let v = s .pre .0 .valid in
-    let apart = notShortest-lasso (graphOf (a .file .now)) (valid-well-formed v) (a .length .0) (s .pre .1) (a .earlier .now) (list-tested (c .before) ∙ not-true _ (c .if1 .taken)) in
+    let apart =
+    subst (λ (g : Graph). notShortest g (a .earlier .now) ≡ true) (valid-graph v)
+    (notShortest-lasso (graphIn (a .file .now) (a .h)) (valid-well-formed v) (a .length .0) (s .pre .1) (a .earlier .now) (list-tested (c .before) ∙ not-true _ (c .if1 .taken))) in
     let is = next-not-shortest (a .file .now) (v .accepted) (a .earlier .now) (length (a .answer .now)) (length (a .work .now)) (valid-room v (s .pre .0 .room)) apart in
     (sym (is .outcome), (sym (next-answer (a .answer .now) is), refl))
 
@@ -104,8 +118,10 @@ returns-3 c =
     let s = origin adv in
     let a = s .args in
     let v = s .pre .0 .valid in
-    let last = moved-none (adv .to-next .last .1 .1 .0) (adv .to-next .result) (put adv .to-list .ensures .0) (adv .to-next .ensures .0) (not-true _ (c .if3 .taken)) in
-    let is = next-no-more (a .file .now) (v .accepted) (a .earlier .now) (length (a .answer .now)) (length (a .work .now)) (valid-room v (s .pre .0 .room)) (in-roll (tested (put adv))) last in
+    let last =
+    subst (λ (g : Graph). following (a .earlier .now) (roll g) ≡ none) (valid-graph v)
+    (moved-none (adv .to-next .last .1 .1 .1 .0) (adv .to-next .result) (put adv .to-list .ensures .0) (adv .to-next .ensures .0) (not-true _ (c .if3 .taken))) in
+    let is = next-no-more (a .file .now) (v .accepted) (a .earlier .now) (length (a .answer .now)) (length (a .work .now)) (valid-room v (s .pre .0 .room)) (in-file-roll (tested (put adv))) last in
     (sym (is .outcome), (sym (next-answer (a .answer .now) is), kept adv))
 
 entries-requires : tie.Need-entries-requires
@@ -122,8 +138,8 @@ returns-4 c =
     let s = origin adv in
     let a = s .args in
     let v = s .pre .0 .valid in
-    let long = length-take-le (a .length .0) (adv .to-next .last .1 .1 .0) (fits adv) in
-    let is = next-no-room (a .file .now) (v .accepted) (a .earlier .now) (length (a .answer .now)) (length (a .work .now)) (valid-room v (s .pre .0 .room)) (in-roll (tested (put adv))) _ (follows more) (omega (arith, long, counted .entries .ensures, c .if4 .taken)) in
+    let long = length-take-le (a .length .0) (adv .to-next .last .1 .1 .1 .0) (fits adv) in
+    let is = next-no-room (a .file .now) (v .accepted) (a .earlier .now) (length (a .answer .now)) (length (a .work .now)) (valid-room v (s .pre .0 .room)) (in-file-roll (tested (put adv))) _ (follows more) (omega (arith, long, counted .entries .ensures, c .if4 .taken)) in
     (sym (is .outcome), (sym (next-answer (a .answer .now) is), kept adv))
 
 write-list-requires : tie.Need-write-list-requires
@@ -156,7 +172,7 @@ returns-5 c =
     let v = s .pre .0 .valid in
     let is =
     following-written (a .file .now) (v .accepted) (length (a .work .now)) (valid-room v (s .pre .0 .room)) (a .earlier .now) (a .answer .now) _ _ (a .h .start) (a .length .0) (wrote .write-list .result)
-    (in-roll (tested (put adv))) (valid-sizes v .start-is) (fits adv) (follows more) (omega (arith, counted .entries .ensures, free .if4 .left))
+    (in-file-roll (tested (put adv))) (valid-sizes v .start-is) (fits adv) (follows more) (omega (arith, counted .entries .ensures, free .if4 .left))
     (wrote .write-list .ensures .0 .0) (wrote .write-list .ensures .1) in
     (is .0, (is .1, kept adv))
 

@@ -1,12 +1,15 @@
 -- `following::next_of_model` meets its contract: without an accepting path 13, else what next answers where the length is
 -- known. The rounds are never stopped, since no model has so many candidates.
-use mathlib.Core.Path.{_≡_, sym, _∙_, ap}
+use mathlib.Core.Path.{_≡_, sym, _∙_, ap, subst}
+use mathlib.Core.Option.{none}
 use Prim.Native.Nat.{ℕ}
 use native.Mathlib.Omega.{arith}
 use borrow.Author.Needs.{needs}
 use lib.ListN.{length}
-use Rattle.model.specs.Model.{graphOf}
-use Rattle.model.proofs.Laws.{valid-sizes}
+use Rattle.lasso.specs.Graph.{Graph}
+use Rattle.lasso.specs.Roll.{leastLength}
+use Rattle.model.specs.Model.{graphIn, graphOf}
+use Rattle.model.proofs.Laws.{valid-graph, valid-sizes}
 use Rattle.finder.proofs.StepLaws.{candidates-length-le}
 use Rattle.gate.proofs.GateLaws.{valid-room}
 use Rattle.cursor.specs.Cursor.{BegunSays}
@@ -24,7 +27,7 @@ abbrev done : tie.After-slice-known3 → tie.After-begin
 done c = c .before .before
 
 -- what an answer of the rounds says, by its case
-says : (c : tie.After-begin) (r : Begun) → c .begin .result ≡ r → BegunSays (graphOf (start c .args .file .now)) 65535 r
+says : (c : tie.After-begin) (r : Begun) → c .begin .result ≡ r → BegunSays (graphIn (start c .args .file .now) (start c .args .h)) 65535 r
 says c r e = rw e at (c .begin .ensures .0)
 
 begin-requires : tie.Need-begin-requires
@@ -55,7 +58,7 @@ returns c =
     let s = start begun in
     let sizes = valid-sizes (s .pre .0) in
     let stop = says begun _ (c .enum-told .given .1) in
-    absurd (omega (arith, stop .short, candidates-length-le (graphOf (s .args .file .now))))
+    absurd (omega (arith, stop .short, candidates-length-le (graphIn (s .args .file .now) (s .args .h))))
 
 same-length-2 : tie.Need-same-length-2
 same-length-2 c = search needs
@@ -66,7 +69,9 @@ returns-2 c =
     let s = start begun in
     let a = s .args in
     let all = says begun _ (c .enum-told2 .given .1) in
-    let none-shortest = notShortest-none (graphOf (a .file .now)) (a .earlier .now) (all .least-is) in
+    let empty : leastLength (graphOf (a .file .now)) ≡ none =
+    subst (λ (g : Graph). leastLength g ≡ none) (valid-graph (s .pre .0)) (all .least-is) in
+    let none-shortest = notShortest-none (graphOf (a .file .now)) (a .earlier .now) empty in
     let is = next-not-shortest (a .file .now) (s .pre .0 .accepted) (a .earlier .now) (length (a .answer .now)) (length (a .work .now)) (valid-room (s .pre .0) (s .pre .1)) none-shortest in
     (sym (is .outcome), (sym (next-answer (a .answer .now) is), begun .begin .ensures .1 .1))
 

@@ -1,17 +1,22 @@
 -- `searching::first_list` meets its contract: the length is never above 4,096; without room for the list the answer is 15
 -- and nothing is written; else the first of the roll is written with its figures.
-use mathlib.Core.Path.{refl, sym, _∙_}
-use mathlib.Core.Option.{none}
+use mathlib.Core.Path.{_≡_, refl, sym, subst}
+use mathlib.Core.List.{head?}
+use mathlib.Core.Option.{some, none}
 use Prim.Native.Nat.{_≤_}
 use native.Mathlib.Omega.{arith}
 use borrow.Author.Needs.{needs}
 use lib.ListN.{length}
+use Rattle.lasso.specs.Graph.{Graph}
+use Rattle.lasso.specs.Roll.{leastLength, roll}
+use Rattle.lasso.specs.Rounds.{candidates}
 use Rattle.lasso.proofs.RollLaws.{leastLength-range}
-use Rattle.model.specs.Model.{graphOf}
-use Rattle.model.proofs.Laws.{valid-sizes}
+use Rattle.model.specs.Model.{graphIn, graphOf}
+use Rattle.model.proofs.Laws.{valid-graph, valid-sizes}
 use Rattle.finder.specs.Outcomes.{refused}
 use Rattle.gate.specs.declared.Ask.{Ask}
 use Rattle.gate.proofs.GateLaws.{valid-room}
+use Rattle.follow.specs.Follow.{upTo}
 use Rattle.cursor.proofs.RollPlaces.{stands-head}
 use Rattle.finder.proofs.SearchLaws.{SearchIs, search-answer, search-no-room, first-written}
 use Rattle.finder.proofs.searching.first_list.Statement.{statement}
@@ -28,7 +33,7 @@ returns : tie.Need-returns
 returns c =
     let s = c .before .before .before .before .before in
     let sizes = valid-sizes (s .pre .0 .valid) in
-    absurd (omega (arith, leastLength-range (graphOf (s .args .file .now)) (s .args .length .0) (s .pre .1 .0), c .if1 .taken))
+    absurd (omega (arith, leastLength-range (graphIn (s .args .file .now) (s .args .h)) (s .args .length .0) (s .pre .1 .0), c .if1 .taken))
 
 entries-requires : tie.Need-entries-requires
 entries-requires c κs = search needs
@@ -39,8 +44,10 @@ returns-2 c =
     let s = start counted in
     let a = s .args in
     let v = s .pre .0 .valid in
+    let least = subst (λ (g : Graph). leastLength g ≡ some (a .length .0)) (valid-graph v) (s .pre .1 .0) in
+    let rounds-are = subst (λ (g : Graph). a .rounds ≡ length (candidates g)) (valid-graph v) (s .pre .1 .1) in
     let is : (ask : Ask) → a .rounds ≤ ask .allowance → SearchIs (a .file .now) ask (length (a .answer .now)) (length (a .work .now)) (refused 15) none =
-    λ ask enough. search-no-room (a .file .now) (v .accepted) ask (length (a .answer .now)) (length (a .work .now)) (valid-room v (s .pre .0 .room)) (omega (arith, s .pre .1 .1)) (a .length .0) (s .pre .1 .0) (omega (arith, counted .entries .ensures, c .if2 .taken)) in (
+    λ ask enough. search-no-room (a .file .now) (v .accepted) ask (length (a .answer .now)) (length (a .work .now)) (valid-room v (s .pre .0 .room)) (omega (arith, rounds-are)) (a .length .0) least (omega (arith, counted .entries .ensures, c .if2 .taken)) in (
       λ ask enough. sym (is ask enough .outcome),
       (λ ask enough. sym (search-answer (a .answer .now) (is ask enough)), refl),
     )
@@ -54,7 +61,7 @@ write-list-requires c κs =
     let entered = roomy listed .before .before .before in
     let s = start entered in
     let sizes = valid-sizes (s .pre .0 .valid) in
-    omega (arith, leastLength-range (graphOf (s .args .file .now)) (s .args .length .0) (s .pre .1 .0), s .pre .0 .room, listed .to-first .ensures .1, entered .entries .ensures, roomy listed .if2 .left)
+    omega (arith, leastLength-range (graphIn (s .args .file .now) (s .args .h)) (s .args .length .0) (s .pre .1 .0), s .pre .0 .room, listed .to-first .ensures .1, entered .entries .ensures, roomy listed .if2 .left)
 
 cast-loop-start : tie.Need-cast-loop-start
 cast-loop-start c = search needs
@@ -74,12 +81,14 @@ returns-3 c =
     let a = s .args in
     let v = s .pre .0 .valid in
     let sizes = valid-sizes v in
-    let range = leastLength-range (graphOf (a .file .now)) (a .length .0) (s .pre .1 .0) in
+    let range = leastLength-range (graphIn (a .file .now) (a .h)) (a .length .0) (s .pre .1 .0) in
     let kept = listed .to-first .ensures .1 in
+    let rounds-are = subst (λ (g : Graph). a .rounds ≡ length (candidates g)) (valid-graph v) (s .pre .1 .1) in
+    let first = subst (λ (g : Graph). head? (roll g) ≡ some (upTo g (listed .to-first .last .1 .1 .1 .0) (a .length .0))) (valid-graph v) (stands-head (listed .to-first .ensures .0 .current)) in
     let both =
     first-written (a .file .now) (v .accepted) (length (a .work .now)) (valid-room v (s .pre .0 .room)) (a .answer .now) _ _ (a .h .start) (a .length .0) (wrote .write-list .result) (a .rounds)
-    (sizes .start-is) (omega (arith, kept, s .pre .0 .room)) (stands-head (listed .to-first .ensures .0 .current)) (omega (arith, entered .entries .ensures, roomy listed .if2 .left))
-    (wrote .write-list .ensures .0 .0) (s .pre .1 .1) (wrote .write-list .ensures .1) in
+    (sizes .start-is) (omega (arith, kept, s .pre .0 .room)) first (omega (arith, entered .entries .ensures, roomy listed .if2 .left))
+    (wrote .write-list .ensures .0 .0) rounds-are (wrote .write-list .ensures .1) in
     (λ ask enough. both ask enough .0, (λ ask enough. both ask enough .1, kept))
 
 pub first-list-spec : {M : Type 1} → statement M

@@ -1,12 +1,14 @@
 -- `searching::search_model` meets its contract: what the rounds come to decides between stopped, empty and the first of the
 -- shortest accepting paths.
-use mathlib.Core.Path.{_≡_, sym, _∙_, ap}
+use mathlib.Core.Path.{_≡_, sym, _∙_, ap, subst}
 use Prim.Native.Nat.{ℕ, _≤_}
 use native.Mathlib.Omega.{arith}
 use borrow.Author.Needs.{needs}
 use lib.ListN.{length}
+use Rattle.lasso.specs.Graph.{Graph}
 use Rattle.lasso.specs.Rounds.{Record}
-use Rattle.model.specs.Model.{graphOf}
+use Rattle.model.specs.Model.{graphIn, graphOf}
+use Rattle.model.proofs.Laws.{valid-graph}
 use Rattle.gate.proofs.GateLaws.{valid-room}
 use Rattle.cursor.specs.Cursor.{BegunSays}
 use Rattle.cursor.specs.declared.Begun.{Begun}
@@ -25,8 +27,14 @@ done c = c .before .before
 
 -- what an answer of the rounds says, by its case
 says : (c : tie.After-begin) (r : Begun) → c .begin .result ≡ r
-    → BegunSays (graphOf (start c .args .file .now)) (start c .args .ask .allowance) r
+    → BegunSays (graphIn (start c .args .file .now) (start c .args .h)) (start c .args .ask .allowance) r
 says c r e = rw e at (c .begin .ensures .0)
+
+-- the same of the file's graph
+says-file : (c : tie.After-begin) (r : Begun) → c .begin .result ≡ r
+    → BegunSays (graphOf (start c .args .file .now)) (start c .args .ask .allowance) r
+says-file c r e =
+    subst (λ (g : Graph). BegunSays g (start c .args .ask .allowance) r) (valid-graph (start c .pre .0)) (says c r e)
 
 begin-requires : tie.Need-begin-requires
 begin-requires c κs = search needs
@@ -55,7 +63,7 @@ returns c =
     let begun = done (c .before .before .before) in
     let s = start begun in
     let a = s .args in
-    let stop = says begun _ (c .before .begun .given .1) in
+    let stop = says-file begun _ (c .before .begun .given .1) in
     let is = search-stopped (a .file .now) (s .pre .0 .accepted) (a .ask) (length (a .answer .now)) (length (a .work .now)) (valid-room (s .pre .0) (s .pre .1)) (stop .short) in (
       ap (λ (r : Record). answered (stopped r)) (stop .record-is) ∙ sym (is .outcome),
       (sym (search-answer (a .answer .now) is), begun .begin .ensures .1 .1),
@@ -69,7 +77,7 @@ returns-2 c =
     let begun = done (c .before .before .before) in
     let s = start begun in
     let a = s .args in
-    let all = says begun _ (c .before .begun2 .given .1) in
+    let all = says-file begun _ (c .before .begun2 .given .1) in
     let is = search-empty (a .file .now) (s .pre .0 .accepted) (a .ask) (length (a .answer .now)) (length (a .work .now)) (valid-room (s .pre .0) (s .pre .1)) (all .enough) (all .least-is) in (
       ap (λ (n : ℕ). answered (empty n)) (all .rounds-are) ∙ sym (is .outcome),
       (sym (search-answer (a .answer .now) is), begun .begin .ensures .1 .1),
@@ -89,7 +97,7 @@ returns-3 c =
     let a = start begun .args in
     let all = says begun _ (listed .begun3 .given .1) in
     let kept = begun .begin .ensures .1 .1 in
-    let fits : listed .begun3 .given .0 .1 ≤ a .ask .allowance = omega (arith, all .rounds-are, all .enough) in (
+    let fits : listed .begun3 .given .0 .1 .0 ≤ a .ask .allowance = omega (arith, all .rounds-are, all .enough) in (
       wrote .first-list .ensures .0 (a .ask) fits ∙ ap (λ (n : ℕ). searchOutcome (a .file .now) (a .ask) (length (a .answer .now)) n) kept,
       (
         wrote .first-list .ensures .1 .0 (a .ask) fits ∙ ap (λ (n : ℕ). searchAnswer (a .file .now) (a .ask) (a .answer .now) n) kept,

@@ -1,13 +1,15 @@
 -- `stepping::step_model` meets its contract: finished if the count of candidates is at most the place, else the record
 -- after the round for the candidate at that place.
-use mathlib.Core.Path.{_∙_}
-use Prim.Native.Nat.{_<_}
+use mathlib.Core.Path.{_≡_, _∙_, subst}
+use Prim.Native.Nat.{_<_, _≤_}
 use native.Mathlib.Omega.{arith}
 use borrow.Author.Needs.{needs}
 use lib.ListN.{length}
-use Rattle.lasso.specs.Rounds.{candidates}
+use Rattle.lasso.specs.Graph.{Graph}
+use Rattle.lasso.specs.Rounds.{candidates, afterRound}
 use Rattle.lasso.specs.Values.{recordOf}
-use Rattle.model.specs.Model.{graphOf}
+use Rattle.model.specs.Model.{graphIn}
+use Rattle.model.proofs.Laws.{valid-graph}
 use Rattle.gate.proofs.GateLaws.{valid-clear}
 use Rattle.cursor.proofs.ReadyLaws.{ready-started}
 use Rattle.finder.proofs.StepLaws.{step-finished, step-advanced}
@@ -22,7 +24,7 @@ abbrev start : tie.After-count-candidates → tie.Start
 start c = started c .before .before .before .before
 
 -- a candidate is left
-left-over : (c : tie.Else1) → let a = start (c .before .before) .args in a .so-far .done < length (candidates (graphOf (a .file .now)))
+left-over : (c : tie.Else1) → let a = start (c .before .before) .args in a .so-far .done < length (candidates (graphIn (a .file .now) (a .h)))
 left-over c = omega (arith, c .before .before .count-candidates .ensures, c .if1 .left)
 
 start-distances-requires : tie.Need-start-distances-requires
@@ -40,9 +42,11 @@ same-length c = search needs
 returns : tie.Need-returns
 returns c =
     let counted = c .before .before in
-    let s = start counted in (
-      step-finished (s .args .file .now) (recordOf (s .args .so-far)) _ (valid-clear (s .pre .0) _ (s .pre .1))
-          (omega (arith, counted .count-candidates .ensures, c .if1 .taken)),
+    let s = start counted in
+    let a = s .args in
+    let none-left : length (candidates (graphIn (a .file .now) (a .h))) ≤ a .so-far .done = omega (arith, counted .count-candidates .ensures, c .if1 .taken) in (
+      step-finished (a .file .now) (recordOf (a .so-far)) _ (valid-clear (s .pre .0) _ (s .pre .1))
+          (subst (λ (g : Graph). length (candidates g) ≤ a .so-far .done) (valid-graph (s .pre .0)) none-left),
       started counted .start-distances .ensures .same-length,
     )
 
@@ -60,9 +64,12 @@ returns-2 c =
     let done = c .before .before in
     let else = done .before .before in
     let counted = else .before .before in
-    let s = start counted in (
-      step-advanced (s .args .file .now) (recordOf (s .args .so-far)) _ (valid-clear (s .pre .0) _ (s .pre .1)) (left-over else) _
-          (done .next-round .ensures .0),
+    let s = start counted in
+    let a = s .args in
+    let g-is = valid-graph (s .pre .0) in (
+      step-advanced (a .file .now) (recordOf (a .so-far)) _ (valid-clear (s .pre .0) _ (s .pre .1))
+          (subst (λ (g : Graph). a .so-far .done < length (candidates g)) g-is (left-over else)) _
+          (subst (λ (g : Graph). recordOf (done .next-round .result) ≡ afterRound g (recordOf (a .so-far))) g-is (done .next-round .ensures .0)),
       done .next-round .ensures .1 .same-length ∙ started counted .start-distances .ensures .same-length,
     )
 
