@@ -1,8 +1,7 @@
 -- Condition 1 holds: a step, a search and a next are refused with the first reason that holds, and leave the tables as the
 -- contract says.
-use Prim.Native.Nat.{ℕ, _≤_, _<_}
+use Prim.Native.Nat.{ℕ}
 use mathlib.Core.Path.{_≡_, refl, sym, _∙_, ap}
-use mathlib.Core.Logic.{_↔_}
 use mathlib.Core.List.{List, [], _++_}
 use mathlib.Core.Option.{Option, some, none}
 use native.Mathlib.Omega.{arith}
@@ -14,13 +13,13 @@ use Rattle.lasso.specs.Roll.{roll}
 use Rattle.gate.specs.declared.Ask.{Ask}
 use Rattle.model.specs.Model.{graphOf}
 use Rattle.model.specs.Rules.{Reason, firstBroken}
-use Rattle.finder.specs.Outcomes.{Outcome, refused, answered, outcome}
+use Rattle.finder.specs.Outcomes.{refused, answered, outcome}
 use Rattle.gate.specs.Gate.{commonRules, workAfter, workOf}
 use Rattle.finder.specs.Tables.{written}
 use Rattle.finder.specs.Step.{stepped}
 use Rattle.finder.specs.Search.{searched, firstDue, listReasons, searchReasons, unlessRefused}
 use Rattle.finder.specs.Next.{followed, dueReasons, nextReasons}
-use Rattle.finder.specs.Reasons.{numbersOf, NoneHolds, FirstHolds}
+use Rattle.finder.specs.Reasons.{numbersOf}
 use Rattle.finder.specs.Condition1.{stepNumbers, searchNumbers, nextNumbers, Refuses, AnswerKept, WorkLeft, Condition1Holds}
 use Rattle.gate.proofs.GateLaws.{clear-append, broken-append}
 use Rattle.finder.proofs.FirstLaws.{none-clear, clear-none, broken-first, first-broken, betweenb, broken-between, refused-some, answered-none}

@@ -2,7 +2,7 @@
 use Prim.Native.Nat.{ℕ, _+_, _*_, _≤_, _<_}
 use mathlib.Core.Path.{_≡_, refl, sym, _∙_, ap, subst}
 use mathlib.Core.Bool.{false}
-use mathlib.Core.Logic.{_⊎_, inl, inr}
+use mathlib.Core.Logic.{inl, inr}
 use mathlib.Core.List.{List, [], _∷_, _++_, head?, List·Memᴰ, List·Memᴰ·head, List·Memᴰ·cases-cons}
 use mathlib.Core.Option.{Option, some, none}
 use native.Mathlib.Omega.{arith}
@@ -30,7 +30,7 @@ use Rattle.gate.specs.Gate.{commonRules}
 use Rattle.finder.specs.Tables.{noRoom}
 use Rattle.finder.specs.Search.{searched, firstDue, lengthDue, listReasons, searchReasons}
 use Rattle.finder.specs.Reasons.{NoneHolds}
-use Rattle.finder.specs.Condition2.{SomePath, FirstShortest, Searches, Condition2, SearchPasses, SearchPassesExactly, Condition2Holds}
+use Rattle.finder.specs.Condition2.{SomePath, FirstShortest, Searches, SearchPasses, SearchPassesExactly, Condition2Holds}
 use Rattle.gate.proofs.GateLaws.{tableReason}
 use Rattle.finder.proofs.FirstLaws.{none-clear, clear-none, none-parts, answered-none}
 use Rattle.finder.proofs.SearchLaws.{SearchIs, search-answer, search-stopped, search-empty, search-found, search-goes-on, roll-first}

@@ -19,7 +19,7 @@ use Rattle.lasso.proofs.Sorted.{Sorted}
 use Rattle.lasso.proofs.OrderLaws.{Before}
 use Rattle.lasso.proofs.RollLaws.{roll-strict}
 use Rattle.model.specs.Model.{graphOf}
-use Rattle.model.specs.Rules.{firstBroken, Accepted}
+use Rattle.model.specs.Rules.{firstBroken}
 use Rattle.finder.specs.Outcomes.{outcome, stopped}
 use Rattle.gate.specs.declared.Ask.{Ask}
 use Rattle.gate.specs.Gate.{commonRules, workOf}
@@ -29,7 +29,7 @@ use Rattle.finder.specs.Next.{notShortest, dueReasons, followed}
 use Rattle.gate.proofs.GateLaws.{broken-append, clear-append}
 use Rattle.sequence.specs.Calls.{Call, search, next, ofSearch, ofNext, Result, finderAt, foundLength, copyOf, received}
 use Rattle.sequence.specs.Book.{listAt, page, afterSearch, afterNext, unlessRefusedℕ, bookResults, bookEnd}
-use Rattle.sequence.specs.Claim.{lastReceived, Lent, Proper, collect, listsReceived, Listed}
+use Rattle.sequence.specs.Claim.{lastReceived, Lent, Proper, collect, listsReceived, Condition3Holds}
 use Rattle.sequence.proofs.Places.{listAt-getElem, getElem-lt, getElem-mem, take-getElem, following-getElem, roll-entries, copy-written}
 
 -- the copy last received when h lists were: none, or the list at place h − 1
@@ -210,7 +210,7 @@ at-start rs = record { at-copy = refl; at-lists = refl; within = omega arith }
 
 -- condition 3: for every sequence of calls on one accepted file the answers and tables are the book's, and the lists
 -- received from the last search that answered "found" onward are the first h of the roll
-pub condition-3 : (f : List ℕ) → Accepted f → (cs : List Call) → Proper f none cs → Listed f cs
+pub condition-3 : Condition3Holds
 condition-3 f accepted cs proper =
     let all = sequence-comes-to f (at-start (roll (graphOf f))) cs proper in
     record { results = all .results; lists = all .at-lists }

@@ -8,6 +8,7 @@ use lib.ListN.{take}
 use lib.Dec.{T}
 use Rattle.lasso.specs.Roll.{roll}
 use Rattle.model.specs.Model.{graphOf}
+use Rattle.model.specs.Rules.{Accepted}
 use Rattle.finder.specs.Next.{notShortest}
 use Rattle.sequence.specs.Calls.{Call, search, next, finderAt, received}
 use Rattle.sequence.specs.Book.{bookResults, bookEnd}
@@ -43,3 +44,7 @@ listsReceived f lists (c ∷ cs) = listsReceived f (collect c (received (finderA
 pub record Listed (f : List ℕ) (cs : List Call) : Type 0 where
   pub results : map (finderAt f) cs ≡ bookResults f 0 cs
   pub lists : listsReceived f [] cs ≡ take (bookEnd f 0 cs) (roll (graphOf f))
+
+-- condition 3: for every sequence of calls on one accepted file
+abbrev pub Condition3Holds : Type 0
+Condition3Holds = (f : List ℕ) → Accepted f → (cs : List Call) → Proper f none cs → Listed f cs
