@@ -138,7 +138,7 @@ fn limit_of(so_far: RoundRecord, n: usize) -> usize
     }
 }
 
-// The record after the round for candidate r, whose place is the count. A length above the best so far may be left out.
+// The record after the round for candidate r, whose place is the count. A length above the best need not be found.
 fn after_round(
     file: &[u8],
     h: Header,
@@ -201,11 +201,11 @@ pub fn run_rounds(file: &[u8], h: Header, work: &mut [u16], allowance: usize) ->
     };
     let mut s = 0;
     while s < n {
-        let done = record.done as usize;
-        if allowance <= done {
-            return record;
-        }
         if is_candidate(file, h, work, s) {
+            let done = record.done as usize;
+            if allowance <= done {
+                return record;
+            }
             record = after_round(file, h, work, s, record);
         }
         s += 1;

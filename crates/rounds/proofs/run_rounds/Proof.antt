@@ -27,32 +27,43 @@ loop-holds c =
     let start = c .before .before in
     (omega arith, sameOutside-refl _ _ _, underway-none (graphIn (start .args .file .now) (start .args .h)) (start .args .allowance))
 
+-- the loop's turn, and the function's start, from where the state at hand is tested
+abbrev at-loop : tie.After-is-candidate Inv-loop μ-loop → tie.At-loop Inv-loop μ-loop
+at-loop c = c .before .before .before
+
+abbrev start : tie.After-is-candidate Inv-loop μ-loop → tie.Start Inv-loop μ-loop
+start c = at-loop c .before .before .before
+
+-- the state at hand is a state
+inside : (c : tie.After-is-candidate Inv-loop μ-loop) → at-loop c .loop .s < graphIn (start c .args .file .now) (start c .args .h) .size
+inside c = let sizes = valid-sizes (start c .pre .valid) in omega (arith, c .before .before .loop-test .taken)
+
+is-candidate-requires : tie.Need-is-candidate-requires Inv-loop μ-loop
+is-candidate-requires c κs =
+    let at = c .before .before in
+    (ready-kept (at .before .before .before .pre) (at .loop .inv .1), omega arith)
+
 cast-done : tie.Need-cast-done Inv-loop μ-loop
 cast-done c = omega arith
 
 same-length : tie.Need-same-length Inv-loop μ-loop
-same-length c = c .before .before .before .loop .inv .1 .same-length
+same-length c = at-loop (c .before .before .before) .loop .inv .1 .same-length
 
 returns : tie.Need-returns Inv-loop μ-loop
 returns c =
-    let inv = c .before .before .before .loop .inv in
+    let inv = at-loop (c .before .before .before) .loop .inv in
     (underway-stopped (omega arith) (inv .2), inv .1)
-
-is-candidate-requires : tie.Need-is-candidate-requires Inv-loop μ-loop
-is-candidate-requires c κs =
-    let at = c .before .before .before .before in
-    (ready-kept (at .before .before .before .pre) (at .loop .inv .1), omega arith)
 
 after-round-requires : tie.Need-after-round-requires Inv-loop μ-loop
 after-round-requires c κs =
-    let tested = c .before .before in
-    let at = tested .before .before .before .before .before in
-    let ready = at .before .before .before .pre in
-    let sizes = valid-sizes (ready .valid) in
-    let test = sym (tested .is-candidate .ensures) ∙ c .before .if2 .taken in
-    let inside : at .loop .s < graphIn (at .before .before .before .args .file .now) (at .before .before .before .args .h) .size = omega arith in
-    let counted = at .loop .inv .2 .counted in
-    (ready-kept ready (at .loop .inv .1), (counted-left inside test counted, sym (counted-at inside test counted)))
+    let then = c .before .before .before in
+    let tested = then .before in
+    let inv = at-loop tested .loop .inv in
+    let test = sym (tested .is-candidate .ensures) ∙ then .if1 .taken in
+    let counted = inv .2 .counted in (
+      ready-kept (start tested .pre) (inv .1),
+      (counted-left (inside tested) test counted, sym (counted-at (inside tested) test counted)),
+    )
 
 add-s : tie.Need-add-s Inv-loop μ-loop
 add-s c = omega arith
@@ -62,15 +73,18 @@ loop-less c = omega arith
 
 loop-again : tie.Need-loop-again Inv-loop μ-loop
 loop-again c =
-    let test = sym (c .before .is-candidate .ensures) in
-    let at = c .before .before .before .before .before .before in
-    let start = at .before .before .before in
-    let sizes = valid-sizes (start .pre .valid) in
-    let inside : at .loop .s < graphIn (start .args .file .now) (start .args .h) .size = omega arith in
-    let (within, same, underway) = at .loop .inv in
+    let tested = c .before in
+    let test = sym (tested .is-candidate .ensures) in
+    let low = inside tested in
+    let (within, same, underway) = at-loop tested .loop .inv in
     ⊎-elim
-    (λ w. (omega arith, rw (w .5) (sameOutside-trans same (w .2 .ensures .1)), rw (w .6) (underway-yes inside (test ∙ w .0 .taken) (omega arith) (w .2 .ensures .0) underway)))
-    (λ w. (omega arith, rw (w .1) same, rw (w .2) (underway-no inside (test ∙ w .0 .left) underway))) (c .if2 .came)
+    (λ w. (
+      omega arith,
+      rw (w .7) (sameOutside-trans same (w .4 .ensures .1)),
+      rw (w .8) (underway-yes low (test ∙ w .0 .taken) (omega (arith, w .2 .left)) (w .4 .ensures .0) underway),
+    ))
+    (λ w. (omega arith, rw (w .1) same, rw (w .2) (underway-no low (test ∙ w .0 .left) underway)))
+    (c .if1 .came)
 
 same-length-2 : tie.Need-same-length-2 Inv-loop μ-loop
 same-length-2 c = c .before .loop .inv .1 .same-length
@@ -87,10 +101,10 @@ run-rounds-spec =
     Inv-loop
     μ-loop
     loop-holds
+    is-candidate-requires
     cast-done
     same-length
     returns
-    is-candidate-requires
     after-round-requires
     add-s
     loop-less
