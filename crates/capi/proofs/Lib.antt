@@ -1,3 +1,2 @@
--- The laws of the C interface: figures written to a table, what a call with a short table does, and that nothing is lost.
-pub mod ReportLaws
-pub mod NothingLost
+-- The laws of the C interface: what a call with a short table does, and the record that a step is given.
+pub mod CallLaws

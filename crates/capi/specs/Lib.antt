@@ -1,2 +1,2 @@
--- What the C interface reports: the kinds of answer, their figures, and the tables afterwards.
-pub mod Kinds
+-- What the C interface does: the report of each call, and the tables afterwards.
+pub mod Interface

@@ -3,19 +3,17 @@
 ghost use mathlib.Core.Path.{_≡_};
 ghost use lib.ListN.{length};
 ghost use Rattle.lasso.specs.Values.{recordOf};
-ghost use Rattle.capi.specs.Kinds.{recordGiven, figuresIn, stepCall, searchCall, nextCall, answerAfterSearch, answerAfterNext, workAfterCall};
-
-mod report;
-
+ghost use Rattle.answers.specs.Kinds.{recordGiven, figuresIn};
+ghost use Rattle.capi.specs.Interface.{stepCall, searchCall, nextCall, answerAfterSearch, answerAfterNext, workAfterCall};
+use answers::report_next;
+use answers::report_search;
+use answers::report_step;
 use finder::next;
 use finder::search;
 use finder::step;
 use lasso::Best;
 use lasso::RoundRecord;
 use lasso::Transitions;
-pub use report::report_next;
-pub use report::report_search;
-pub use report::report_step;
 
 // The entries that `out` must have.
 const OUT_ENTRIES: usize = 4;

@@ -26,7 +26,7 @@ use Rattle.finder.specs.declared.NextAnswer.the-variants as NextAnswers
 use Rattle.finder.specs.Tables.{commonRules, tooLong, noRoom}
 use Rattle.finder.specs.Search.{stopsb, firstOf, searched, firstDue, listReasons, searchReasons, searchOutcome}
 use Rattle.finder.specs.Next.{notShortest, followed, dueReasons, nextReasons, nextOutcome}
-use Rattle.capi.specs.Kinds.{figuresIn}
+use Rattle.answers.specs.Kinds.{figuresIn}
 use Rattle.sequence.specs.Calls.{Call, search, next, Answer, ofSearch, ofNext, finderAt, foundLength, copyOf, received}
 use Rattle.player.specs.Script.{keepCopy}
 use Rattle.player.specs.Log.{reportOf, reportRow, row, entriesOf, Made}

@@ -5,7 +5,7 @@ use mathlib.Core.List.{List, [], _∷_, _++_}
 use mathlib.Core.Option.{Option, some, none}
 use lib.ListN.{length, take, drop}
 use Rattle.lasso.specs.Lists.{collect}
-use Rattle.capi.specs.Kinds.{Report, searchReport, nextReport, figuresIn}
+use Rattle.answers.specs.Kinds.{Report, searchReport, nextReport, figuresIn}
 use Rattle.sequence.specs.Calls.{Call, Answer, ofSearch, ofNext, Result, finderAt, foundLength}
 
 -- the kind and the figures of an answer

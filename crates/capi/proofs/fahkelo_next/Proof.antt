@@ -7,8 +7,8 @@ use lib.ListN.{length}
 use Rattle.finder.specs.Outcomes.{Outcome, Followed, nextOutcomeOf}
 use Rattle.finder.specs.Tables.{workOf}
 use Rattle.finder.specs.Next.{nextOutcome, nextAnswer}
-use Rattle.capi.specs.Kinds.{nextReport}
-use Rattle.capi.proofs.ReportLaws.{is-short, is-enough, reports-short, reports-enough}
+use Rattle.answers.specs.Kinds.{nextReport}
+use Rattle.capi.proofs.CallLaws.{is-short, is-enough, reports-short, reports-enough}
 use Rattle.capi.proofs.fahkelo_next.Statement.{statement}
 use Rattle.capi.proofs.fahkelo_next.Tie as tie
 

@@ -7,8 +7,8 @@ use lib.ListN.{length}
 use Rattle.finder.specs.Outcomes.{Outcome, Searched, searchOutcomeOf}
 use Rattle.finder.specs.Tables.{workOf}
 use Rattle.finder.specs.Search.{searchOutcome, searchAnswer}
-use Rattle.capi.specs.Kinds.{searchReport}
-use Rattle.capi.proofs.ReportLaws.{is-short, is-enough, reports-short, reports-enough}
+use Rattle.answers.specs.Kinds.{searchReport}
+use Rattle.capi.proofs.CallLaws.{is-short, is-enough, reports-short, reports-enough}
 use Rattle.capi.proofs.fahkelo_search.Statement.{statement}
 use Rattle.capi.proofs.fahkelo_search.Tie as tie
 

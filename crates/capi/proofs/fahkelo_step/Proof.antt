@@ -9,8 +9,8 @@ use Rattle.lasso.specs.Rounds.{Record}
 use Rattle.finder.specs.Outcomes.{Outcome, Stepped, stepOutcomeOf}
 use Rattle.finder.specs.Tables.{workOf}
 use Rattle.finder.specs.Step.{stepOutcome}
-use Rattle.capi.specs.Kinds.{recordGiven, stepReport}
-use Rattle.capi.proofs.ReportLaws.{is-short, is-enough, reports-short, reports-enough}
+use Rattle.answers.specs.Kinds.{recordGiven, stepReport}
+use Rattle.capi.proofs.CallLaws.{is-short, is-enough, reports-short, reports-enough}
 use Rattle.capi.proofs.fahkelo_step.Statement.{statement}
 use Rattle.capi.proofs.fahkelo_step.Tie as tie
 

@@ -7,7 +7,7 @@ ghost use lib.ListN.{length};
 ghost use Rattle.lasso.specs.Values.{recordOf};
 ghost use Rattle.finder.specs.Outcomes.{stepOutcomeOf, searchOutcomeOf, nextOutcomeOf};
 ghost use Rattle.finder.specs.Tables.{written};
-ghost use Rattle.capi.specs.Kinds.{recordFigures, stepReport, searchReport, nextReport, figuresIn};
+ghost use Rattle.answers.specs.Kinds.{recordFigures, stepReport, searchReport, nextReport, figuresIn};
 use finder::NextAnswer;
 use finder::SearchAnswer;
 use finder::StepAnswer;

@@ -1,9 +1,9 @@
 -- `report::put_record` meets its contract: three figures, whether there is a best length or not.
 use borrow.Author.Needs.{needs}
 use mathlib.Core.Path.{_∙_}
-use Rattle.capi.proofs.ReportLaws.{record-written}
-use Rattle.capi.proofs.report.put_record.Statement.{statement}
-use Rattle.capi.proofs.report.put_record.Tie as tie
+use Rattle.answers.proofs.ReportLaws.{record-written}
+use Rattle.answers.proofs.report.put_record.Statement.{statement}
+use Rattle.answers.proofs.report.put_record.Tie as tie
 
 enum-told : tie.Need-enum-told
 enum-told c = search needs

@@ -2,10 +2,10 @@
 use borrow.Author.Needs.{needs}
 use Rattle.finder.specs.declared.NextAnswer.{NextAnswer}
 use Rattle.finder.specs.Outcomes.{nextOutcomeOf}
-use Rattle.capi.specs.Kinds.{Report, nextReport}
-use Rattle.capi.proofs.ReportLaws.{reports-known}
-use Rattle.capi.proofs.report.report_next.Statement.{statement}
-use Rattle.capi.proofs.report.report_next.Tie as tie
+use Rattle.answers.specs.Kinds.{Report, nextReport}
+use Rattle.answers.proofs.ReportLaws.{reports-known}
+use Rattle.answers.proofs.report.report_next.Statement.{statement}
+use Rattle.answers.proofs.report.report_next.Tie as tie
 
 -- the report of an answer of the code
 abbrev answerReport : NextAnswer → Report

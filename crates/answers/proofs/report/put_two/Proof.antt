@@ -1,8 +1,8 @@
 -- `report::put_two` meets its contract.
 use borrow.Author.Needs.{needs}
-use Rattle.capi.proofs.ReportLaws.{second-there, two-written}
-use Rattle.capi.proofs.report.put_two.Statement.{statement}
-use Rattle.capi.proofs.report.put_two.Tie as tie
+use Rattle.answers.proofs.ReportLaws.{second-there, two-written}
+use Rattle.answers.proofs.report.put_two.Statement.{statement}
+use Rattle.answers.proofs.report.put_two.Tie as tie
 
 slice-write-out : tie.Need-slice-write-out
 slice-write-out c = search needs

@@ -1,8 +1,8 @@
 -- `report::put_one` meets its contract.
 use borrow.Author.Needs.{needs}
-use Rattle.capi.proofs.ReportLaws.{one-written}
-use Rattle.capi.proofs.report.put_one.Statement.{statement}
-use Rattle.capi.proofs.report.put_one.Tie as tie
+use Rattle.answers.proofs.ReportLaws.{one-written}
+use Rattle.answers.proofs.report.put_one.Statement.{statement}
+use Rattle.answers.proofs.report.put_one.Tie as tie
 
 slice-write-out : tie.Need-slice-write-out
 slice-write-out c = search needs

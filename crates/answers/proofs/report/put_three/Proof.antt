@@ -1,8 +1,8 @@
 -- `report::put_three` meets its contract.
 use borrow.Author.Needs.{needs}
-use Rattle.capi.proofs.ReportLaws.{second-there, three-written}
-use Rattle.capi.proofs.report.put_three.Statement.{statement}
-use Rattle.capi.proofs.report.put_three.Tie as tie
+use Rattle.answers.proofs.ReportLaws.{second-there, three-written}
+use Rattle.answers.proofs.report.put_three.Statement.{statement}
+use Rattle.answers.proofs.report.put_three.Tie as tie
 
 slice-write-out : tie.Need-slice-write-out
 slice-write-out c = search needs

@@ -1,15 +1,15 @@
--- `report::report_search` meets its contract, answer by answer.
+-- `report::report_step` meets its contract, answer by answer.
 use borrow.Author.Needs.{needs}
-use Rattle.finder.specs.declared.SearchAnswer.{SearchAnswer}
-use Rattle.finder.specs.Outcomes.{searchOutcomeOf}
-use Rattle.capi.specs.Kinds.{Report, searchReport}
-use Rattle.capi.proofs.ReportLaws.{reports-known}
-use Rattle.capi.proofs.report.report_search.Statement.{statement}
-use Rattle.capi.proofs.report.report_search.Tie as tie
+use Rattle.finder.specs.declared.StepAnswer.{StepAnswer}
+use Rattle.finder.specs.Outcomes.{stepOutcomeOf}
+use Rattle.answers.specs.Kinds.{Report, stepReport}
+use Rattle.answers.proofs.ReportLaws.{reports-known}
+use Rattle.answers.proofs.report.report_step.Statement.{statement}
+use Rattle.answers.proofs.report.report_step.Tie as tie
 
 -- the report of an answer of the code
-abbrev answerReport : SearchAnswer → Report
-answerReport a = searchReport (searchOutcomeOf a)
+abbrev answerReport : StepAnswer → Report
+answerReport a = stepReport (stepOutcomeOf a)
 
 enum-known-answer : tie.Need-enum-known-answer
 enum-known-answer c = search needs
@@ -26,14 +26,8 @@ put-record-requires c κs = search needs
 enum-known-answer-3 : tie.Need-enum-known-answer-3
 enum-known-answer-3 c = search needs
 
-put-three-requires : tie.Need-put-three-requires
-put-three-requires c κs = search needs
-
-enum-known-answer-4 : tie.Need-enum-known-answer-4
-enum-known-answer-4 c = search needs
-
-put-one-requires-2 : tie.Need-put-one-requires-2
-put-one-requires-2 c κs = search needs
+put-record-requires-2 : tie.Need-put-record-requires-2
+put-record-requires-2 c κs = search needs
 
 same-length : tie.Need-same-length
 same-length c = search needs
@@ -60,19 +54,10 @@ returns-3 : tie.Need-returns-3
 returns-3 c =
     let done = c .before .before in
     let told = done .before .before .before in
-    reports-known answerReport (told .before .before .before .args .out .now) (told .answer3 .given .1) (done .put-three .ensures)
+    reports-known answerReport (told .before .before .before .args .out .now) (told .answer3 .given .1) (done .put-record2 .ensures)
 
-same-length-4 : tie.Need-same-length-4
-same-length-4 c = search needs
-
-returns-4 : tie.Need-returns-4
-returns-4 c =
-    let done = c .before .before in
-    let told = done .before .before .before in
-    reports-known answerReport (told .before .before .before .args .out .now) (told .answer4 .given .1) (done .put-one2 .ensures)
-
-pub report-search-spec : {M : Type 1} → statement M
-report-search-spec =
+pub report-step-spec : {M : Type 1} → statement M
+report-step-spec =
     tie.close
     (tie.spec
     enum-known-answer
@@ -80,14 +65,10 @@ report-search-spec =
     enum-known-answer-2
     put-record-requires
     enum-known-answer-3
-    put-three-requires
-    enum-known-answer-4
-    put-one-requires-2
+    put-record-requires-2
     same-length
     returns
     same-length-2
     returns-2
     same-length-3
-    returns-3
-    same-length-4
-    returns-4)
+    returns-3)

@@ -7,7 +7,7 @@ use lib.Dec.{eqb}
 use Rattle.lasso.specs.Lists.{pick}
 use Rattle.lasso.specs.Rounds.{Record}
 use Rattle.finder.specs.Outcomes.{Outcome, refused, answered, Stepped, finished, advanced, Searched, stopped, empty, Followed, noMore}
-use Rattle.capi.specs.Kinds.{Report, hasBest, bestFigure, recordGiven, stepReport, searchReport, nextReport}
+use Rattle.answers.specs.Kinds.{Report, hasBest, bestFigure, recordGiven, stepReport, searchReport, nextReport}
 
 -- the record as it came out can be given to the next step
 given-back : (done : ℕ) (best : Option ℕ) → recordGiven done (hasBest best) (bestFigure best) ≡ record { done = done; best = best }

@@ -1,0 +1,2 @@
+-- The answers of the finder as kinds and figures.
+pub mod Kinds
