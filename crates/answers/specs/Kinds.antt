@@ -8,7 +8,7 @@ use Rattle.lasso.specs.Rounds.{Record}
 use Rattle.finder.specs.Outcomes.{Outcome, refused, answered, Stepped, finished, advanced, Searched, stopped, empty, Followed, noMore}
 use Rattle.finder.specs.Tables.{written}
 
--- A kind of answer with its figures in order.
+-- A kind of answer, or the number of a refusal in its place, with its figures in order.
 pub record Report : Type 0 where
   pub kind : ℕ
   pub figures : List ℕ
@@ -31,24 +31,28 @@ recordFigures rec = rec .done ∷ hasBest (rec .best) ∷ bestFigure (rec .best)
 abbrev pub recordGiven : (done has best : ℕ) → Record
 recordGiven done has best = record { done = done; best = pick (eqb has 0) none (some best) }
 
--- a step: 0 refused, 5 finished, 6 advanced
+-- a refusal: its number stands for the kind, and there are no figures
+abbrev pub refusal : ℕ → Report
+refusal n = record { kind = n; figures = [] }
+
+-- a step: 105 finished, 106 advanced
 abbrev pub stepReport : Outcome Stepped → Report
-stepReport (refused n) = record { kind = 0; figures = n ∷ [] }
-stepReport (answered (finished rec)) = record { kind = 5; figures = recordFigures rec }
-stepReport (answered (advanced rec)) = record { kind = 6; figures = recordFigures rec }
+stepReport (refused n) = refusal n
+stepReport (answered (finished rec)) = record { kind = 105; figures = recordFigures rec }
+stepReport (answered (advanced rec)) = record { kind = 106; figures = recordFigures rec }
 
--- a search: 0 refused, 1 stopped, 2 found (L, k, rounds), 3 empty (rounds)
+-- a search: 101 stopped, 102 found (L, k, rounds), 103 empty (rounds)
 abbrev pub searchReport : Outcome Searched → Report
-searchReport (refused n) = record { kind = 0; figures = n ∷ [] }
-searchReport (answered (stopped rec)) = record { kind = 1; figures = recordFigures rec }
-searchReport (answered (Searched.found l k rounds)) = record { kind = 2; figures = l ∷ k ∷ rounds ∷ [] }
-searchReport (answered (empty rounds)) = record { kind = 3; figures = rounds ∷ [] }
+searchReport (refused n) = refusal n
+searchReport (answered (stopped rec)) = record { kind = 101; figures = recordFigures rec }
+searchReport (answered (Searched.found l k rounds)) = record { kind = 102; figures = l ∷ k ∷ rounds ∷ [] }
+searchReport (answered (empty rounds)) = record { kind = 103; figures = rounds ∷ [] }
 
--- next: 0 refused, 2 found (L, k), 4 no more
+-- next: 102 found (L, k), 104 no more
 abbrev pub nextReport : Outcome Followed → Report
-nextReport (refused n) = record { kind = 0; figures = n ∷ [] }
-nextReport (answered (Followed.found l k)) = record { kind = 2; figures = l ∷ k ∷ [] }
-nextReport (answered noMore) = record { kind = 4; figures = [] }
+nextReport (refused n) = refusal n
+nextReport (answered (Followed.found l k)) = record { kind = 102; figures = l ∷ k ∷ [] }
+nextReport (answered noMore) = record { kind = 104; figures = [] }
 
 -- a table afterwards: the figures from entry 0 on; later entries do not change
 abbrev pub figuresIn : List ℕ → Report → List ℕ

@@ -1,6 +1,6 @@
-// The answers of the finder as kinds and figures: the kind is answered, the figures are written to the front of a table.
+// The answers of the finder as numbers. A refusal is its number, and has no figures; every other answer is a kind above 100
+// and figures, which are written to the front of a table.
 ghost use mathlib.Core.Path.{_≡_};
-ghost use mathlib.Core.List.{[], _∷_};
 ghost use mathlib.Core.Option.{some};
 ghost use Prim.Native.Nat.{_≤_};
 ghost use lib.ListN.{length};
@@ -15,57 +15,43 @@ use lasso::Best;
 use lasso::RoundRecord;
 
 // The kinds of answer.
-const REFUSED: u16 = 0;
+const STOPPED: u16 = 101;
 
-const STOPPED: u16 = 1;
+const FOUND: u16 = 102;
 
-const FOUND: u16 = 2;
+const EMPTY: u16 = 103;
 
-const EMPTY: u16 = 3;
+const NO_MORE: u16 = 104;
 
-const NO_MORE: u16 = 4;
+const FINISHED: u16 = 105;
 
-const FINISHED: u16 = 5;
+const ADVANCED: u16 = 106;
 
-const ADVANCED: u16 = 6;
-
-// Writes one figure.
-fn put_one(out: &mut [u16], figure: u16)
-    requires { ⌜ 3 ≤ length (now out) ⌝ }
-    ensures { λ _. ⌜ now (out .exit) ≡ written (some (figure ∷ [])) (now (out .entry)) ⌝ }
+// Reports a kind with its figures: they go to the front of the table.
+fn report_figures(kind: u16, figures: &[u16], out: &mut [u16]) -> u16
+    requires { ⌜ length (now figures) ≤ length (now out) ⌝ }
+    ensures kind { λ v. ⌜ v ≡ kind ⌝ }
+    ensures out { λ _. ⌜ now (out .exit) ≡ written (some (now (figures .entry))) (now (out .entry)) ⌝ }
 {
-    out[0] = figure;
+    let mut i = 0;
+    while i < figures.len() {
+        out[i] = figures[i];
+        i += 1;
+    }
+    kind
 }
 
-// Writes two figures.
-fn put_two(out: &mut [u16], a: u16, b: u16)
+// Reports a record: the rounds done, whether there is a best length, and that length or 0.
+fn report_record(kind: u16, r: RoundRecord, out: &mut [u16]) -> u16
     requires { ⌜ 3 ≤ length (now out) ⌝ }
-    ensures { λ _. ⌜ now (out .exit) ≡ written (some (a ∷ b ∷ [])) (now (out .entry)) ⌝ }
-{
-    out[0] = a;
-    out[1] = b;
-}
-
-// Writes three figures.
-fn put_three(out: &mut [u16], a: u16, b: u16, c: u16)
-    requires { ⌜ 3 ≤ length (now out) ⌝ }
-    ensures { λ _. ⌜ now (out .exit) ≡ written (some (a ∷ b ∷ c ∷ [])) (now (out .entry)) ⌝ }
-{
-    out[0] = a;
-    out[1] = b;
-    out[2] = c;
-}
-
-// Writes the figures of a record: the rounds done, whether there is a best length, and that length or 0.
-fn put_record(out: &mut [u16], r: RoundRecord)
-    requires { ⌜ 3 ≤ length (now out) ⌝ }
-    ensures { λ _. ⌜ now (out .exit) ≡ written (some (recordFigures (recordOf r))) (now (out .entry)) ⌝ }
+    ensures kind { λ v. ⌜ v ≡ kind ⌝ }
+    ensures out { λ _. ⌜ now (out .exit) ≡ written (some (recordFigures (recordOf r))) (now (out .entry)) ⌝ }
 {
     let done = r.done;
     let best = r.best;
     match best {
-        Best::None => put_three(out, done, 0, 0),
-        Best::Length(l) => put_three(out, done, 1, l.0),
+        Best::None => report_figures(kind, &[done, 0, 0], out),
+        Best::Length(l) => report_figures(kind, &[done, 1, l.0], out),
     }
 }
 
@@ -76,18 +62,9 @@ pub fn report_step(answer: StepAnswer, out: &mut [u16]) -> u16
     ensures out { λ _. ⌜ now (out .exit) ≡ figuresIn (now (out .entry)) (stepReport (stepOutcomeOf answer)) ⌝ }
 {
     match answer {
-        StepAnswer::Refused(number) => {
-            put_one(out, number);
-            REFUSED
-        }
-        StepAnswer::Finished(r) => {
-            put_record(out, r);
-            FINISHED
-        }
-        StepAnswer::Advanced(r) => {
-            put_record(out, r);
-            ADVANCED
-        }
+        StepAnswer::Refused(number) => report_figures(number, &[], out),
+        StepAnswer::Finished(r) => report_record(FINISHED, r, out),
+        StepAnswer::Advanced(r) => report_record(ADVANCED, r, out),
     }
 }
 
@@ -98,22 +75,10 @@ pub fn report_search(answer: SearchAnswer, out: &mut [u16]) -> u16
     ensures out { λ _. ⌜ now (out .exit) ≡ figuresIn (now (out .entry)) (searchReport (searchOutcomeOf answer)) ⌝ }
 {
     match answer {
-        SearchAnswer::Refused(number) => {
-            put_one(out, number);
-            REFUSED
-        }
-        SearchAnswer::Stopped(r) => {
-            put_record(out, r);
-            STOPPED
-        }
-        SearchAnswer::Found(l, k, rounds) => {
-            put_three(out, l.0, k, rounds);
-            FOUND
-        }
-        SearchAnswer::Empty(rounds) => {
-            put_one(out, rounds);
-            EMPTY
-        }
+        SearchAnswer::Refused(number) => report_figures(number, &[], out),
+        SearchAnswer::Stopped(r) => report_record(STOPPED, r, out),
+        SearchAnswer::Found(l, k, rounds) => report_figures(FOUND, &[l.0, k, rounds], out),
+        SearchAnswer::Empty(rounds) => report_figures(EMPTY, &[rounds], out),
     }
 }
 
@@ -124,14 +89,8 @@ pub fn report_next(answer: NextAnswer, out: &mut [u16]) -> u16
     ensures out { λ _. ⌜ now (out .exit) ≡ figuresIn (now (out .entry)) (nextReport (nextOutcomeOf answer)) ⌝ }
 {
     match answer {
-        NextAnswer::Refused(number) => {
-            put_one(out, number);
-            REFUSED
-        }
-        NextAnswer::Found(l, k) => {
-            put_two(out, l.0, k);
-            FOUND
-        }
-        NextAnswer::NoMore => NO_MORE,
+        NextAnswer::Refused(number) => report_figures(number, &[], out),
+        NextAnswer::Found(l, k) => report_figures(FOUND, &[l.0, k], out),
+        NextAnswer::NoMore => report_figures(NO_MORE, &[], out),
     }
 }

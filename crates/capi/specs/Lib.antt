@@ -1,2 +1,3 @@
--- What the C interface does: the report of each call, and the tables afterwards.
+-- What the C interface does: the report of each call, the tables afterwards, and what the returned value tells.
 pub mod Interface
+pub mod Refusals

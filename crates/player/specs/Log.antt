@@ -1,12 +1,17 @@
--- The log of a sequence of calls: four numbers for each, the kind of its answer and the figures, 0 where there is none.
-use Prim.Native.Nat.{ℕ, suc, _+_, _≤_}
+-- The log of a sequence of calls: four numbers for each, the kind of its answer or the number of its refusal, and the
+-- figures, 0 where there is none.
+use Prim.Native.Nat.{ℕ, suc, _+_, _*_, _≤_}
 use mathlib.Core.Path.{_≡_}
 use mathlib.Core.List.{List, [], _∷_, _++_}
 use mathlib.Core.Option.{Option, some, none}
 use lib.ListN.{length, take, drop}
 use Rattle.lasso.specs.Lists.{collect}
+use Rattle.model.specs.Rules.{Accepted}
 use Rattle.answers.specs.Kinds.{Report, searchReport, nextReport, figuresIn}
 use Rattle.sequence.specs.Calls.{Call, Answer, ofSearch, ofNext, Result, finderAt, foundLength}
+use Rattle.sequence.specs.Book.{bookResults}
+use Rattle.sequence.specs.Claim.{Proper}
+use Rattle.player.specs.Script.{played}
 
 -- the kind and the figures of an answer
 abbrev pub reportOf : Answer → Report
@@ -25,15 +30,19 @@ row r = reportRow (reportOf (r .answer))
 abbrev pub rows : List Result → List ℕ
 rows rs = collect row rs
 
+-- the log after some calls: their numbers from entry 0 on; later entries do not change
+abbrev pub logAfterAll : List ℕ → List Result → List ℕ
+logAfterAll log rs = rows rs ++ drop (4 * length rs) log
+
 -- the answer table after some calls
-abbrev pub tableAfter : List ℕ → List Result → List ℕ
-tableAfter a [] = a
-tableAfter a (r ∷ rs) = tableAfter (r .table) rs
+abbrev pub answerAfterAll : List ℕ → List Result → List ℕ
+answerAfterAll a [] = a
+answerAfterAll a (r ∷ rs) = answerAfterAll (r .table) rs
 
 -- the working table after some calls
-abbrev pub workAfter : List ℕ → List Result → List ℕ
-workAfter w [] = w
-workAfter w (r ∷ rs) = workAfter (r .work) rs
+abbrev pub workAfterAll : List ℕ → List Result → List ℕ
+workAfterAll w [] = w
+workAfterAll w (r ∷ rs) = workAfterAll (r .work) rs
 
 -- the entries of the list that an answer brings: one more than its length, 0 if it brings none
 abbrev pub entriesOf : Option ℕ → ℕ
@@ -49,3 +58,9 @@ pub record Made (f : List ℕ) (c : Call) (place : ℕ) (log a' w' log' : List �
   pub entries : got ≡ entriesOf (foundLength (finderAt f c .answer))
   pub in-answer : got ≤ length a'
   pub in-copy : got ≤ 4097
+
+-- condition 3 of the calls that are played: if the file is accepted and each next is lent the copy last received or a list
+-- that is no shortest accepting path, the log is the book's
+abbrev pub BookPlayed : (f script a w log log' : List ℕ) → Type 0
+BookPlayed f script a w log log' =
+    Accepted f → Proper f none (played f script a w log) → log' ≡ logAfterAll log (bookResults f 0 (played f script a w log))

@@ -3,7 +3,7 @@
 -- received, which is the empty list at first; 2 and a count, with so many entries behind them, a next with those entries.
 use Prim.Native.Nat.{ℕ, zero, suc, _+_, _/_}
 use mathlib.Core.Bool.{Bool, true, not, _&&_, _||_}
-use mathlib.Core.List.{List, [], _∷_}
+use mathlib.Core.List.{List, [], _∷_, map}
 use mathlib.Core.Option.{Option, some, none}
 use lib.ListN.{length, getD, take, drop}
 use lib.Dec.{eqb, ltb}
@@ -52,9 +52,13 @@ callsOf f (suc room) script copy a w =
     let later : List Call = callsOf f room (drop (commandLength script) script) (keepCopy (received r) copy) (r .table) (r .work) in
     pick (overb script) [] (c ∷ later)
 
--- the calls that are played, where the log has so many entries: 4 for each call
-abbrev pub played : List ℕ → (script a w : List ℕ) → ℕ → List Call
-played f script a w log = callsOf f (log / 4) script [] a w
+-- the calls that are played: as many as the log has room for, with 4 entries for each
+abbrev pub played : (f script a w log : List ℕ) → List Call
+played f script a w log = callsOf f (length log / 4) script [] a w
+
+-- what the finder does at each of them
+abbrev pub results : (f script a w log : List ℕ) → List Result
+results f script a w log = map (finderAt f) (played f script a w log)
 
 -- no command that is played lends a list of its own
 abbrev pub copiesb : ℕ → List ℕ → Bool

@@ -20,7 +20,8 @@ use table::get;
 fn put_row(log: &mut [u16], place: usize, kind: u16, figures: &[u16])
     requires { ⌜ length (now figures) ≡ 3 ⌝ }
     requires { ⌜ place + 4 ≤ length (now log) ⌝ }
-    ensures { λ _. ⌜ now (log .exit) ≡ take place (now (log .entry)) ++ (kind ∷ now (figures .entry)) ++ drop (place + 4) (now (log .entry)) ⌝ }
+    ensures { λ _. ⌜ now (log .exit) ≡ take place (now (log .entry)) ++ (kind ∷ now (figures .entry))
+        ++ drop (place + 4) (now (log .entry)) ⌝ }
 {
     let first = figures[0];
     let second = figures[1];
@@ -70,7 +71,9 @@ fn play_search(
     place: usize,
 ) -> usize
     requires { ⌜ place + 4 ≤ length (now log) ⌝ }
-    ensures { λ r. ⌜ Made (now (file .entry)) (Rattle.sequence.specs.Calls.search allowance (now (answer .entry)) (now (work .entry))) place (now (log .entry)) (now (answer .exit)) (now (work .exit)) (now (log .exit)) r ⌝ }
+    ensures { λ r. ⌜ Made (now (file .entry))
+        (Rattle.sequence.specs.Calls.search allowance (now (answer .entry)) (now (work .entry)))
+        place (now (log .entry)) (now (answer .exit)) (now (work .exit)) (now (log .exit)) r ⌝ }
 {
     let mut figures = [0u16; 3];
     let result = search(file, allowance, answer, work);
@@ -89,7 +92,9 @@ fn play_next(
     place: usize,
 ) -> usize
     requires { ⌜ place + 4 ≤ length (now log) ⌝ }
-    ensures { λ r. ⌜ Made (now (file .entry)) (Rattle.sequence.specs.Calls.next (now (earlier .entry)) (now (answer .entry)) (now (work .entry))) place (now (log .entry)) (now (answer .exit)) (now (work .exit)) (now (log .exit)) r ⌝ }
+    ensures { λ r. ⌜ Made (now (file .entry))
+        (Rattle.sequence.specs.Calls.next (now (earlier .entry)) (now (answer .entry)) (now (work .entry)))
+        place (now (log .entry)) (now (answer .exit)) (now (work .exit)) (now (log .exit)) r ⌝ }
 {
     let mut figures = [0u16; 3];
     let result = next(file, earlier, answer, work);
@@ -110,7 +115,9 @@ pub fn play_one(
 ) -> usize
     requires { ⌜ overb (now script) ≡ false ⌝ }
     requires { ⌜ place + 4 ≤ length (now log) ⌝ }
-    ensures { λ r. ⌜ Made (now (file .entry)) (callOf (now (script .entry)) (now (copy .entry)) (now (answer .entry)) (now (work .entry))) place (now (log .entry)) (now (answer .exit)) (now (work .exit)) (now (log .exit)) r ⌝ }
+    ensures { λ r. ⌜ Made (now (file .entry))
+        (callOf (now (script .entry)) (now (copy .entry)) (now (answer .entry)) (now (work .entry)))
+        place (now (log .entry)) (now (answer .exit)) (now (work .exit)) (now (log .exit)) r ⌝ }
 {
     let action = get(script, 0);
     let argument = get(script, 1);

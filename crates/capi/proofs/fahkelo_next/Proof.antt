@@ -1,4 +1,4 @@
--- `fahkelo_next` meets its contract: 7 if `out` is too short, else the report of what next answers.
+-- `fahkelo_next` meets its contract: 100 if `out` is too short, else the report of what next answers.
 use mathlib.Core.List.{List}
 use Prim.Native.Nat.{ℕ, _≤_, _<_}
 use native.Mathlib.Omega.{arith}

@@ -1,4 +1,4 @@
--- `fahkelo_search` meets its contract: 7 if `out` is too short, else the report of what the search answers.
+-- `fahkelo_search` meets its contract: 100 if `out` is too short, else the report of what the search answers.
 use mathlib.Core.List.{List}
 use Prim.Native.Nat.{ℕ, _≤_, _<_}
 use native.Mathlib.Omega.{arith}

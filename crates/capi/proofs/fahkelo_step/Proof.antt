@@ -1,4 +1,4 @@
--- `fahkelo_step` meets its contract: 7 if `out` is too short, else the report of what the step answers.
+-- `fahkelo_step` meets its contract: 100 if `out` is too short, else the report of what the step answers.
 use mathlib.Core.Path.{_∙_, ap}
 use mathlib.Core.List.{List}
 use Prim.Native.Nat.{ℕ, _≤_, _<_}

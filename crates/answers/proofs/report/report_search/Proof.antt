@@ -1,9 +1,9 @@
 -- `report::report_search` meets its contract, answer by answer.
-use borrow.Author.Needs.{needs}
 use Rattle.finder.specs.declared.SearchAnswer.{SearchAnswer}
 use Rattle.finder.specs.Outcomes.{searchOutcomeOf}
 use Rattle.answers.specs.Kinds.{Report, searchReport}
 use Rattle.answers.proofs.ReportLaws.{reports-known}
+use borrow.Author.Needs.{needs}
 use Rattle.answers.proofs.report.report_search.Statement.{statement}
 use Rattle.answers.proofs.report.report_search.Tie as tie
 
@@ -14,26 +14,35 @@ answerReport a = searchReport (searchOutcomeOf a)
 enum-known-answer : tie.Need-enum-known-answer
 enum-known-answer c = search needs
 
-put-one-requires : tie.Need-put-one-requires
-put-one-requires c κs = search needs
+slice-aggregate-report-figures : tie.Need-slice-aggregate-report-figures
+slice-aggregate-report-figures c = search needs
+
+report-figures-requires : tie.Need-report-figures-requires
+report-figures-requires c κs = search needs
 
 enum-known-answer-2 : tie.Need-enum-known-answer-2
 enum-known-answer-2 c = search needs
 
-put-record-requires : tie.Need-put-record-requires
-put-record-requires c κs = search needs
+report-record-requires : tie.Need-report-record-requires
+report-record-requires c κs = search needs
 
 enum-known-answer-3 : tie.Need-enum-known-answer-3
 enum-known-answer-3 c = search needs
 
-put-three-requires : tie.Need-put-three-requires
-put-three-requires c κs = search needs
+slice-aggregate-report-figures-2 : tie.Need-slice-aggregate-report-figures-2
+slice-aggregate-report-figures-2 c = search needs
+
+report-figures-requires-2 : tie.Need-report-figures-requires-2
+report-figures-requires-2 c κs = search needs
 
 enum-known-answer-4 : tie.Need-enum-known-answer-4
 enum-known-answer-4 c = search needs
 
-put-one-requires-2 : tie.Need-put-one-requires-2
-put-one-requires-2 c κs = search needs
+slice-aggregate-report-figures-3 : tie.Need-slice-aggregate-report-figures-3
+slice-aggregate-report-figures-3 c = search needs
+
+report-figures-requires-3 : tie.Need-report-figures-requires-3
+report-figures-requires-3 c κs = search needs
 
 same-length : tie.Need-same-length
 same-length c = search needs
@@ -41,8 +50,9 @@ same-length c = search needs
 returns : tie.Need-returns
 returns c =
     let done = c .before .before in
-    let told = done .before .before .before in
-    reports-known answerReport (told .before .before .before .args .out .now) (told .answer .given .1) (done .put-one .ensures)
+    let told = done .before .before .before .before in
+    let a = told .before .before .before .args in
+    reports-known answerReport (a .out .now) (told .answer .given .1) (done .report-figures .ensures .0) (done .report-figures .ensures .1)
 
 same-length-2 : tie.Need-same-length-2
 same-length-2 c = search needs
@@ -51,7 +61,8 @@ returns-2 : tie.Need-returns-2
 returns-2 c =
     let done = c .before .before in
     let told = done .before .before .before in
-    reports-known answerReport (told .before .before .before .args .out .now) (told .answer2 .given .1) (done .put-record .ensures)
+    let a = told .before .before .before .args in
+    reports-known answerReport (a .out .now) (told .answer2 .given .1) (done .report-record .ensures .0) (done .report-record .ensures .1)
 
 same-length-3 : tie.Need-same-length-3
 same-length-3 c = search needs
@@ -59,8 +70,9 @@ same-length-3 c = search needs
 returns-3 : tie.Need-returns-3
 returns-3 c =
     let done = c .before .before in
-    let told = done .before .before .before in
-    reports-known answerReport (told .before .before .before .args .out .now) (told .answer3 .given .1) (done .put-three .ensures)
+    let told = done .before .before .before .before in
+    let a = told .before .before .before .args in
+    reports-known answerReport (a .out .now) (told .answer3 .given .1) (done .report-figures2 .ensures .0) (done .report-figures2 .ensures .1)
 
 same-length-4 : tie.Need-same-length-4
 same-length-4 c = search needs
@@ -68,21 +80,25 @@ same-length-4 c = search needs
 returns-4 : tie.Need-returns-4
 returns-4 c =
     let done = c .before .before in
-    let told = done .before .before .before in
-    reports-known answerReport (told .before .before .before .args .out .now) (told .answer4 .given .1) (done .put-one2 .ensures)
+    let told = done .before .before .before .before in
+    let a = told .before .before .before .args in
+    reports-known answerReport (a .out .now) (told .answer4 .given .1) (done .report-figures3 .ensures .0) (done .report-figures3 .ensures .1)
 
 pub report-search-spec : {M : Type 1} → statement M
 report-search-spec =
     tie.close
     (tie.spec
     enum-known-answer
-    put-one-requires
+    slice-aggregate-report-figures
+    report-figures-requires
     enum-known-answer-2
-    put-record-requires
+    report-record-requires
     enum-known-answer-3
-    put-three-requires
+    slice-aggregate-report-figures-2
+    report-figures-requires-2
     enum-known-answer-4
-    put-one-requires-2
+    slice-aggregate-report-figures-3
+    report-figures-requires-3
     same-length
     returns
     same-length-2
