@@ -51,7 +51,8 @@ pub extern "C" fn fahkelo_step(
         (now (work .entry)) (now (out .entry)) .kind ⌝ }
     ensures out { λ _. ⌜ now (out .exit) ≡ figuresIn (now (out .entry)) (stepCall (now (file .entry))
         (recordGiven done «has_best» best) (now (work .entry)) (now (out .entry))) ⌝ }
-    ensures work { λ _. ⌜ now (work .exit) ≡ workAfterCall (now (file .entry)) (now (work .entry)) (now (out .entry)) ⌝ }
+    ensures work { λ _. ⌜ now (work .exit) ≡ workAfterCall (now (file .entry)) (now (work .entry))
+        (now (out .entry)) ⌝ }
 {
     if out.len() < OUT_ENTRIES {
         return OUT_TOO_SHORT;
@@ -76,7 +77,8 @@ pub extern "C" fn fahkelo_search(
         (now (answer .entry)) (now (work .entry)) (now (out .entry))) ⌝ }
     ensures answer { λ _. ⌜ now (answer .exit) ≡ answerAfterSearch (now (file .entry)) allowance
         (now (answer .entry)) (now (work .entry)) (now (out .entry)) ⌝ }
-    ensures work { λ _. ⌜ now (work .exit) ≡ workAfterCall (now (file .entry)) (now (work .entry)) (now (out .entry)) ⌝ }
+    ensures work { λ _. ⌜ now (work .exit) ≡ workAfterCall (now (file .entry)) (now (work .entry))
+        (now (out .entry)) ⌝ }
 {
     if out.len() < OUT_ENTRIES {
         return OUT_TOO_SHORT;
@@ -96,11 +98,12 @@ pub extern "C" fn fahkelo_next(
 ) -> u16
     ensures value { λ r. ⌜ r ≡ nextCall (now (file .entry)) (now (earlier .entry))
         (now (answer .entry)) (now (work .entry)) (now (out .entry)) .kind ⌝ }
-    ensures out { λ _. ⌜ now (out .exit) ≡ figuresIn (now (out .entry)) (nextCall (now (file .entry)) (now (earlier .entry))
-        (now (answer .entry)) (now (work .entry)) (now (out .entry))) ⌝ }
+    ensures out { λ _. ⌜ now (out .exit) ≡ figuresIn (now (out .entry)) (nextCall (now (file .entry))
+        (now (earlier .entry)) (now (answer .entry)) (now (work .entry)) (now (out .entry))) ⌝ }
     ensures answer { λ _. ⌜ now (answer .exit) ≡ answerAfterNext (now (file .entry)) (now (earlier .entry))
         (now (answer .entry)) (now (work .entry)) (now (out .entry)) ⌝ }
-    ensures work { λ _. ⌜ now (work .exit) ≡ workAfterCall (now (file .entry)) (now (work .entry)) (now (out .entry)) ⌝ }
+    ensures work { λ _. ⌜ now (work .exit) ≡ workAfterCall (now (file .entry)) (now (work .entry))
+        (now (out .entry)) ⌝ }
 {
     if out.len() < OUT_ENTRIES {
         return OUT_TOO_SHORT;

@@ -11,10 +11,12 @@ use Rattle.lasso.specs.Lists.{pick}
 use Rattle.finder.specs.Outcomes.{refused, answered, stopped, empty, noMore, Searched, Followed}
 use Rattle.sequence.specs.Calls.{Call, Answer, ofSearch, ofNext, Result, finderAt, received}
 use Rattle.sequence.proofs.Sequence.{condition-3}
-use Rattle.player.specs.Script.{commandLength, overb, sizeOf, callOf, keepCopy, callsOf, played, results}
-use Rattle.player.specs.Log.{reportOf, reportRow, row, rows, logAfterAll, answerAfterAll, workAfterAll, BookPlayed, Made}
-use Rattle.player.proofs.ScriptLaws.{size-over, size-goes-on, command-there, rest-of, calls-over, calls-more}
-use Rattle.player.proofs.CallLaws.{made-copy}
+use Rattle.script.specs.Commands.{commandLength, overb, sizeOf, callOf}
+use Rattle.script.specs.Log.{reportOf, reportRow, row, Made}
+use Rattle.script.proofs.CommandLaws.{size-over, size-goes-on, command-there, rest-of}
+use Rattle.player.specs.Played.{keepCopy, callsOf, played, results}
+use Rattle.player.specs.Log.{rows, logAfterAll, answerAfterAll, workAfterAll, BookPlayed}
+use Rattle.player.proofs.PlayedLaws.{calls-over, calls-more, made-copy}
 
 -- a call has four numbers
 answer-row-length : (a : Answer) → length (reportRow (reportOf a)) ≡ 4

@@ -22,8 +22,10 @@ use Rattle.sequence.specs.Book.{bookResults}
 use Rattle.sequence.specs.Claim.{lastReceived, Lent, Proper}
 use Rattle.sequence.proofs.Places.{roll-entries}
 use Rattle.sequence.proofs.Sequence.{condition-3}
-use Rattle.player.specs.Script.{action, commandLength, overb, callOf, keepCopy, callsOf, played, results, copiesb}
-use Rattle.player.proofs.ScriptLaws.{action-known, call-search, call-copy, calls-over, calls-more}
+use Rattle.script.specs.Commands.{action, commandLength, overb, callOf}
+use Rattle.script.proofs.CommandLaws.{action-known, call-search, call-copy}
+use Rattle.player.specs.Played.{keepCopy, callsOf, played, results, copiesb}
+use Rattle.player.proofs.PlayedLaws.{calls-over, calls-more}
 
 -- the empty list is no shortest accepting path
 empty-refused : (g : Graph) → T (notShortest g [])

@@ -1,16 +1,14 @@
 // Plays a sequence of searches and next calls from a script of numbers, and logs each call's answer as four numbers.
 ghost use mathlib.Core.Path.{_≡_};
 ghost use lib.ListN.{length};
-ghost use Rattle.player.specs.Script.{played, results};
+ghost use Rattle.player.specs.Played.{played, results};
 ghost use Rattle.player.specs.Log.{logAfterAll, answerAfterAll, workAfterAll, BookPlayed};
 
-mod calls;
 mod copying;
-mod script;
 
-use calls::play_one;
 use copying::receive;
-pub use script::command_size;
+use script::command_size;
+use script::play_one;
 
 // Plays the calls of a script, as many as the log has room for, and answers their number. A next is lent the copy last
 // received or the list that the script gives; the copy is kept here.
@@ -23,8 +21,8 @@ pub fn play(
 ) -> usize
     ensures calls { λ r. ⌜ r ≡ length (played (now (file .entry)) (now (script .entry))
         (now (answer .entry)) (now (work .entry)) (now (log .entry))) ⌝ }
-    ensures log { λ _. ⌜ now (log .exit) ≡ logAfterAll (now (log .entry)) (results (now (file .entry)) (now (script .entry))
-        (now (answer .entry)) (now (work .entry)) (now (log .entry))) ⌝ }
+    ensures log { λ _. ⌜ now (log .exit) ≡ logAfterAll (now (log .entry)) (results (now (file .entry))
+        (now (script .entry)) (now (answer .entry)) (now (work .entry)) (now (log .entry))) ⌝ }
     ensures answer { λ _. ⌜ now (answer .exit) ≡ answerAfterAll (now (answer .entry)) (results (now (file .entry))
         (now (script .entry)) (now (answer .entry)) (now (work .entry)) (now (log .entry))) ⌝ }
     ensures work { λ _. ⌜ now (work .exit) ≡ workAfterAll (now (work .entry)) (results (now (file .entry))

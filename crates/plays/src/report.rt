@@ -2,8 +2,8 @@
 ghost use Prim.Native.Nat.{_+_, _≤_, _<_};
 ghost use lib.ListN.{length};
 use libc::STDOUT_FILENO;
-use player::command_size;
 use player::play;
+use script::command_size;
 use table::get;
 use table::put;
 

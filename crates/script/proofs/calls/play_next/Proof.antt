@@ -1,12 +1,14 @@
 -- `calls::play_next` meets its contract: the next is made, and its report is its row of the log.
 use native.Mathlib.Omega.{arith}
 use mathlib.Core.Path.{ap}
+use lib.ListN.{length}
 use Rattle.finder.specs.Outcomes.{nextOutcomeOf}
+use Rattle.finder.specs.Next.{nextOutcome}
 use Rattle.sequence.specs.Calls as calls
-use Rattle.player.proofs.CallLaws.{made}
+use Rattle.script.proofs.CallLaws.{made}
 use borrow.Author.Needs.{needs}
-use Rattle.player.proofs.calls.play_next.Statement.{statement}
-use Rattle.player.proofs.calls.play_next.Tie as tie
+use Rattle.script.proofs.calls.play_next.Statement.{statement}
+use Rattle.script.proofs.calls.play_next.Tie as tie
 
 next-requires : tie.Need-next-requires
 next-requires c κs = search needs
@@ -43,7 +45,7 @@ returns c =
     let s = done .before .before .before .before .before .before .before .before in
     let a = s .args in
     made (a .file .now) (calls.next (a .earlier .now) (a .answer .now) (a .work .now)) (a .place) (calls.ofNext (nextOutcomeOf (done .next .result)))
-    (ap calls.ofNext (done .next .ensures .0)) (done .next .ensures .1 .0) (done .next .ensures .1 .1) (omega arith)
+    (ap calls.ofNext {y = nextOutcome (a .file .now) (a .earlier .now) (length (a .answer .now)) (length (a .work .now))} (done .next .ensures .0)) (done .next .ensures .1 .0) (done .next .ensures .1 .1) (omega arith)
     (reported .report-next .ensures .0) (reported .report-next .ensures .1) (logged .put-row .ensures) (c .next-entries .ensures)
 
 pub play-next-spec : {M : Type 1} → statement M

@@ -1,12 +1,14 @@
 -- `calls::play_search` meets its contract: the search is made, and its report is its row of the log.
 use native.Mathlib.Omega.{arith}
 use mathlib.Core.Path.{ap}
+use lib.ListN.{length}
 use Rattle.finder.specs.Outcomes.{searchOutcomeOf}
+use Rattle.finder.specs.Search.{searchOutcome}
 use Rattle.sequence.specs.Calls as calls
-use Rattle.player.proofs.CallLaws.{made}
+use Rattle.script.proofs.CallLaws.{made}
 use borrow.Author.Needs.{needs}
-use Rattle.player.proofs.calls.play_search.Statement.{statement}
-use Rattle.player.proofs.calls.play_search.Tie as tie
+use Rattle.script.proofs.calls.play_search.Statement.{statement}
+use Rattle.script.proofs.calls.play_search.Tie as tie
 
 search-requires : tie.Need-search-requires
 search-requires c κs = search needs
@@ -43,7 +45,7 @@ returns c =
     let s = done .before .before .before .before .before .before .before in
     let a = s .args in
     made (a .file .now) (calls.search (a .allowance) (a .answer .now) (a .work .now)) (a .place) (calls.ofSearch (searchOutcomeOf (done .search .result)))
-    (ap calls.ofSearch (done .search .ensures .0)) (done .search .ensures .1 .0) (done .search .ensures .1 .1) (omega arith)
+    (ap calls.ofSearch {y = searchOutcome (a .file .now) (a .allowance) (length (a .answer .now)) (length (a .work .now))} (done .search .ensures .0)) (done .search .ensures .1 .0) (done .search .ensures .1 .1) (omega arith)
     (reported .report-search .ensures .0) (reported .report-search .ensures .1) (logged .put-row .ensures) (c .search-entries .ensures)
 
 pub play-search-spec : {M : Type 1} → statement M

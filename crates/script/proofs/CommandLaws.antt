@@ -1,16 +1,16 @@
--- Laws of scripts: the size of the first command, when the script is over, and the call that the command asks for.
-use Prim.Native.Nat.{ℕ, zero, suc, _+_, _-_, _≤_, _<_}
+-- Laws of commands: the size of the first command, when the script is over, and the call that the command asks for.
+use Prim.Native.Nat.{ℕ, _+_, _-_, _≤_, _<_}
 use mathlib.Core.Path.{_≡_, refl, sym, _∙_, ap}
 use mathlib.Core.Bool.{Bool, true, false, _||_}
-use mathlib.Core.List.{List, [], _∷_}
+use mathlib.Core.List.{List}
 use native.Mathlib.Omega.{arith}
 use borrow.Author.Tests.{lt-ltb, le-ltb, ltb-false, eq-eqb, ne-eqb}
 use lib.ListN.{length, take, drop, length-drop}
 use lib.Seq.{take-all}
 use lib.Dec.{eqb, ltb}
 use Rattle.lasso.specs.Lists.{pick}
-use Rattle.sequence.specs.Calls.{Call, search, next, Result, finderAt, received}
-use Rattle.player.specs.Script.{action, argument, commandLength, overb, sizeOf, lentList, callOf, keepCopy, callsOf}
+use Rattle.sequence.specs.Calls.{search, next}
+use Rattle.script.specs.Commands.{action, argument, commandLength, overb, sizeOf, lentList, callOf}
 
 -- an alternative whose second part holds
 or-true : (a : Bool) → (a || true) ≡ true
@@ -155,24 +155,3 @@ size-in s at {size} fits e = go (overb (drop at s)) refl
     go true q = omega (arith, size-is ∙ ap (λ (b : Bool). pick b 0 (commandLength (drop at s))) q)
     go false q =
         omega (arith, size-is ∙ ap (λ (b : Bool). pick b 0 (commandLength (drop at s))) q, command-there (drop at s) q, length-drop at s)
-
-module _ (f s copy a w : List ℕ) where
-  -- a script that is over asks for no calls
-  pub calls-over : (room : ℕ) → overb s ≡ true → callsOf f room s copy a w ≡ []
-  calls-over zero e = refl
-  calls-over (suc room) e =
-      let c : Call = callOf s copy a w in
-      let r : Result = finderAt f c in
-      let later : List Call = callsOf f room (drop (commandLength s) s) (keepCopy (received r) copy) (r .table) (r .work) in
-      ap (λ (b : Bool). pick b [] (c ∷ later)) e
-
-  -- a script that is not, with room left, asks for one call and those of what is left of it
-  pub calls-more : (room : ℕ) → overb s ≡ false
-      → let c : Call = callOf s copy a w in
-      let r : Result = finderAt f c in
-      callsOf f (suc room) s copy a w ≡ c ∷ callsOf f room (drop (commandLength s) s) (keepCopy (received r) copy) (r .table) (r .work)
-  calls-more room e =
-      let c : Call = callOf s copy a w in
-      let r : Result = finderAt f c in
-      let later : List Call = callsOf f room (drop (commandLength s) s) (keepCopy (received r) copy) (r .table) (r .work) in
-      ap (λ (b : Bool). pick b [] (c ∷ later)) e

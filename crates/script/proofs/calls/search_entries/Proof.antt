@@ -1,8 +1,8 @@
 -- `calls::search_entries` meets its contract, answer by answer.
-use Rattle.player.proofs.CallLaws.{search-entries-known}
+use Rattle.script.proofs.CallLaws.{search-entries-known}
 use borrow.Author.Needs.{needs}
-use Rattle.player.proofs.calls.search_entries.Statement.{statement}
-use Rattle.player.proofs.calls.search_entries.Tie as tie
+use Rattle.script.proofs.calls.search_entries.Statement.{statement}
+use Rattle.script.proofs.calls.search_entries.Tie as tie
 
 enum-told : tie.Need-enum-told
 enum-told c = search needs

@@ -5,10 +5,9 @@ use mathlib.Core.Bool.{Bool, true, false}
 use mathlib.Core.List.{List, [], _∷_, _++_, head?, List·Memᴰ, List·Memᴰ·head, List·Memᴰ·tail, List·Memᴰ·not-nil}
 use mathlib.Core.Option.{Option, some, none}
 use native.Mathlib.Omega.{arith}
-use borrow.Author.Tests.{ltb-false, eq-eqb, ne-eqb}
+use borrow.Author.Tests.{ltb-false}
 use lib.ListN.{length, getD, take, drop, set}
 use lib.Seq.{sets-eq}
-use lib.Dec.{eqb}
 use Rattle.lasso.specs.Lists.{pick, someIf}
 use Rattle.lasso.specs.Graph.{Graph, edges}
 use Rattle.lasso.specs.Roll.{leastLength, roll}
@@ -27,9 +26,8 @@ use Rattle.finder.specs.Tables.{commonRules, tooLong, noRoom}
 use Rattle.finder.specs.Search.{stopsb, firstOf, searched, firstDue, listReasons, searchReasons, searchOutcome}
 use Rattle.finder.specs.Next.{notShortest, followed, dueReasons, nextReasons, nextOutcome}
 use Rattle.answers.specs.Kinds.{figuresIn}
-use Rattle.sequence.specs.Calls.{Call, search, next, Answer, ofSearch, ofNext, finderAt, foundLength, copyOf, received}
-use Rattle.player.specs.Script.{keepCopy}
-use Rattle.player.specs.Log.{reportOf, reportRow, row, entriesOf, Made}
+use Rattle.sequence.specs.Calls.{Call, search, next, Answer, ofSearch, ofNext, finderAt, foundLength}
+use Rattle.script.specs.Log.{reportOf, reportRow, row, entriesOf, Made}
 
 -- the four numbers are stored one after another
 pub row-stored : (log figures : List ℕ) (place kind : ℕ) → length figures ≡ 3 → place + 4 ≤ length log
@@ -187,17 +185,3 @@ made f c place {log} {a'} {w'} {log'} {got} answer {kind} {figures} e at-a at-w 
 pub made-as : {f : List ℕ} {c c' : Call} {place : ℕ} {log a' w' log' : List ℕ} {got : ℕ} → c ≡ c' → Made f c place log a' w' log' got
     → Made f c' place log a' w' log' got
 made-as {f} {place = place} {log} {a'} {w'} {log'} {got} e m = subst (λ (x : Call). Made f x place log a' w' log' got) e m
-
--- the copy after a call, from the number of entries received
-copy-kept : (o : Option ℕ) (t copy : List ℕ) (got : ℕ) → got ≡ entriesOf o
-    → pick (eqb got 0) copy (take got t) ≡ keepCopy (copyOf o t) copy
-copy-kept none t copy got e = ap (λ (b : Bool). pick b copy (take got t)) (eq-eqb got 0 e)
-copy-kept (some l) t copy got e =
-    ap (λ (b : Bool). pick b copy (take got t)) (ne-eqb got 0 (λ z. omega arith)) ∙ ap (λ (n : ℕ). take n t) e
-
--- the copy after a call that is made
-pub made-copy : {f : List ℕ} {c : Call} {place : ℕ} {log a' w' log' : List ℕ} {got : ℕ} (copy : List ℕ) → Made f c place log a' w' log' got
-    → pick (eqb got 0) copy (take got a') ≡ keepCopy (received (finderAt f c)) copy
-made-copy {f} {c} {got = got} copy m =
-    ap (λ (t : List ℕ). pick (eqb got 0) copy (take got t)) (m .answer)
-    ∙ copy-kept (foundLength (finderAt f c .answer)) (finderAt f c .table) copy got (m .entries)

@@ -1,6 +1,6 @@
 // The commands of a script.
 ghost use mathlib.Core.Path.{_≡_};
-ghost use Rattle.player.specs.Script.{sizeOf};
+ghost use Rattle.script.specs.Commands.{sizeOf};
 use table::get;
 
 // How many numbers the first command has, 0 if the script is over.
