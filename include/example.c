@@ -1,8 +1,12 @@
-/* Prints the rounds and all shortest runs of one model, through the C interface (docs/CAPI.md). */
+/* Prints the rounds, a refused step and all shortest runs of one model, through the C interface (docs/CAPI.md). */
 #include <stdio.h>
 #include <string.h>
 
 #include "fahkelo.h"
+
+#if FAHKELO_INTERFACE != 2
+#error "this example was written for interface 2"
+#endif
 
 /* Five states, 0 to 1 and 2, 1 to 3, 2 to 3, 3 to 1 and 2, 4 to 4; the run starts at 0; 3 and 4 are marked. */
 static const uint8_t model[] = {
@@ -38,6 +42,13 @@ int main(void)
         printf("step: kind %u, rounds %u, has best %u, best %u\n", (unsigned)kind,
                (unsigned)out[0], (unsigned)out[1], (unsigned)out[2]);
     } while (kind == FAHKELO_ADVANCED);
+
+    /* A refused call changes nothing: the record is still in out. Here the last byte of the file is missing. */
+    kind = fahkelo_step(model, sizeof model - 1, out[0], (uint8_t)out[1], out[2],
+                        work, FAHKELO_WORK_MOST, out, FAHKELO_OUT_ENTRIES);
+    if (kind < FAHKELO_KINDS_FROM)
+        printf("refused with %u, rounds %u, has best %u, best %u\n", (unsigned)kind,
+               (unsigned)out[0], (unsigned)out[1], (unsigned)out[2]);
 
     /* All shortest runs: the first one, and then the one after each. */
     kind = fahkelo_search(model, sizeof model, 65535, answer, FAHKELO_ANSWER_MOST,

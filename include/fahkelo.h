@@ -11,22 +11,24 @@
  *
  *   file     the bytes of a model file, at most FAHKELO_FILE_MOST (docs/FORMAT.md)
  *   work     working table: 6 entries for each state of the model, FAHKELO_WORK_MOST for every model. Untouched after
- *            the refusals 1 to 12 and after FAHKELO_OUT_TOO_SHORT; after every other answer all its entries are zero
+ *            the refusals 1 to 12 and after FAHKELO_OUT_TOO_SHORT; after every other value all its entries are zero
  *   answer   the run that is found: entries 0 to L, a run of L transitions having L + 1 states. The run starts at entry 0;
  *            from entry k on it repeats for ever, and entry L equals entry k. FAHKELO_ANSWER_MOST entries do for every
  *            model. Entries past L never change, and no entry does unless the answer is FAHKELO_FOUND
- *   out      the figures of the answer: at least FAHKELO_OUT_ENTRIES entries. Entries past the figures never change
+ *   out      the figures of the answer: at least FAHKELO_OUT_ENTRIES entries. Entries past the figures never change, and
+ *            no entry does after a refusal
  *
- * Answers. A call returns the kind of answer and writes its figures to out, from entry 0 on:
+ * Answers. What a call returns tells by itself what happened. A value below FAHKELO_KINDS_FROM, `kind < 100`, is a refusal:
+ * the value is the number of the first reason that holds, 1 to 15 (docs/REFUSALS.md), and neither out nor answer is changed.
+ * Every other value is a kind of answer, whose figures are in out, from entry 0 on:
  *
- *   FAHKELO_REFUSED         number              the first reason that holds, 1 to 15 (docs/REFUSALS.md)
+ *   FAHKELO_OUT_TOO_SHORT   (none)              out has fewer than FAHKELO_OUT_ENTRIES entries; nothing at all was done
  *   FAHKELO_STOPPED         rounds, has, best   the allowance is less than the number of rounds of this model
  *   FAHKELO_FOUND           L, k, rounds        (from fahkelo_next: L, k)
  *   FAHKELO_EMPTY           rounds              the model has no accepting run
  *   FAHKELO_NO_MORE         (none)              the earlier list is the last one
  *   FAHKELO_FINISHED        done, has, best     no round is left: the record that was given
  *   FAHKELO_ADVANCED        done, has, best     the record after one more round
- *   FAHKELO_OUT_TOO_SHORT   (none)              out has fewer than FAHKELO_OUT_ENTRIES entries; nothing at all was done
  *
  * In the figures of a record `has` is 1 if there is a best length, and 0 if there is none; then `best` is 0.
  */
@@ -36,15 +38,20 @@
 #include <stddef.h>
 #include <stdint.h>
 
+/* Raised whenever a declaration or a number of this file changes: a caller can ask for the one that it was written for. */
+#define FAHKELO_INTERFACE 2
+
+/* The kinds of answer start here; what is below is the number of a refusal. */
+#define FAHKELO_KINDS_FROM 100
+
 /* The kinds of answer. */
-#define FAHKELO_REFUSED 0
-#define FAHKELO_STOPPED 1
-#define FAHKELO_FOUND 2
-#define FAHKELO_EMPTY 3
-#define FAHKELO_NO_MORE 4
-#define FAHKELO_FINISHED 5
-#define FAHKELO_ADVANCED 6
-#define FAHKELO_OUT_TOO_SHORT 7
+#define FAHKELO_OUT_TOO_SHORT 100
+#define FAHKELO_STOPPED 101
+#define FAHKELO_FOUND 102
+#define FAHKELO_EMPTY 103
+#define FAHKELO_NO_MORE 104
+#define FAHKELO_FINISHED 105
+#define FAHKELO_ADVANCED 106
 
 /* The entries that out must have, and the table sizes that do for every model. */
 #define FAHKELO_OUT_ENTRIES 4
@@ -59,7 +66,7 @@ extern "C" {
 /*
  * One round. The record given is the rounds done and the best length so far; every has_best but 0 says that there is a
  * best length, and with 0 the number best is not looked at. A search starts from done 0 and has_best 0.
- * Answers FAHKELO_REFUSED (1 to 12), FAHKELO_FINISHED, FAHKELO_ADVANCED or FAHKELO_OUT_TOO_SHORT.
+ * Returns a refusal (1 to 12), FAHKELO_FINISHED, FAHKELO_ADVANCED or FAHKELO_OUT_TOO_SHORT.
  */
 uint16_t fahkelo_step(const uint8_t *file, size_t file_len,
                       uint16_t done, uint8_t has_best, uint16_t best,
@@ -69,7 +76,7 @@ uint16_t fahkelo_step(const uint8_t *file, size_t file_len,
 /*
  * The first of the shortest accepting runs in dictionary order, with at most `allowance` rounds; 65535 is enough for
  * every model.
- * Answers FAHKELO_REFUSED (1 to 12, 14, 15), FAHKELO_STOPPED, FAHKELO_FOUND with the run in answer, FAHKELO_EMPTY or
+ * Returns a refusal (1 to 12, 14, 15), FAHKELO_STOPPED, FAHKELO_FOUND with the run in answer, FAHKELO_EMPTY or
  * FAHKELO_OUT_TOO_SHORT.
  */
 uint16_t fahkelo_search(const uint8_t *file, size_t file_len,
@@ -81,7 +88,7 @@ uint16_t fahkelo_search(const uint8_t *file, size_t file_len,
 /*
  * The shortest accepting run that follows an earlier one in dictionary order. `earlier` is a copy of all L + 1 entries of
  * a run that fahkelo_search or fahkelo_next found; any other list is refused with 13.
- * Answers FAHKELO_REFUSED (1 to 15), FAHKELO_FOUND with the run in answer, FAHKELO_NO_MORE or FAHKELO_OUT_TOO_SHORT.
+ * Returns a refusal (1 to 15), FAHKELO_FOUND with the run in answer, FAHKELO_NO_MORE or FAHKELO_OUT_TOO_SHORT.
  */
 uint16_t fahkelo_next(const uint8_t *file, size_t file_len,
                       const uint16_t *earlier, size_t earlier_len,

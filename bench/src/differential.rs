@@ -14,6 +14,8 @@ use crate::samples::{
 };
 use crate::textbook::Textbook;
 use crate::versions::{Finder, SAFE};
+use std::collections::BTreeMap;
+use std::ops::Range;
 
 /// Lists of a larger model's roll that are compared.
 const MOST_LISTS: usize = 60;
@@ -28,8 +30,7 @@ struct Counts {
     steps: u64,
     searches: u64,
     nexts: u64,
-    kinds: [u64; 8],
-    reasons: [u64; 16],
+    values: BTreeMap<u16, u64>,
     lists: u64,
     out_too_short: u64,
     differences: u64,
@@ -83,10 +84,14 @@ fn compare_family(lot: &mut Random, counts: &mut Counts, file: &[u8]) {
 }
 
 fn print(counts: &Counts) {
+    let words = |shown: Vec<String>| shown.join(", ");
     let of_list = |numbers: &[u64]| {
         let shown = numbers.iter().enumerate().filter(|(_, &n)| n != 0);
-        let words: Vec<String> = shown.map(|(i, n)| format!("{i}: {n}")).collect();
-        words.join(", ")
+        words(shown.map(|(i, n)| format!("{i}: {n}")).collect())
+    };
+    let of_values = |values: Range<u16>| {
+        let shown = counts.values.range(values);
+        words(shown.map(|(i, n)| format!("{i}: {n}")).collect())
     };
     println!(
         "files accepted: {} of up to {SMALL} states (exhaustive), {} larger (textbook)",
@@ -103,10 +108,10 @@ fn print(counts: &Counts) {
     );
     println!(
         "answers by kind: {}; of the calls in C, with too short a table for the figures: {}",
-        of_list(&counts.kinds),
+        of_values(kind::FROM..u16::MAX),
         counts.out_too_short
     );
-    println!("refusals by reason: {}", of_list(&counts.reasons));
+    println!("refusals by reason: {}", of_values(0..kind::FROM));
     println!("differences {}", counts.differences);
 }
 
@@ -258,7 +263,7 @@ fn compare_roll(
     }
 }
 
-/// The kind and figures of an answer, as the C functions give them.
+/// The value that is returned for an answer and its figures, as the C functions give them: a refusal has none.
 trait Figures {
     fn figures(&self) -> (u16, Vec<u16>);
 }
@@ -273,7 +278,7 @@ fn record_figures(record: &Record) -> Vec<u16> {
 impl Figures for StepAnswer {
     fn figures(&self) -> (u16, Vec<u16>) {
         match self {
-            StepAnswer::Refused(number) => (kind::REFUSED, vec![*number]),
+            StepAnswer::Refused(number) => (*number, vec![]),
             StepAnswer::Finished(record) => (kind::FINISHED, record_figures(record)),
             StepAnswer::Advanced(record) => (kind::ADVANCED, record_figures(record)),
         }
@@ -283,7 +288,7 @@ impl Figures for StepAnswer {
 impl Figures for SearchAnswer {
     fn figures(&self) -> (u16, Vec<u16>) {
         match *self {
-            SearchAnswer::Refused(number) => (kind::REFUSED, vec![number]),
+            SearchAnswer::Refused(number) => (number, vec![]),
             SearchAnswer::Stopped(record) => (kind::STOPPED, record_figures(&record)),
             SearchAnswer::Found {
                 length,
@@ -298,7 +303,7 @@ impl Figures for SearchAnswer {
 impl Figures for NextAnswer {
     fn figures(&self) -> (u16, Vec<u16>) {
         match *self {
-            NextAnswer::Refused(number) => (kind::REFUSED, vec![number]),
+            NextAnswer::Refused(number) => (number, vec![]),
             NextAnswer::Found { length, loop_start } => (kind::FOUND, vec![length, loop_start]),
             NextAnswer::NoMore => (kind::NO_MORE, vec![]),
         }
@@ -342,7 +347,7 @@ impl Tables {
         got == *expected && answer == self.answer_after && work == self.work_after
     }
 
-    /// The same for a C function: its kind, and the table of figures, past which nothing changes.
+    /// The same for a C function: its value, and the table of figures, past which nothing changes.
     fn agree_in_c(
         &self,
         lot: &mut Random,
@@ -364,24 +369,21 @@ impl Tables {
             return got == kind::OUT_TOO_SHORT
                 && (out, answer, work) == (out_after, self.answer.clone(), self.work.clone());
         }
-        let (expected_kind, figures) = expected.figures();
+        let (expected_value, figures) = expected.figures();
         out_after[..figures.len()].copy_from_slice(&figures);
         let got = call(&mut answer, &mut work, &mut out);
-        got == expected_kind
+        got == expected_value
             && out == out_after
             && answer == self.answer_after
             && work == self.work_after
     }
 }
 
-/// Counts an answer by its kind and, if it is a refusal, by its reason.
-fn count_kind(counts: &mut Counts, expected: &impl Figures) {
-    let (kind, figures) = expected.figures();
-    counts.kinds[kind as usize] += 1;
-    if kind == kind::REFUSED {
-        counts.reasons[figures[0] as usize] += 1;
-    }
-    if kind == kind::FOUND {
+/// Counts an answer by its value.
+fn count_value(counts: &mut Counts, expected: &impl Figures) {
+    let (value, _) = expected.figures();
+    *counts.values.entry(value).or_default() += 1;
+    if value == kind::FOUND {
         counts.lists += 1;
     }
 }
@@ -396,7 +398,7 @@ fn compare_step(
 ) {
     counts.steps += 1;
     let expected = oracle::step(verdict, so_far, work_len);
-    count_kind(counts, &expected);
+    count_value(counts, &expected);
     let tables = Tables::new(lot, verdict, 0, work_len, &[]);
     if !tables.agree_in_c(lot, counts, &expected, |_, work, out| {
         step_into(file, so_far, work, out)
@@ -419,7 +421,7 @@ fn compare_search(
 ) {
     counts.searches += 1;
     let (expected, list) = oracle::search(verdict, allowance, answer_len, work_len);
-    count_kind(counts, &expected);
+    count_value(counts, &expected);
     let tables = Tables::new(lot, verdict, answer_len, work_len, list);
     if !tables.agree_in_c(lot, counts, &expected, |answer, work, out| {
         search_into(file, allowance, answer, work, out)
@@ -444,7 +446,7 @@ fn compare_next(
 ) {
     counts.nexts += 1;
     let (expected, list) = oracle::next(verdict, earlier, answer_len, work_len);
-    count_kind(counts, &expected);
+    count_value(counts, &expected);
     let tables = Tables::new(lot, verdict, answer_len, work_len, list);
     if !tables.agree_in_c(lot, counts, &expected, |answer, work, out| {
         next_into(file, earlier, answer, work, out)

@@ -81,19 +81,19 @@ pub enum NextAnswer {
     NoMore,
 }
 
-/// The kinds of answer, the return values of the C functions.
+/// The return values of the C functions: the kinds of answer. A value below them is the number of a refusal.
 pub mod kind {
-    pub const REFUSED: u16 = 0;
-    pub const STOPPED: u16 = 1;
-    pub const FOUND: u16 = 2;
-    pub const EMPTY: u16 = 3;
-    pub const NO_MORE: u16 = 4;
-    pub const FINISHED: u16 = 5;
-    pub const ADVANCED: u16 = 6;
-    pub const OUT_TOO_SHORT: u16 = 7;
+    pub const FROM: u16 = 100;
+    pub const OUT_TOO_SHORT: u16 = 100;
+    pub const STOPPED: u16 = 101;
+    pub const FOUND: u16 = 102;
+    pub const EMPTY: u16 = 103;
+    pub const NO_MORE: u16 = 104;
+    pub const FINISHED: u16 = 105;
+    pub const ADVANCED: u16 = 106;
 }
 
-/// `fahkelo_step` over slices: the kind, with its figures in `out`.
+/// `fahkelo_step` over slices: the kind, with its figures in `out`, or the number of the refusal.
 pub fn step_into(file: &[u8], so_far: Record, work: &mut [u16], out: &mut [u16]) -> u16 {
     let (has_best, best) = match so_far.best {
         None => (0, 0),
@@ -115,7 +115,7 @@ pub fn step_into(file: &[u8], so_far: Record, work: &mut [u16], out: &mut [u16])
     }
 }
 
-/// `fahkelo_search` over slices: the kind, with its figures in `out`.
+/// `fahkelo_search` over slices: the kind, with its figures in `out`, or the number of the refusal.
 pub fn search_into(
     file: &[u8],
     allowance: u16,
@@ -139,7 +139,7 @@ pub fn search_into(
     }
 }
 
-/// `fahkelo_next` over slices: the kind, with its figures in `out`.
+/// `fahkelo_next` over slices: the kind, with its figures in `out`, or the number of the refusal.
 pub fn next_into(
     file: &[u8],
     earlier: &[u16],
@@ -176,7 +176,7 @@ fn record_of(figures: &[u16; 4]) -> Record {
 pub fn step(file: &[u8], so_far: Record, work: &mut [u16]) -> StepAnswer {
     let mut out = [0; 4];
     match step_into(file, so_far, work, &mut out) {
-        kind::REFUSED => StepAnswer::Refused(out[0]),
+        number if number < kind::FROM => StepAnswer::Refused(number),
         kind::FINISHED => StepAnswer::Finished(record_of(&out)),
         kind::ADVANCED => StepAnswer::Advanced(record_of(&out)),
         other => unreachable!("a step has no answer of kind {other}"),
@@ -187,7 +187,7 @@ pub fn step(file: &[u8], so_far: Record, work: &mut [u16]) -> StepAnswer {
 pub fn search(file: &[u8], allowance: u16, answer: &mut [u16], work: &mut [u16]) -> SearchAnswer {
     let mut out = [0; 4];
     match search_into(file, allowance, answer, work, &mut out) {
-        kind::REFUSED => SearchAnswer::Refused(out[0]),
+        number if number < kind::FROM => SearchAnswer::Refused(number),
         kind::STOPPED => SearchAnswer::Stopped(record_of(&out)),
         kind::FOUND => SearchAnswer::Found {
             length: out[0],
@@ -203,7 +203,7 @@ pub fn search(file: &[u8], allowance: u16, answer: &mut [u16], work: &mut [u16])
 pub fn next(file: &[u8], earlier: &[u16], answer: &mut [u16], work: &mut [u16]) -> NextAnswer {
     let mut out = [0; 4];
     match next_into(file, earlier, answer, work, &mut out) {
-        kind::REFUSED => NextAnswer::Refused(out[0]),
+        number if number < kind::FROM => NextAnswer::Refused(number),
         kind::FOUND => NextAnswer::Found {
             length: out[0],
             loop_start: out[1],

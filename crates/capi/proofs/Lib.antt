@@ -1,3 +1,4 @@
--- The laws of the C interface: figures written to a table, what a call with a short table does, and that nothing is lost.
-pub mod ReportLaws
-pub mod NothingLost
+-- The laws of the C interface: what a call with a short table does, the record that a step is given, and that a refused call
+-- changes nothing that was lent but the working table.
+pub mod CallLaws
+pub mod Refusals

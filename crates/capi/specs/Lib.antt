@@ -1,2 +1,3 @@
--- What the C interface reports: the kinds of answer, their figures, and the tables afterwards.
-pub mod Kinds
+-- What the C interface does: the report of each call, the tables afterwards, and what the returned value tells.
+pub mod Interface
+pub mod Refusals

@@ -1,27 +1,25 @@
-// The C interface: step, search and next under plain names, with answers as numbers. The kind of answer is returned, its
-// figures go to `out`; with fewer than 4 entries there the answer is 7 and nothing at all is done.
+// The C interface: step, search and next under plain names, with answers as numbers. What is returned is the number of the
+// refusal, 1 to 99, or the kind of answer, whose figures go to `out`: a refused call changes nothing there. With fewer than
+// 4 entries in `out` the answer is 100 and nothing at all is done.
 ghost use mathlib.Core.Path.{_≡_};
-ghost use lib.ListN.{length};
 ghost use Rattle.lasso.specs.Values.{recordOf};
-ghost use Rattle.capi.specs.Kinds.{recordGiven, figuresIn, stepCall, searchCall, nextCall, answerAfterSearch, answerAfterNext, workAfterCall};
-
-mod report;
-
+ghost use Rattle.answers.specs.Kinds.{recordGiven, figuresIn};
+ghost use Rattle.capi.specs.Interface.{stepCall, searchCall, nextCall, answerAfterSearch, answerAfterNext, workAfterCall};
+use answers::report_next;
+use answers::report_search;
+use answers::report_step;
 use finder::next;
 use finder::search;
 use finder::step;
 use lasso::Best;
 use lasso::RoundRecord;
 use lasso::Transitions;
-pub use report::report_next;
-pub use report::report_search;
-pub use report::report_step;
 
 // The entries that `out` must have.
 const OUT_ENTRIES: usize = 4;
 
 // The kind of answer if it has fewer.
-const OUT_TOO_SHORT: u16 = 7;
+const OUT_TOO_SHORT: u16 = 100;
 
 // The record that three figures stand for.
 fn record_given(done: u16, has_best: u8, best: u16) -> RoundRecord
@@ -49,9 +47,12 @@ pub extern "C" fn fahkelo_step(
     work: &mut [u16],
     out: &mut [u16],
 ) -> u16
-    ensures kind { λ r. ⌜ r ≡ stepCall (now (file .entry)) (recordGiven done «has_best» best) (length (now (work .entry))) (now (out .entry)) .kind ⌝ }
-    ensures out { λ _. ⌜ now (out .exit) ≡ figuresIn (now (out .entry)) (stepCall (now (file .entry)) (recordGiven done «has_best» best) (length (now (work .entry))) (now (out .entry))) ⌝ }
-    ensures work { λ _. ⌜ now (work .exit) ≡ workAfterCall (now (file .entry)) (now (work .entry)) (now (out .entry)) ⌝ }
+    ensures value { λ r. ⌜ r ≡ stepCall (now (file .entry)) (recordGiven done «has_best» best)
+        (now (work .entry)) (now (out .entry)) .kind ⌝ }
+    ensures out { λ _. ⌜ now (out .exit) ≡ figuresIn (now (out .entry)) (stepCall (now (file .entry))
+        (recordGiven done «has_best» best) (now (work .entry)) (now (out .entry))) ⌝ }
+    ensures work { λ _. ⌜ now (work .exit) ≡ workAfterCall (now (file .entry)) (now (work .entry))
+        (now (out .entry)) ⌝ }
 {
     if out.len() < OUT_ENTRIES {
         return OUT_TOO_SHORT;
@@ -70,10 +71,14 @@ pub extern "C" fn fahkelo_search(
     work: &mut [u16],
     out: &mut [u16],
 ) -> u16
-    ensures kind { λ r. ⌜ r ≡ searchCall (now (file .entry)) allowance (length (now (answer .entry))) (length (now (work .entry))) (now (out .entry)) .kind ⌝ }
-    ensures out { λ _. ⌜ now (out .exit) ≡ figuresIn (now (out .entry)) (searchCall (now (file .entry)) allowance (length (now (answer .entry))) (length (now (work .entry))) (now (out .entry))) ⌝ }
-    ensures answer { λ _. ⌜ now (answer .exit) ≡ answerAfterSearch (now (file .entry)) allowance (now (answer .entry)) (length (now (work .entry))) (now (out .entry)) ⌝ }
-    ensures work { λ _. ⌜ now (work .exit) ≡ workAfterCall (now (file .entry)) (now (work .entry)) (now (out .entry)) ⌝ }
+    ensures value { λ r. ⌜ r ≡ searchCall (now (file .entry)) allowance
+        (now (answer .entry)) (now (work .entry)) (now (out .entry)) .kind ⌝ }
+    ensures out { λ _. ⌜ now (out .exit) ≡ figuresIn (now (out .entry)) (searchCall (now (file .entry)) allowance
+        (now (answer .entry)) (now (work .entry)) (now (out .entry))) ⌝ }
+    ensures answer { λ _. ⌜ now (answer .exit) ≡ answerAfterSearch (now (file .entry)) allowance
+        (now (answer .entry)) (now (work .entry)) (now (out .entry)) ⌝ }
+    ensures work { λ _. ⌜ now (work .exit) ≡ workAfterCall (now (file .entry)) (now (work .entry))
+        (now (out .entry)) ⌝ }
 {
     if out.len() < OUT_ENTRIES {
         return OUT_TOO_SHORT;
@@ -91,10 +96,14 @@ pub extern "C" fn fahkelo_next(
     work: &mut [u16],
     out: &mut [u16],
 ) -> u16
-    ensures kind { λ r. ⌜ r ≡ nextCall (now (file .entry)) (now (earlier .entry)) (length (now (answer .entry))) (length (now (work .entry))) (now (out .entry)) .kind ⌝ }
-    ensures out { λ _. ⌜ now (out .exit) ≡ figuresIn (now (out .entry)) (nextCall (now (file .entry)) (now (earlier .entry)) (length (now (answer .entry))) (length (now (work .entry))) (now (out .entry))) ⌝ }
-    ensures answer { λ _. ⌜ now (answer .exit) ≡ answerAfterNext (now (file .entry)) (now (earlier .entry)) (now (answer .entry)) (length (now (work .entry))) (now (out .entry)) ⌝ }
-    ensures work { λ _. ⌜ now (work .exit) ≡ workAfterCall (now (file .entry)) (now (work .entry)) (now (out .entry)) ⌝ }
+    ensures value { λ r. ⌜ r ≡ nextCall (now (file .entry)) (now (earlier .entry))
+        (now (answer .entry)) (now (work .entry)) (now (out .entry)) .kind ⌝ }
+    ensures out { λ _. ⌜ now (out .exit) ≡ figuresIn (now (out .entry)) (nextCall (now (file .entry))
+        (now (earlier .entry)) (now (answer .entry)) (now (work .entry)) (now (out .entry))) ⌝ }
+    ensures answer { λ _. ⌜ now (answer .exit) ≡ answerAfterNext (now (file .entry)) (now (earlier .entry))
+        (now (answer .entry)) (now (work .entry)) (now (out .entry)) ⌝ }
+    ensures work { λ _. ⌜ now (work .exit) ≡ workAfterCall (now (file .entry)) (now (work .entry))
+        (now (out .entry)) ⌝ }
 {
     if out.len() < OUT_ENTRIES {
         return OUT_TOO_SHORT;

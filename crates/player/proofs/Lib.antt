@@ -1,7 +1,5 @@
--- The laws of the player: the commands of a script, one call, the copy, the loop over the calls, and proper
--- scripts.
-pub mod ScriptLaws
-pub mod CallLaws
+-- The laws of the player: the calls that a script asks for, the copy, the loop over the calls, and proper scripts.
+pub mod PlayedLaws
 pub mod CopyLaws
 pub mod PlayLaws
 pub mod ProperLaws

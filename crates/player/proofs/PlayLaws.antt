@@ -3,22 +3,20 @@ use Prim.Native.Nat.{ℕ, suc, _+_, _*_, _-_, _/_, _≤_, _<_}
 use mathlib.Core.Path.{_≡_, refl, sym, _∙_, ap, subst}
 use mathlib.Core.Bool.{false}
 use mathlib.Core.List.{List, [], _∷_, _++_, map, append-assoc, append-nil}
-use mathlib.Core.Option.{none}
 use native.Mathlib.Omega.{arith}
 use lib.ListN.{length, take, drop, length-append, length-drop}
 use lib.Seq.{take-at, drop-at, drop-drop}
 use lib.Dec.{eqb}
 use Rattle.lasso.specs.Lists.{pick}
-use Rattle.model.specs.Rules.{Accepted}
 use Rattle.finder.specs.Outcomes.{refused, answered, stopped, empty, noMore, Searched, Followed}
 use Rattle.sequence.specs.Calls.{Call, Answer, ofSearch, ofNext, Result, finderAt, received}
-use Rattle.sequence.specs.Book.{bookResults}
-use Rattle.sequence.specs.Claim.{Proper}
 use Rattle.sequence.proofs.Sequence.{condition-3}
-use Rattle.player.specs.Script.{commandLength, overb, sizeOf, callOf, keepCopy, callsOf, played}
-use Rattle.player.specs.Log.{reportOf, reportRow, row, rows, tableAfter, workAfter, Made}
-use Rattle.player.proofs.ScriptLaws.{size-over, size-goes-on, command-there, rest-of, calls-over, calls-more}
-use Rattle.player.proofs.CallLaws.{made-copy}
+use Rattle.script.specs.Commands.{commandLength, overb, sizeOf, callOf}
+use Rattle.script.specs.Log.{reportOf, reportRow, row, Made}
+use Rattle.script.proofs.CommandLaws.{size-over, size-goes-on, command-there, rest-of}
+use Rattle.player.specs.Played.{keepCopy, callsOf, played, results}
+use Rattle.player.specs.Log.{rows, logAfterAll, answerAfterAll, workAfterAll, BookPlayed}
+use Rattle.player.proofs.PlayedLaws.{calls-over, calls-more, made-copy}
 
 -- a call has four numbers
 answer-row-length : (a : Answer) → length (reportRow (reportOf a)) ≡ 4
@@ -31,6 +29,11 @@ answer-row-length (ofNext (answered (Followed.found l k))) = refl
 answer-row-length (ofNext (answered noMore)) = refl
 
 module _ (g : Call → Result) where
+  -- each call has a result
+  map-length : (cs : List Call) → length (map g cs) ≡ length cs
+  map-length [] = refl
+  map-length (c ∷ cs) = ap (λ (n : ℕ). suc n) (map-length cs)
+
   -- the numbers of some calls
   rows-length : (cs : List Call) → length (rows (map g cs)) ≡ 4 * length cs
   rows-length [] = refl
@@ -44,11 +47,11 @@ module _ (g : Call → Result) where
       ap (λ (x : List ℕ). row (g d) ++ x) (rows-more cs c) ∙ sym (append-assoc (row (g d)) (rows (map g cs)) (row (g c)))
 
   -- and the tables are as it left them
-  table-more : (a : List ℕ) (cs : List Call) (c : Call) → tableAfter a (map g (cs ++ c ∷ [])) ≡ g c .table
+  table-more : (a : List ℕ) (cs : List Call) (c : Call) → answerAfterAll a (map g (cs ++ c ∷ [])) ≡ g c .table
   table-more a [] c = refl
   table-more a (d ∷ cs) c = table-more (g d .table) cs c
 
-  work-more : (w : List ℕ) (cs : List Call) (c : Call) → workAfter w (map g (cs ++ c ∷ [])) ≡ g c .work
+  work-more : (w : List ℕ) (cs : List Call) (c : Call) → workAfterAll w (map g (cs ++ c ∷ [])) ≡ g c .work
   work-more w [] c = refl
   work-more w (d ∷ cs) c = work-more (g d .work) cs c
 
@@ -72,8 +75,8 @@ pub record Playing (f script a₀ w₀ log₀ : List ℕ) (room : ℕ) (a w log 
   pub count : length past ≡ calls
   pub others : callsOf f room script [] a₀ w₀ ≡ past ++ callsOf f (room - calls) (drop at script) (take held copy) a w
   pub numbers : log ≡ rows (map (finderAt f) past) ++ drop (4 * calls) log₀
-  pub answer : a ≡ tableAfter a₀ (map (finderAt f) past)
-  pub work : w ≡ workAfter w₀ (map (finderAt f) past)
+  pub answer : a ≡ answerAfterAll a₀ (map (finderAt f) past)
+  pub work : w ≡ workAfterAll w₀ (map (finderAt f) past)
   pub answer-length : length a ≡ length a₀
   pub work-length : length w ≡ length w₀
   pub log-length : length log ≡ length log₀
@@ -105,12 +108,10 @@ playing-first f script a w log room copy long =
 -- what the function promises
 abbrev pub Ended : (f script a₀ w₀ log₀ a w log : List ℕ) (calls : ℕ) → Type 0
 Ended f script a₀ w₀ log₀ a w log calls =
-    let cs : List Call = played f script a₀ w₀ (length log₀) in
-    (calls ≡ length cs) ×
-    ((log ≡ rows (map (finderAt f) cs) ++ drop (4 * calls) log₀) ×
-    ((a ≡ tableAfter a₀ (map (finderAt f) cs)) ×
-    ((w ≡ workAfter w₀ (map (finderAt f) cs)) ×
-    (Accepted f → Proper f none cs → log ≡ rows (bookResults f 0 cs) ++ drop (4 * calls) log₀))))
+    let rs : List Result = results f script a₀ w₀ log₀ in
+    (calls ≡ length (played f script a₀ w₀ log₀)) ×
+    ((log ≡ logAfterAll log₀ rs) ×
+    ((a ≡ answerAfterAll a₀ rs) × ((w ≡ workAfterAll w₀ rs) × BookPlayed f script a₀ w₀ log₀ log)))
 
 module _ {f script a₀ w₀ log₀ a w log copy : List ℕ} {held at calls : ℕ}
     (p : Playing f script a₀ w₀ log₀ (length log₀ / 4) a w log copy held at calls) where
@@ -118,18 +119,21 @@ module _ {f script a₀ w₀ log₀ a w log copy : List ℕ} {held at calls : �
   playing-ended : callsOf f (length log₀ / 4 - calls) (drop at script) (take held copy) a w ≡ []
       → Ended f script a₀ w₀ log₀ a w log calls
   playing-ended none-left =
-      let cs : List Call = played f script a₀ w₀ (length log₀) in
+      let cs : List Call = played f script a₀ w₀ log₀ in
       let all : p .past ≡ cs = sym (p .others ∙ ap (λ (l : List Call). p .past ++ l) none-left ∙ append-nil (p .past)) in
-      let numbers : log ≡ rows (map (finderAt f) cs) ++ drop (4 * calls) log₀
-      = p .numbers ∙ ap (λ (l : List Call). rows (map (finderAt f) l) ++ drop (4 * calls) log₀) all in (
+      let as-many : calls ≡ length (map (finderAt f) (p .past)) = sym (p .count) ∙ sym (map-length (finderAt f) (p .past)) in
+      let numbers : log ≡ logAfterAll log₀ (map (finderAt f) cs)
+      = p .numbers
+      ∙ ap (λ (n : ℕ). rows (map (finderAt f) (p .past)) ++ drop (4 * n) log₀) as-many
+      ∙ ap (λ (l : List Call). logAfterAll log₀ (map (finderAt f) l)) all in (
         sym (p .count) ∙ ap length all,
         (
           numbers,
           (
-            p .answer ∙ ap (λ (l : List Call). tableAfter a₀ (map (finderAt f) l)) all,
+            p .answer ∙ ap (λ (l : List Call). answerAfterAll a₀ (map (finderAt f) l)) all,
             (
-              p .work ∙ ap (λ (l : List Call). workAfter w₀ (map (finderAt f) l)) all,
-              λ accepted proper. numbers ∙ ap (λ (rs : List Result). rows rs ++ drop (4 * calls) log₀) (condition-3 f accepted cs proper .results),
+              p .work ∙ ap (λ (l : List Call). workAfterAll w₀ (map (finderAt f) l)) all,
+              λ accepted proper. numbers ∙ ap (λ (rs : List Result). logAfterAll log₀ rs) (condition-3 f accepted cs proper .results),
             ),
           ),
         ),

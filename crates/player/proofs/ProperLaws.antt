@@ -4,11 +4,11 @@ use Prim.Native.Nat.{ℕ, zero, suc, _/_}
 use mathlib.Core.Path.{_≡_, refl, sym, subst}
 use mathlib.Core.Logic.{⊎-elim, inl, inr}
 use mathlib.Core.Bool.{Bool, true, false, not, _&&_}
-use mathlib.Core.List.{List, [], map}
+use mathlib.Core.List.{List, []}
 use mathlib.Core.Option.{Option, some, none}
 use native.Mathlib.Omega.{arith}
 use borrow.Author.Tests.{eqb-false}
-use lib.ListN.{drop}
+use lib.ListN.{length, drop}
 use lib.Dec.{T, eqb}
 use Rattle.lasso.specs.Lists.{pick}
 use Rattle.lasso.specs.Graph.{Graph}
@@ -22,8 +22,10 @@ use Rattle.sequence.specs.Book.{bookResults}
 use Rattle.sequence.specs.Claim.{lastReceived, Lent, Proper}
 use Rattle.sequence.proofs.Places.{roll-entries}
 use Rattle.sequence.proofs.Sequence.{condition-3}
-use Rattle.player.specs.Script.{action, commandLength, overb, callOf, keepCopy, callsOf, played, copiesb}
-use Rattle.player.proofs.ScriptLaws.{action-known, call-search, call-copy, calls-over, calls-more}
+use Rattle.script.specs.Commands.{action, commandLength, overb, callOf}
+use Rattle.script.proofs.CommandLaws.{action-known, call-search, call-copy}
+use Rattle.player.specs.Played.{keepCopy, callsOf, played, results, copiesb}
+use Rattle.player.proofs.PlayedLaws.{calls-over, calls-more}
 
 -- the empty list is no shortest accepting path
 empty-refused : (g : Graph) → T (notShortest g [])
@@ -85,10 +87,10 @@ copies-proper f (suc room) s o a w t =
     command-proper f room s o a w (λ s' o' a' w' t'. copies-proper f room s' o' a' w' t') t (overb s) refl
 
 -- what is played of such a script is a sequence as the book takes it
-pub played-proper : (f s a w : List ℕ) (log : ℕ) → T (copiesb (log / 4) s) → Proper f none (played f s a w log)
-played-proper f s a w log t = copies-proper f (log / 4) s none a w t
+pub played-proper : (f s a w log : List ℕ) → T (copiesb (length log / 4) s) → Proper f none (played f s a w log)
+played-proper f s a w log t = copies-proper f (length log / 4) s none a w t
 
 -- so its results on an accepted file are the book's
-pub played-book : (f s a w : List ℕ) (log : ℕ) → Accepted f → T (copiesb (log / 4) s)
-    → map (finderAt f) (played f s a w log) ≡ bookResults f 0 (played f s a w log)
+pub played-book : (f s a w log : List ℕ) → Accepted f → T (copiesb (length log / 4) s)
+    → results f s a w log ≡ bookResults f 0 (played f s a w log)
 played-book f s a w log accepted t = condition-3 f accepted (played f s a w log) (played-proper f s a w log t) .results

@@ -1,3 +1,3 @@
--- What the player does: the calls that a script asks for, and the log of their answers.
-pub mod Script
+-- What the player does: the calls that a script asks for, and the log and the tables after them.
+pub mod Played
 pub mod Log

@@ -12,7 +12,8 @@ pub fn receive(answer: &[u16], got: usize, copy: &mut [u16], held: usize) -> usi
     requires { ⌜ got ≤ length (now answer) ⌝ }
     requires { ⌜ got ≤ length (now copy) ⌝ }
     requires { ⌜ held ≤ length (now copy) ⌝ }
-    ensures copy { λ r. ⌜ take r (now (copy .exit)) ≡ pick (eqb got 0) (take held (now (copy .entry))) (take got (now (answer .entry))) ⌝ }
+    ensures copy { λ r. ⌜ take r (now (copy .exit)) ≡ pick (eqb got 0)
+        (take held (now (copy .entry))) (take got (now (answer .entry))) ⌝ }
     ensures fits { λ r. ⌜ r ≤ length (now (copy .entry)) ⌝ }
 {
     if got == 0 {

@@ -2,10 +2,19 @@
 ghost use Prim.Native.Nat.{_+_, _≤_, _<_};
 ghost use lib.ListN.{length};
 use libc::STDOUT_FILENO;
-use player::command_size;
 use player::play;
+use script::command_size;
 use table::get;
 use table::put;
+
+// The kinds of answer in a log; what is below them is the number of a refusal.
+const KINDS_FROM: usize = 100;
+
+const STOPPED: usize = 101;
+
+const FOUND: usize = 102;
+
+const EMPTY: usize = 103;
 
 // Prints some text.
 pub fn text(words: &[u8]) {
@@ -127,16 +136,16 @@ fn show_row(log: &[u16], place: usize, action: usize, answer: &[u16])
 {
     let kind = entry(log, place);
     let first = entry(log, place + 1);
-    if kind == 0 {
-        return show_figure(b": refused", first);
+    if kind < KINDS_FROM {
+        return show_figure(b": refused", kind);
     }
-    if kind == 1 {
+    if kind == STOPPED {
         return show_stopped(first, entry(log, place + 2), entry(log, place + 3));
     }
-    if kind == 2 {
+    if kind == FOUND {
         return show_found(log, place, action, answer);
     }
-    if kind == 3 {
+    if kind == EMPTY {
         return show_figure(b": empty", first);
     }
     text(b": no more");

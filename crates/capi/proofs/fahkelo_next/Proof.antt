@@ -1,4 +1,4 @@
--- `fahkelo_next` meets its contract: 7 if `out` is too short, else the report of what next answers.
+-- `fahkelo_next` meets its contract: 100 if `out` is too short, else the report of what next answers.
 use mathlib.Core.List.{List}
 use Prim.Native.Nat.{ℕ, _≤_, _<_}
 use native.Mathlib.Omega.{arith}
@@ -7,8 +7,8 @@ use lib.ListN.{length}
 use Rattle.finder.specs.Outcomes.{Outcome, Followed, nextOutcomeOf}
 use Rattle.gate.specs.Gate.{workOf}
 use Rattle.finder.specs.Next.{nextOutcome, nextAnswer}
-use Rattle.capi.specs.Kinds.{nextReport}
-use Rattle.capi.proofs.ReportLaws.{is-short, is-enough, reports-short, reports-enough}
+use Rattle.answers.specs.Kinds.{nextReport}
+use Rattle.capi.proofs.CallLaws.{is-short, is-enough, reports-short, reports-enough}
 use Rattle.capi.proofs.fahkelo_next.Statement.{statement}
 use Rattle.capi.proofs.fahkelo_next.Tie as tie
 

@@ -1,4 +1,4 @@
--- `fahkelo_search` meets its contract: 7 if `out` is too short, else the report of what the search answers.
+-- `fahkelo_search` meets its contract: 100 if `out` is too short, else the report of what the search answers.
 use mathlib.Core.List.{List}
 use Prim.Native.Nat.{ℕ, _≤_, _<_}
 use native.Mathlib.Omega.{arith}
@@ -7,8 +7,8 @@ use lib.ListN.{length}
 use Rattle.finder.specs.Outcomes.{Outcome, Searched, searchOutcomeOf}
 use Rattle.gate.specs.Gate.{workOf}
 use Rattle.finder.specs.Search.{searchOutcome, searchAnswer}
-use Rattle.capi.specs.Kinds.{searchReport}
-use Rattle.capi.proofs.ReportLaws.{is-short, is-enough, reports-short, reports-enough}
+use Rattle.answers.specs.Kinds.{searchReport}
+use Rattle.capi.proofs.CallLaws.{is-short, is-enough, reports-short, reports-enough}
 use Rattle.capi.proofs.fahkelo_search.Statement.{statement}
 use Rattle.capi.proofs.fahkelo_search.Tie as tie
 

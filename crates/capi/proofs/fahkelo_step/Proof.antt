@@ -1,4 +1,4 @@
--- `fahkelo_step` meets its contract: 7 if `out` is too short, else the report of what the step answers.
+-- `fahkelo_step` meets its contract: 100 if `out` is too short, else the report of what the step answers.
 use mathlib.Core.Path.{_∙_, ap}
 use mathlib.Core.List.{List}
 use Prim.Native.Nat.{ℕ, _≤_, _<_}
@@ -9,8 +9,8 @@ use Rattle.lasso.specs.Rounds.{Record}
 use Rattle.finder.specs.Outcomes.{Outcome, Stepped, stepOutcomeOf}
 use Rattle.gate.specs.Gate.{workOf}
 use Rattle.finder.specs.Step.{stepOutcome}
-use Rattle.capi.specs.Kinds.{recordGiven, stepReport}
-use Rattle.capi.proofs.ReportLaws.{is-short, is-enough, reports-short, reports-enough}
+use Rattle.answers.specs.Kinds.{recordGiven, stepReport}
+use Rattle.capi.proofs.CallLaws.{is-short, is-enough, reports-short, reports-enough}
 use Rattle.capi.proofs.fahkelo_step.Statement.{statement}
 use Rattle.capi.proofs.fahkelo_step.Tie as tie
 

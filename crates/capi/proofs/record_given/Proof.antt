@@ -1,5 +1,5 @@
 -- `record_given` meets its contract: no best length for 0, else the one that is given.
-use Rattle.capi.proofs.ReportLaws.{given-none, given-some}
+use Rattle.capi.proofs.CallLaws.{given-none, given-some}
 use Rattle.capi.proofs.record_given.Statement.{statement}
 use Rattle.capi.proofs.record_given.Tie as tie
 

@@ -1,5 +1,5 @@
 -- `report::size_at` meets its contract: a command that is played ends within the script.
-use Rattle.player.proofs.ScriptLaws.{size-in}
+use Rattle.script.proofs.CommandLaws.{size-in}
 use borrow.Author.Needs.{needs}
 use Rattle.plays.proofs.report.size_at.Statement.{statement}
 use Rattle.plays.proofs.report.size_at.Tie as tie

@@ -1,0 +1,121 @@
+-- A report loses nothing: its answer can be read off it.
+use Prim.Native.Nat.{ℕ, _≤_, _<_}
+use mathlib.Core.Path.{_≡_, refl, sym, _∙_, ap}
+use mathlib.Core.Bool.{Bool}
+use mathlib.Core.Option.{Option, some, none}
+use native.Mathlib.Omega.{arith}
+use borrow.Author.Tests.{lt-ltb}
+use lib.ListN.{getD}
+use lib.Dec.{eqb, ltb}
+use Rattle.lasso.specs.Lists.{pick}
+use Rattle.lasso.specs.Rounds.{Record}
+use Rattle.model.specs.Model.{graphOf}
+use Rattle.lasso.specs.Roll.{roll}
+use Rattle.lasso.specs.Following.{following}
+use Rattle.finder.specs.Outcomes.{Outcome, refused, answered, Stepped, finished, advanced, Searched, stopped, empty, Followed, noMore}
+use Rattle.gate.specs.Gate.{commonRules}
+use Rattle.finder.specs.Step.{stepped}
+use Rattle.finder.specs.Search.{searched, searchReasons}
+use Rattle.finder.specs.Next.{followed, nextReasons}
+use Rattle.answers.specs.Kinds.{Report, hasBest, bestFigure, recordGiven, stepReport, searchReport, nextReport}
+use Rattle.answers.specs.NothingLost.{Numbered, Tells, NothingLost}
+use Rattle.answers.proofs.Numbers.{broken-numbered}
+
+-- the record as it came out can be given to the next step
+given-back : (done : ℕ) (best : Option ℕ) → recordGiven done (hasBest best) (bestFigure best) ≡ record { done = done; best = best }
+given-back done none = refl
+given-back done (some l) = refl
+
+record-back : (rec : Record) → recordGiven (rec .done) (hasBest (rec .best)) (bestFigure (rec .best)) ≡ rec
+record-back rec = given-back (rec .done) (rec .best)
+
+-- the figure at a place of a report, and the record in its first three
+abbrev figure : Report → ℕ → ℕ
+figure r i = getD (r .figures) i 0
+
+abbrev recordIn : Report → Record
+recordIn r = recordGiven (figure r 0) (figure r 1) (figure r 2)
+
+-- the outcome that a report comes from: the refusal with its kind as the number if that is below 100, else the answer
+abbrev outcomeBack : {A : Type 0} → Report → A → Outcome A
+outcomeBack r a = pick (ltb (r .kind) 100) (refused (r .kind)) (answered a)
+
+-- the refusal is read off its number
+refusal-back : {A : Type 0} (n : ℕ) (a : A) → (1 ≤ n) × (n ≤ 99) → pick (ltb n 100) (refused n) (answered a) ≡ refused n
+refusal-back n a (least, small) = ap (λ (b : Bool). pick b (refused n) (answered a)) (lt-ltb n 100 (omega arith))
+
+-- the answer of a step that a report comes from
+abbrev steppedIn : Report → Stepped
+steppedIn r = pick (eqb (r .kind) 105) (finished (recordIn r)) (advanced (recordIn r))
+
+step-back : (o : Outcome Stepped) → Numbered 99 o → outcomeBack (stepReport o) (steppedIn (stepReport o)) ≡ o
+step-back (refused n) h = refusal-back n (steppedIn (stepReport (refused n))) h
+step-back (answered (finished rec)) h = ap (λ (x : Record). answered (finished x)) (record-back rec)
+step-back (answered (advanced rec)) h = ap (λ (x : Record). answered (advanced x)) (record-back rec)
+
+-- the answer of a search
+abbrev searchedIn : Report → Searched
+searchedIn r =
+    pick (eqb (r .kind) 101) (stopped (recordIn r))
+    (pick (eqb (r .kind) 102) (Searched.found (figure r 0) (figure r 1) (figure r 2)) (empty (figure r 0)))
+
+search-back : (o : Outcome Searched) → Numbered 99 o → outcomeBack (searchReport o) (searchedIn (searchReport o)) ≡ o
+search-back (refused n) h = refusal-back n (searchedIn (searchReport (refused n))) h
+search-back (answered (stopped rec)) h = ap (λ (x : Record). answered (stopped x)) (record-back rec)
+search-back (answered (Searched.found l k rounds)) h = refl
+search-back (answered (empty rounds)) h = refl
+
+-- the answer of next
+abbrev followedIn : Report → Followed
+followedIn r = pick (eqb (r .kind) 102) (Followed.found (figure r 0) (figure r 1)) noMore
+
+next-back : (o : Outcome Followed) → Numbered 99 o → outcomeBack (nextReport o) (followedIn (nextReport o)) ≡ o
+next-back (refused n) h = refusal-back n (followedIn (nextReport (refused n))) h
+next-back (answered (Followed.found l k)) h = refl
+next-back (answered noMore) h = refl
+
+-- equal reports come from equal outcomes, where the outcome is read off its report
+injective : {A : Type 0} (report : Outcome A → Report) (back : Report → Outcome A)
+    → ((o : Outcome A) → Numbered 99 o → back (report o) ≡ o)
+    → (o p : Outcome A) → Numbered 99 o → Numbered 99 p → report o ≡ report p → o ≡ p
+injective report back backs o p h i e = sym (backs o h) ∙ ap back e ∙ backs p i
+
+-- the kinds are above 100
+step-kinds : (a : Stepped) → 100 < stepReport (answered a) .kind
+step-kinds (finished rec) = omega arith
+step-kinds (advanced rec) = omega arith
+
+search-kinds : (a : Searched) → 100 < searchReport (answered a) .kind
+search-kinds (stopped rec) = omega arith
+search-kinds (Searched.found l k rounds) = omega arith
+search-kinds (empty rounds) = omega arith
+
+next-kinds : (a : Followed) → 100 < nextReport (answered a) .kind
+next-kinds (Followed.found l k) = omega arith
+next-kinds noMore = omega arith
+
+-- nothing is lost
+pub nothing-lost : NothingLost
+nothing-lost = record {
+  step = record {
+    refusals = λ n. refl;
+    kinds = step-kinds;
+    injective = injective stepReport (λ (r : Report). outcomeBack r (steppedIn r)) step-back;
+  };
+  search = record {
+    refusals = λ n. refl;
+    kinds = search-kinds;
+    injective = injective searchReport (λ (r : Report). outcomeBack r (searchedIn r)) search-back;
+  };
+  next = record {
+    refusals = λ n. refl;
+    kinds = next-kinds;
+    injective = injective nextReport (λ (r : Report). outcomeBack r (followedIn r)) next-back;
+  };
+  step-numbers = λ f rec work. broken-numbered 12 (stepped (graphOf f) rec) (commonRules f work) tt;
+  search-numbers = λ f allowance answer work.
+      broken-numbered 15 (searched (graphOf f) allowance) (searchReasons f allowance answer work) tt;
+  next-numbers = λ f earlier answer work.
+      broken-numbered 15 (followed (following earlier (roll (graphOf f)))) (nextReasons f earlier answer work) tt;
+  record-back = record-back;
+}

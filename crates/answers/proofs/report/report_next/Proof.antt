@@ -1,0 +1,89 @@
+-- `report::report_next` meets its contract, answer by answer.
+use Rattle.finder.specs.declared.NextAnswer.{NextAnswer}
+use Rattle.finder.specs.Outcomes.{nextOutcomeOf}
+use Rattle.answers.specs.Kinds.{Report, nextReport}
+use Rattle.answers.proofs.ReportLaws.{reports-known}
+use borrow.Author.Needs.{needs}
+use Rattle.answers.proofs.report.report_next.Statement.{statement}
+use Rattle.answers.proofs.report.report_next.Tie as tie
+
+-- the report of an answer of the code
+abbrev answerReport : NextAnswer → Report
+answerReport a = nextReport (nextOutcomeOf a)
+
+enum-known-answer : tie.Need-enum-known-answer
+enum-known-answer c = search needs
+
+slice-aggregate-report-figures : tie.Need-slice-aggregate-report-figures
+slice-aggregate-report-figures c = search needs
+
+report-figures-requires : tie.Need-report-figures-requires
+report-figures-requires c κs = search needs
+
+enum-known-answer-2 : tie.Need-enum-known-answer-2
+enum-known-answer-2 c = search needs
+
+slice-aggregate-report-figures-2 : tie.Need-slice-aggregate-report-figures-2
+slice-aggregate-report-figures-2 c = search needs
+
+report-figures-requires-2 : tie.Need-report-figures-requires-2
+report-figures-requires-2 c κs = search needs
+
+enum-told : tie.Need-enum-told
+enum-told c = search needs
+
+slice-aggregate-report-figures-3 : tie.Need-slice-aggregate-report-figures-3
+slice-aggregate-report-figures-3 c = search needs
+
+report-figures-requires-3 : tie.Need-report-figures-requires-3
+report-figures-requires-3 c κs = search needs
+
+same-length : tie.Need-same-length
+same-length c = search needs
+
+returns : tie.Need-returns
+returns c =
+    let done = c .before .before in
+    let told = done .before .before .before .before in
+    let a = told .before .before .before .args in
+    reports-known answerReport (a .out .now) (told .answer .given .1) (done .report-figures .ensures .0) (done .report-figures .ensures .1)
+
+same-length-2 : tie.Need-same-length-2
+same-length-2 c = search needs
+
+returns-2 : tie.Need-returns-2
+returns-2 c =
+    let done = c .before .before in
+    let told = done .before .before .before .before in
+    let a = told .before .before .before .args in
+    reports-known answerReport (a .out .now) (told .answer2 .given .1) (done .report-figures2 .ensures .0) (done .report-figures2 .ensures .1)
+
+same-length-3 : tie.Need-same-length-3
+same-length-3 c = search needs
+
+returns-3 : tie.Need-returns-3
+returns-3 c =
+    let done = c .before .before in
+    let told = done .before .before .before in
+    let a = told .before .before .before .args in
+    reports-known answerReport (a .out .now) (told .enum-told .given .1) (done .report-figures3 .ensures .0) (done .report-figures3 .ensures .1)
+
+pub report-next-spec : {M : Type 1} → statement M
+report-next-spec =
+    tie.close
+    (tie.spec
+    enum-known-answer
+    slice-aggregate-report-figures
+    report-figures-requires
+    enum-known-answer-2
+    slice-aggregate-report-figures-2
+    report-figures-requires-2
+    enum-told
+    slice-aggregate-report-figures-3
+    report-figures-requires-3
+    same-length
+    returns
+    same-length-2
+    returns-2
+    same-length-3
+    returns-3)

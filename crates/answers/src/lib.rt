@@ -1,0 +1,6 @@
+// The answers of the finder as numbers, for callers that have no enums: a kind, and figures in a lent table.
+mod report;
+
+pub use report::report_next;
+pub use report::report_search;
+pub use report::report_step;

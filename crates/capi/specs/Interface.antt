@@ -1,0 +1,44 @@
+-- What the C functions do: the report of a call, and the tables afterwards.
+use Prim.Native.Nat.{ℕ}
+use mathlib.Core.List.{List, []}
+use lib.ListN.{length}
+use lib.Dec.{ltb}
+use Rattle.lasso.specs.Lists.{pick}
+use Rattle.lasso.specs.Rounds.{Record}
+use Rattle.gate.specs.Gate.{workOf}
+use Rattle.finder.specs.Step.{stepOutcome}
+use Rattle.finder.specs.Search.{searchOutcome, searchAnswer}
+use Rattle.finder.specs.Next.{nextOutcome, nextAnswer}
+use Rattle.answers.specs.Kinds.{Report, stepReport, searchReport, nextReport}
+
+-- 100, with no figures: `out` has fewer than 4 entries
+abbrev pub outTooShort : Report
+outTooShort = record { kind = 100; figures = [] }
+
+-- what happens with `out` as it is: the one thing if it has fewer than 4 entries, else the other
+abbrev pub ifShort : {A : Type 0} → List ℕ → A → A → A
+ifShort out short enough = pick (ltb (length out) 4) short enough
+
+-- the report of a step on a file from a record, lent the working table and `out`
+abbrev pub stepCall : List ℕ → Record → (w out : List ℕ) → Report
+stepCall f rec w out = ifShort out outTooShort (stepReport (stepOutcome f rec (length w)))
+
+-- the report of a search, lent the answer table too
+abbrev pub searchCall : List ℕ → (allowance : ℕ) → (a w out : List ℕ) → Report
+searchCall f allowance a w out = ifShort out outTooShort (searchReport (searchOutcome f allowance (length a) (length w)))
+
+-- the report of next
+abbrev pub nextCall : (f earlier a w out : List ℕ) → Report
+nextCall f earlier a w out = ifShort out outTooShort (nextReport (nextOutcome f earlier (length a) (length w)))
+
+-- the answer table after a search: untouched if `out` is too short
+abbrev pub answerAfterSearch : List ℕ → (allowance : ℕ) → (a w out : List ℕ) → List ℕ
+answerAfterSearch f allowance a w out = ifShort out a (searchAnswer f allowance a (length w))
+
+-- the answer table after next: untouched if `out` is too short
+abbrev pub answerAfterNext : (f earlier a w out : List ℕ) → List ℕ
+answerAfterNext f earlier a w out = ifShort out a (nextAnswer f earlier a (length w))
+
+-- the working table after each of the three: untouched if `out` is too short
+abbrev pub workAfterCall : (f w out : List ℕ) → List ℕ
+workAfterCall f w out = ifShort out w (workOf f w)

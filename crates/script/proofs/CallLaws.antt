@@ -1,0 +1,188 @@
+-- Laws of one call: its numbers in the log, the entries that it brings and the room that they have.
+use Prim.Native.Nat.{ℕ, suc, _+_, _≤_}
+use mathlib.Core.Path.{_≡_, refl, sym, _∙_, ap, subst}
+use mathlib.Core.Bool.{Bool, true, false}
+use mathlib.Core.List.{List, [], _∷_, _++_, head?, List·Memᴰ, List·Memᴰ·head, List·Memᴰ·tail, List·Memᴰ·not-nil}
+use mathlib.Core.Option.{Option, some, none}
+use native.Mathlib.Omega.{arith}
+use borrow.Author.Tests.{ltb-false}
+use lib.ListN.{length, getD, take, drop, set}
+use lib.Seq.{sets-eq}
+use Rattle.lasso.specs.Lists.{pick, someIf}
+use Rattle.lasso.specs.Graph.{Graph, edges}
+use Rattle.lasso.specs.Roll.{leastLength, roll}
+use Rattle.lasso.specs.Rounds.{Record, candidates, afterRounds}
+use Rattle.lasso.specs.declared.Transitions.{Transitions}
+use Rattle.lasso.specs.Following.{sameb, following}
+use Rattle.lasso.proofs.RollLaws.{roll-empty, roll-lasso}
+use Rattle.model.specs.Model.{graphOf}
+use Rattle.model.specs.Rules.{Reason, firstBroken}
+use Rattle.finder.specs.Outcomes.{answered, outcome, stopped, searchOutcomeOf, nextOutcomeOf}
+use Rattle.finder.specs.declared.SearchAnswer.{SearchAnswer}
+use Rattle.finder.specs.declared.SearchAnswer.the-variants as SearchAnswers
+use Rattle.finder.specs.declared.NextAnswer.{NextAnswer}
+use Rattle.finder.specs.declared.NextAnswer.the-variants as NextAnswers
+use Rattle.gate.specs.Gate.{commonRules}
+use Rattle.finder.specs.Tables.{tooLong, noRoom}
+use Rattle.finder.specs.Search.{stopsb, firstOf, searched, firstDue, listReasons, searchReasons, searchOutcome}
+use Rattle.finder.specs.Next.{notShortest, followed, dueReasons, nextReasons, nextOutcome}
+use Rattle.answers.specs.Kinds.{figuresIn}
+use Rattle.sequence.specs.Calls.{Call, search, next, Answer, ofSearch, ofNext, finderAt, foundLength}
+use Rattle.script.specs.Log.{reportOf, reportRow, row, entriesOf, Made}
+
+-- the four numbers are stored one after another
+pub row-stored : (log figures : List ℕ) (place kind : ℕ) → length figures ≡ 3 → place + 4 ≤ length log
+    → set (set (set (set log place kind) (place + 1) (getD figures 0 0)) (place + 2) (getD figures 1 0)) (place + 3) (getD figures 2 0)
+    ≡ take place log ++ (kind ∷ figures) ++ drop (place + 4) log
+row-stored log [] place kind e fits = absurd (omega arith)
+row-stored log (x ∷ []) place kind e fits = absurd (omega arith)
+row-stored log (x ∷ y ∷ []) place kind e fits = absurd (omega arith)
+row-stored log (x ∷ y ∷ z ∷ []) place kind e fits =
+    let one : place + 1 ≡ suc place = omega arith in
+    let two : place + 2 ≡ suc (suc place) = omega arith in
+    let three : place + 3 ≡ suc (suc (suc place)) = omega arith in
+    ap (λ (i : ℕ). set (set (set (set log place kind) i x) (place + 2) y) (place + 3) z) one
+    ∙ ap (λ (i : ℕ). set (set (set (set log place kind) (suc place) x) i y) (place + 3) z) two
+    ∙ ap (λ (i : ℕ). set (set (set (set log place kind) (suc place) x) (suc (suc place)) y) i z) three
+    ∙ sets-eq (kind ∷ x ∷ y ∷ z ∷ []) log place fits
+row-stored log (x ∷ y ∷ z ∷ u ∷ more) place kind e fits = absurd (omega arith)
+
+-- the entries of a search's answer that is known
+pub search-entries-known : {answer : SearchAnswer} {l : Transitions} {k rounds n : ℕ} → answer ≡ SearchAnswers.Found l k rounds → n ≡ l .0 + 1
+    → n ≡ entriesOf (foundLength (ofSearch (searchOutcomeOf answer)))
+search-entries-known {l = l} e at-n =
+    let q : l .0 + 1 ≡ suc (l .0) = omega arith in
+    at-n ∙ q ∙ ap (λ (x : SearchAnswer). entriesOf (foundLength (ofSearch (searchOutcomeOf x)))) (sym e)
+
+-- the entries of a next's answer that is known
+pub next-entries-known : {answer : NextAnswer} {l : Transitions} {k n : ℕ} → answer ≡ NextAnswers.Found l k → n ≡ l .0 + 1
+    → n ≡ entriesOf (foundLength (ofNext (nextOutcomeOf answer)))
+next-entries-known {l = l} e at-n =
+    let q : l .0 + 1 ≡ suc (l .0) = omega arith in
+    at-n ∙ q ∙ ap (λ (x : NextAnswer). entriesOf (foundLength (ofNext (nextOutcomeOf x)))) (sym e)
+
+-- so many entries have room in an answer table, and in a copy of 4,097 entries
+abbrev Fits : ℕ → ℕ → Type 0
+Fits n answer = (n ≤ answer) × (n ≤ 4097)
+
+-- if no reason holds, neither the first does nor one behind it
+none-holds : (b : Bool) (n : ℕ) (o : Option ℕ) → someIf b n o ≡ none → (b ≡ false) × (o ≡ none)
+none-holds true n o e = let z : _≡_ {A = ℕ} 0 1 = cc in absurd (omega arith)
+none-holds false n o e = (refl, e)
+
+-- if no reason of two tables holds, none of the second does
+clear-behind : (rs ss : List Reason) → firstBroken (rs ++ ss) ≡ none → firstBroken ss ≡ none
+clear-behind [] ss e = e
+clear-behind (r ∷ rs) ss e = clear-behind rs ss (none-holds (r .holds) (r .number) (firstBroken (rs ++ ss)) e .1)
+
+-- a list of the roll for which neither 14 nor 15 holds has room
+due-fits : (f xs : List ℕ) (answer : ℕ) → firstBroken (listReasons f (some xs) answer) ≡ none → List·Memᴰ xs (roll (graphOf f))
+    → Fits (suc (edges xs)) answer
+due-fits f xs answer clear m = go (leastLength (graphOf f)) refl
+  where
+    reasons : (tooLong (leastLength (graphOf f)) ≡ false) × (noRoom (some (edges xs)) answer ≡ false)
+    reasons =
+        let b : Bool = noRoom (some (edges xs)) answer in
+        let (short, rest) = none-holds (tooLong (leastLength (graphOf f))) 14 (someIf b 15 none) clear in
+        (short, none-holds b 15 none rest .0)
+
+    go : (o : Option ℕ) → leastLength (graphOf f) ≡ o → Fits (suc (edges xs)) answer
+    go none e = absurd (List·Memᴰ·not-nil (subst (λ (rs : List (List ℕ)). List·Memᴰ xs rs) (roll-empty (graphOf f) .1 e) m))
+    go (some l) e =
+        let short : tooLong (some l) ≡ false = subst (λ (o : Option ℕ). tooLong o ≡ false) e (reasons .0) in
+        let room : edges xs + 1 ≤ answer = ltb-false answer (edges xs + 1) (reasons .1) in
+        let small : l ≤ 4096 = ltb-false 4096 l short in
+        let long : edges xs ≡ l = roll-lasso (graphOf f) l e xs m .1 in
+        (omega arith, omega arith)
+
+-- the first of the roll has room, if it is what a search brings
+searched-fits : (rs : List (List ℕ)) (stops : Bool) (rec : Record) (rounds answer : ℕ)
+    → ((xs : List ℕ) → pick stops none (head? rs) ≡ some xs → List·Memᴰ xs rs → Fits (suc (edges xs)) answer)
+    → Fits (entriesOf (foundLength (ofSearch (answered (pick stops (stopped rec) (firstOf rs rounds)))))) answer
+searched-fits rs true rec rounds answer h = (omega arith, omega arith)
+searched-fits [] false rec rounds answer h = (omega arith, omega arith)
+searched-fits (xs ∷ rs) false rec rounds answer h = h xs refl (List·Memᴰ·head refl)
+
+-- the list that a search brings has room
+search-fits : (f : List ℕ) (allowance answer work : ℕ)
+    → Fits (entriesOf (foundLength (ofSearch (searchOutcome f allowance answer work)))) answer
+search-fits f allowance answer work = go (firstBroken (searchReasons f allowance answer work)) refl
+  where
+    go : (o : Option ℕ) → firstBroken (searchReasons f allowance answer work) ≡ o
+        → Fits (entriesOf (foundLength (ofSearch (outcome o (searched (graphOf f) allowance))))) answer
+    go (some n) e = (omega arith, omega arith)
+    go none e =
+        let g : Graph = graphOf f in
+        searched-fits (roll g) (stopsb g allowance) (afterRounds g allowance) (length (candidates g)) answer
+        (λ xs q m. due-fits f xs answer (subst (λ (due : Option (List ℕ)). firstBroken (listReasons f due answer) ≡ none) q (clear-behind (commonRules f work) (listReasons f (firstDue g allowance) answer) e)) m)
+
+-- the first of some lists is one of them
+head-mem : (rs : List (List ℕ)) (xs : List ℕ) → head? rs ≡ some xs → List·Memᴰ xs rs
+head-mem [] xs e = let z : _≡_ {A = ℕ} 0 1 = cc in absurd (omega arith)
+head-mem (r ∷ rs) xs e = let q : xs ≡ r = cc in List·Memᴰ·head q
+
+-- the list that follows one of some lists is one of them
+following-mem : (p : List ℕ) (rs : List (List ℕ)) (xs : List ℕ) → following p rs ≡ some xs → List·Memᴰ xs rs
+following-mem p [] xs e = let z : _≡_ {A = ℕ} 0 1 = cc in absurd (omega arith)
+following-mem p (r ∷ rs) xs e = List·Memᴰ·tail (go (sameb p r) (λ q. following-mem p rs xs q) e)
+  where
+    go : (b : Bool) → (following p rs ≡ some xs → List·Memᴰ xs rs) → pick b (head? rs) (following p rs) ≡ some xs → List·Memᴰ xs rs
+    go true later q = head-mem rs xs q
+    go false later q = later q
+
+-- the list that a next brings has room
+next-fits : (f earlier : List ℕ) (answer work : ℕ)
+    → Fits (entriesOf (foundLength (ofNext (nextOutcome f earlier answer work)))) answer
+next-fits f earlier answer work = go (firstBroken (nextReasons f earlier answer work)) refl
+  where
+    clear : (due : Option (List ℕ)) → firstBroken (commonRules f work ++ dueReasons f earlier due answer) ≡ none
+        → firstBroken (listReasons f due answer) ≡ none
+    clear due e =
+        none-holds (notShortest (graphOf f) earlier) 13 (firstBroken (listReasons f due answer))
+        (clear-behind (commonRules f work) (dueReasons f earlier due answer) e)
+        .1
+
+    due-is : (due : Option (List ℕ)) → following earlier (roll (graphOf f)) ≡ due → firstBroken (listReasons f due answer) ≡ none
+        → Fits (entriesOf (foundLength (ofNext (answered (followed due))))) answer
+    due-is none q e = (omega arith, omega arith)
+    due-is (some xs) q e = due-fits f xs answer e (following-mem earlier (roll (graphOf f)) xs q)
+
+    go : (o : Option ℕ) → firstBroken (nextReasons f earlier answer work) ≡ o
+        → Fits (entriesOf (foundLength (ofNext (outcome o (followed (following earlier (roll (graphOf f)))))))) answer
+    go (some n) e = (omega arith, omega arith)
+    go none e = due-is (following earlier (roll (graphOf f))) refl (clear (following earlier (roll (graphOf f))) e)
+
+-- the answer table that a call is lent
+abbrev pub tableLent : Call → List ℕ
+tableLent (search allowance a w) = a
+tableLent (next earlier a w) = a
+
+-- the list that a call brings has room
+call-fits : (f : List ℕ) (c : Call) → Fits (entriesOf (foundLength (finderAt f c .answer))) (length (tableLent c))
+call-fits f (search allowance a w) = search-fits f allowance (length a) (length w)
+call-fits f (next earlier a w) = next-fits f earlier (length a) (length w)
+
+-- a call is made: its answer is the finder's, its numbers are in the log
+pub made : (f : List ℕ) (c : Call) (place : ℕ) {log a' w' log' : List ℕ} {got : ℕ} (answer : Answer) {kind : ℕ} {figures : List ℕ}
+    → answer ≡ finderAt f c .answer → a' ≡ finderAt f c .table → w' ≡ finderAt f c .work → length a' ≡ length (tableLent c)
+    → kind ≡ reportOf answer .kind → figures ≡ figuresIn (0 ∷ 0 ∷ 0 ∷ []) (reportOf answer)
+    → log' ≡ take place log ++ (kind ∷ figures) ++ drop (place + 4) log → got ≡ entriesOf (foundLength answer)
+    → Made f c place log a' w' log' got
+made f c place {log} {a'} {w'} {log'} {got} answer {kind} {figures} e at-a at-w same at-kind at-figures at-log at-got =
+    let line : (kind ∷ figures) ≡ reportRow (reportOf answer) = cc in
+    let row-is : (kind ∷ figures) ≡ row (finderAt f c) = line ∙ ap (λ (x : Answer). reportRow (reportOf x)) e in
+    let got-is : got ≡ entriesOf (foundLength (finderAt f c .answer)) = at-got ∙ ap (λ (x : Answer). entriesOf (foundLength x)) e in
+    let (in-table, small) = call-fits f c in
+    record {
+      answer = at-a;
+      work = at-w;
+      log-row = at-log ∙ ap (λ (r : List ℕ). take place log ++ r ++ drop (place + 4) log) row-is;
+      entries = got-is;
+      in-answer = omega arith;
+      in-copy = omega arith;
+    }
+
+-- a call told otherwise
+pub made-as : {f : List ℕ} {c c' : Call} {place : ℕ} {log a' w' log' : List ℕ} {got : ℕ} → c ≡ c' → Made f c place log a' w' log' got
+    → Made f c' place log a' w' log' got
+made-as {f} {place = place} {log} {a'} {w'} {log'} {got} e m = subst (λ (x : Call). Made f x place log a' w' log' got) e m

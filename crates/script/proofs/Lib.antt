@@ -1,0 +1,3 @@
+-- The laws of a script: its commands, and one call.
+pub mod CommandLaws
+pub mod CallLaws

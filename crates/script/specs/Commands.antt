@@ -1,0 +1,38 @@
+-- The commands of a script of numbers, and the call that each asks for. Each command begins with two numbers,
+-- what to do and its argument: 0 and an allowance, a search; 1 and a number that is not used, a next with the copy last
+-- received, which is the empty list at first; 2 and a count, with so many entries behind them, a next with those entries.
+use Prim.Native.Nat.{ℕ, _+_}
+use mathlib.Core.Bool.{Bool, _||_}
+use mathlib.Core.List.{List}
+use lib.ListN.{length, getD, take, drop}
+use lib.Dec.{eqb, ltb}
+use Rattle.lasso.specs.Lists.{pick}
+use Rattle.sequence.specs.Calls.{Call, search, next}
+
+-- what the first command asks for
+abbrev pub action : List ℕ → ℕ
+action script = getD script 0 0
+
+-- its argument
+abbrev pub argument : List ℕ → ℕ
+argument script = getD script 1 0
+
+-- how many numbers it has
+abbrev pub commandLength : List ℕ → ℕ
+commandLength script = pick (eqb (action script) 2) (2 + argument script) 2
+
+-- the script is over: at its end, where a command is cut off, and at an unknown action
+abbrev pub overb : List ℕ → Bool
+overb script = ltb (length script) (commandLength script) || ltb 2 (action script)
+
+-- how many numbers the command has that is to be played, 0 if the script is over
+abbrev pub sizeOf : List ℕ → ℕ
+sizeOf script = pick (overb script) 0 (commandLength script)
+
+-- the list that the first command lends to a next: the copy last received, or the entries behind it
+abbrev pub lentList : (script copy : List ℕ) → List ℕ
+lentList script copy = pick (eqb (action script) 1) copy (take (argument script) (drop 2 script))
+
+-- the call that the first command asks for, lent the tables
+abbrev pub callOf : (script copy a w : List ℕ) → Call
+callOf script copy a w = pick (eqb (action script) 0) (search (argument script) a w) (next (lentList script copy) a w)

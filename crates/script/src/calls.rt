@@ -1,0 +1,133 @@
+// One call of a script: it is made, its answer goes to the log as four numbers, and the entries received are counted.
+ghost use mathlib.Core.Path.{_≡_};
+ghost use mathlib.Core.Bool.{false};
+ghost use mathlib.Core.List.{_∷_, _++_};
+ghost use Prim.Native.Nat.{_+_, _≤_};
+ghost use lib.ListN.{length, take, drop};
+ghost use Rattle.finder.specs.Outcomes.{searchOutcomeOf, nextOutcomeOf};
+ghost use Rattle.sequence.specs.Calls.{ofSearch, ofNext, foundLength};
+ghost use Rattle.script.specs.Commands.{overb, callOf};
+ghost use Rattle.script.specs.Log.{entriesOf, Made};
+use answers::report_next;
+use answers::report_search;
+use finder::NextAnswer;
+use finder::SearchAnswer;
+use finder::next;
+use finder::search;
+use table::get;
+
+// Writes the four numbers of a call.
+fn put_row(log: &mut [u16], place: usize, kind: u16, figures: &[u16])
+    requires { ⌜ length (now figures) ≡ 3 ⌝ }
+    requires { ⌜ place + 4 ≤ length (now log) ⌝ }
+    ensures { λ _. ⌜ now (log .exit) ≡ take place (now (log .entry)) ++ (kind ∷ now (figures .entry))
+        ++ drop (place + 4) (now (log .entry)) ⌝ }
+{
+    let first = figures[0];
+    let second = figures[1];
+    let third = figures[2];
+    log[place] = kind;
+    log[place + 1] = first;
+    log[place + 2] = second;
+    log[place + 3] = third;
+}
+
+// The entries of the list that a search brings.
+fn search_entries(answer: SearchAnswer) -> usize
+    ensures { λ r. ⌜ r ≡ entriesOf (foundLength (ofSearch (searchOutcomeOf answer))) ⌝ }
+{
+    match answer {
+        SearchAnswer::Refused(_) => 0,
+        SearchAnswer::Stopped(_) => 0,
+        SearchAnswer::Found(l, _, _) => {
+            let entries = l.entries();
+            entries.0
+        }
+        SearchAnswer::Empty(_) => 0,
+    }
+}
+
+// The entries of the list that a next brings.
+fn next_entries(answer: NextAnswer) -> usize
+    ensures { λ r. ⌜ r ≡ entriesOf (foundLength (ofNext (nextOutcomeOf answer))) ⌝ }
+{
+    match answer {
+        NextAnswer::Refused(_) => 0,
+        NextAnswer::Found(l, _) => {
+            let entries = l.entries();
+            entries.0
+        }
+        NextAnswer::NoMore => 0,
+    }
+}
+
+// A search, with its numbers put into the log.
+fn play_search(
+    file: &[u8],
+    allowance: u16,
+    answer: &mut [u16],
+    work: &mut [u16],
+    log: &mut [u16],
+    place: usize,
+) -> usize
+    requires { ⌜ place + 4 ≤ length (now log) ⌝ }
+    ensures { λ r. ⌜ Made (now (file .entry))
+        (Rattle.sequence.specs.Calls.search allowance (now (answer .entry)) (now (work .entry)))
+        place (now (log .entry)) (now (answer .exit)) (now (work .exit)) (now (log .exit)) r ⌝ }
+{
+    let mut figures = [0u16; 3];
+    let result = search(file, allowance, answer, work);
+    let kind = report_search(result, &mut figures);
+    put_row(log, place, kind, &figures);
+    search_entries(result)
+}
+
+// A next, with its numbers put into the log.
+fn play_next(
+    file: &[u8],
+    earlier: &[u16],
+    answer: &mut [u16],
+    work: &mut [u16],
+    log: &mut [u16],
+    place: usize,
+) -> usize
+    requires { ⌜ place + 4 ≤ length (now log) ⌝ }
+    ensures { λ r. ⌜ Made (now (file .entry))
+        (Rattle.sequence.specs.Calls.next (now (earlier .entry)) (now (answer .entry)) (now (work .entry)))
+        place (now (log .entry)) (now (answer .exit)) (now (work .exit)) (now (log .exit)) r ⌝ }
+{
+    let mut figures = [0u16; 3];
+    let result = next(file, earlier, answer, work);
+    let kind = report_next(result, &mut figures);
+    put_row(log, place, kind, &figures);
+    next_entries(result)
+}
+
+// The call that the first command of a script asks for.
+pub fn play_one(
+    file: &[u8],
+    script: &[u16],
+    copy: &[u16],
+    answer: &mut [u16],
+    work: &mut [u16],
+    log: &mut [u16],
+    place: usize,
+) -> usize
+    requires { ⌜ overb (now script) ≡ false ⌝ }
+    requires { ⌜ place + 4 ≤ length (now log) ⌝ }
+    ensures { λ r. ⌜ Made (now (file .entry))
+        (callOf (now (script .entry)) (now (copy .entry)) (now (answer .entry)) (now (work .entry)))
+        place (now (log .entry)) (now (answer .exit)) (now (work .exit)) (now (log .exit)) r ⌝ }
+{
+    let action = get(script, 0);
+    let argument = get(script, 1);
+    if action == 0 {
+        let allowance = argument as u16;
+        return play_search(file, allowance, answer, work, log, place);
+    }
+    if action == 1 {
+        return play_next(file, copy, answer, work, log, place);
+    }
+    let end = argument + 2;
+    play_next(file, &script[2..end], answer, work, log, place)
+}
