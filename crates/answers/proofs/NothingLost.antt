@@ -113,8 +113,8 @@ nothing-lost = record {
     injective = injective nextReport (λ (r : Report). outcomeBack r (followedIn r)) next-back;
   };
   step-numbers = λ f rec work. broken-numbered 12 (stepped (graphOf f) rec) (commonRules f work) tt;
-  search-numbers = λ f allowance answer work.
-      broken-numbered 15 (searched (graphOf f) allowance) (searchReasons f allowance answer work) tt;
+  search-numbers = λ f ask answer work.
+      broken-numbered 15 (searched (graphOf f) ask) (searchReasons f ask answer work) tt;
   next-numbers = λ f earlier answer work.
       broken-numbered 15 (followed (following earlier (roll (graphOf f)))) (nextReasons f earlier answer work) tt;
   record-back = record-back;

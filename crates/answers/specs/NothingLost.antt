@@ -3,6 +3,7 @@
 use Prim.Native.Nat.{ℕ, _≤_, _<_}
 use mathlib.Core.Path.{_≡_}
 use mathlib.Core.List.{List}
+use Rattle.gate.specs.declared.Ask.{Ask}
 use Rattle.lasso.specs.Rounds.{Record}
 use Rattle.finder.specs.Outcomes.{Outcome, refused, answered, Stepped, Searched, Followed}
 use Rattle.finder.specs.Step.{stepOutcome}
@@ -29,6 +30,6 @@ pub record NothingLost : Type 0 where
   pub search : Tells searchReport
   pub next : Tells nextReport
   pub step-numbers : (f : List ℕ) (rec : Record) (work : ℕ) → Numbered 12 (stepOutcome f rec work)
-  pub search-numbers : (f : List ℕ) (allowance answer work : ℕ) → Numbered 15 (searchOutcome f allowance answer work)
+  pub search-numbers : (f : List ℕ) (ask : Ask) (answer work : ℕ) → Numbered 15 (searchOutcome f ask answer work)
   pub next-numbers : (f earlier : List ℕ) (answer work : ℕ) → Numbered 15 (nextOutcome f earlier answer work)
   pub record-back : (rec : Record) → recordGiven (rec .done) (hasBest (rec .best)) (bestFigure (rec .best)) ≡ rec

@@ -83,15 +83,15 @@ pub refusals-change-nothing : RefusalsChangeNothing
 refusals-change-nothing = record {
   step = λ f rec w out.
       value-told 12 (omega arith) out stepReport (nothing-lost .step) (stepOutcome f rec (length w)) (nothing-lost .step-numbers f rec (length w));
-  search = λ f allowance a w out.
-      value-told 15 (omega arith) out searchReport (nothing-lost .search) (searchOutcome f allowance (length a) (length w))
-      (nothing-lost .search-numbers f allowance (length a) (length w));
+  search = λ f ask a w out.
+      value-told 15 (omega arith) out searchReport (nothing-lost .search) (searchOutcome f ask (length a) (length w))
+      (nothing-lost .search-numbers f ask (length a) (length w));
   next = λ f earlier a w out.
       value-told 15 (omega arith) out nextReport (nothing-lost .next) (nextOutcome f earlier (length a) (length w))
       (nothing-lost .next-numbers f earlier (length a) (length w));
-  search-answer = λ f allowance a w out.
-      answer-kept searchReport (nothing-lost .search) (searched (graphOf f) allowance) (firstDue (graphOf f) allowance) a
-      (ltb (length out) 4) (firstBroken (searchReasons f allowance (length a) (length w)));
+  search-answer = λ f ask a w out.
+      answer-kept searchReport (nothing-lost .search) (searched (graphOf f) ask) (firstDue (graphOf f) ask) a
+      (ltb (length out) 4) (firstBroken (searchReasons f ask (length a) (length w)));
   next-answer = λ f earlier a w out.
       answer-kept nextReport (nothing-lost .next) (followed (following earlier (roll (graphOf f)))) (following earlier (roll (graphOf f))) a
       (ltb (length out) 4) (firstBroken (nextReasons f earlier (length a) (length w)));

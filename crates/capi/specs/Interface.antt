@@ -3,6 +3,7 @@ use Prim.Native.Nat.{ℕ}
 use mathlib.Core.List.{List, []}
 use lib.ListN.{length}
 use lib.Dec.{ltb}
+use Rattle.gate.specs.declared.Ask.{Ask}
 use Rattle.lasso.specs.Lists.{pick}
 use Rattle.lasso.specs.Rounds.{Record}
 use Rattle.gate.specs.Gate.{workOf}
@@ -24,16 +25,16 @@ abbrev pub stepCall : List ℕ → Record → (w out : List ℕ) → Report
 stepCall f rec w out = ifShort out outTooShort (stepReport (stepOutcome f rec (length w)))
 
 -- the report of a search, lent the answer table too
-abbrev pub searchCall : List ℕ → (allowance : ℕ) → (a w out : List ℕ) → Report
-searchCall f allowance a w out = ifShort out outTooShort (searchReport (searchOutcome f allowance (length a) (length w)))
+abbrev pub searchCall : List ℕ → Ask → (a w out : List ℕ) → Report
+searchCall f ask a w out = ifShort out outTooShort (searchReport (searchOutcome f ask (length a) (length w)))
 
 -- the report of next
 abbrev pub nextCall : (f earlier a w out : List ℕ) → Report
 nextCall f earlier a w out = ifShort out outTooShort (nextReport (nextOutcome f earlier (length a) (length w)))
 
 -- the answer table after a search: untouched if `out` is too short
-abbrev pub answerAfterSearch : List ℕ → (allowance : ℕ) → (a w out : List ℕ) → List ℕ
-answerAfterSearch f allowance a w out = ifShort out a (searchAnswer f allowance a (length w))
+abbrev pub answerAfterSearch : List ℕ → Ask → (a w out : List ℕ) → List ℕ
+answerAfterSearch f ask a w out = ifShort out a (searchAnswer f ask a (length w))
 
 -- the answer table after next: untouched if `out` is too short
 abbrev pub answerAfterNext : (f earlier a w out : List ℕ) → List ℕ

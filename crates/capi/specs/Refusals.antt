@@ -4,6 +4,7 @@ use Prim.Native.Nat.{ℕ, _≤_, _<_}
 use mathlib.Core.Path.{_≡_}
 use mathlib.Core.List.{List}
 use lib.ListN.{length}
+use Rattle.gate.specs.declared.Ask.{Ask}
 use Rattle.lasso.specs.Rounds.{Record}
 use Rattle.finder.specs.Outcomes.{Outcome, refused, answered}
 use Rattle.finder.specs.Step.{stepOutcome}
@@ -29,11 +30,11 @@ pub record Value {A : Type 0} (most : ℕ) (o : Outcome A) (out : List ℕ) (r :
 -- So it is with all three functions; and up to 100 no entry of the answer table changes.
 pub record RefusalsChangeNothing : Type 0 where
   pub step : (f : List ℕ) (rec : Record) (w out : List ℕ) → Value 12 (stepOutcome f rec (length w)) out (stepCall f rec w out)
-  pub search : (f : List ℕ) (allowance : ℕ) (a w out : List ℕ)
-      → Value 15 (searchOutcome f allowance (length a) (length w)) out (searchCall f allowance a w out)
+  pub search : (f : List ℕ) (ask : Ask) (a w out : List ℕ)
+      → Value 15 (searchOutcome f ask (length a) (length w)) out (searchCall f ask a w out)
   pub next : (f earlier a w out : List ℕ)
       → Value 15 (nextOutcome f earlier (length a) (length w)) out (nextCall f earlier a w out)
-  pub search-answer : (f : List ℕ) (allowance : ℕ) (a w out : List ℕ) → searchCall f allowance a w out .kind ≤ 100
-      → answerAfterSearch f allowance a w out ≡ a
+  pub search-answer : (f : List ℕ) (ask : Ask) (a w out : List ℕ) → searchCall f ask a w out .kind ≤ 100
+      → answerAfterSearch f ask a w out ≡ a
   pub next-answer : (f earlier a w out : List ℕ) → nextCall f earlier a w out .kind ≤ 100
       → answerAfterNext f earlier a w out ≡ a

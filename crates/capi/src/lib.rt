@@ -4,10 +4,12 @@
 ghost use mathlib.Core.Path.{_≡_};
 ghost use Rattle.lasso.specs.Values.{recordOf};
 ghost use Rattle.answers.specs.Kinds.{recordGiven, figuresIn};
+ghost use Rattle.gate.specs.Gate.{asking};
 ghost use Rattle.capi.specs.Interface.{stepCall, searchCall, nextCall, answerAfterSearch, answerAfterNext, workAfterCall};
 use answers::report_next;
 use answers::report_search;
 use answers::report_step;
+use finder::Ask;
 use finder::next;
 use finder::search;
 use finder::step;
@@ -71,11 +73,11 @@ pub extern "C" fn fahkelo_search(
     work: &mut [u16],
     out: &mut [u16],
 ) -> u16
-    ensures value { λ r. ⌜ r ≡ searchCall (now (file .entry)) allowance
+    ensures value { λ r. ⌜ r ≡ searchCall (now (file .entry)) (asking allowance)
         (now (answer .entry)) (now (work .entry)) (now (out .entry)) .kind ⌝ }
-    ensures out { λ _. ⌜ now (out .exit) ≡ figuresIn (now (out .entry)) (searchCall (now (file .entry)) allowance
+    ensures out { λ _. ⌜ now (out .exit) ≡ figuresIn (now (out .entry)) (searchCall (now (file .entry)) (asking allowance)
         (now (answer .entry)) (now (work .entry)) (now (out .entry))) ⌝ }
-    ensures answer { λ _. ⌜ now (answer .exit) ≡ answerAfterSearch (now (file .entry)) allowance
+    ensures answer { λ _. ⌜ now (answer .exit) ≡ answerAfterSearch (now (file .entry)) (asking allowance)
         (now (answer .entry)) (now (work .entry)) (now (out .entry)) ⌝ }
     ensures work { λ _. ⌜ now (work .exit) ≡ workAfterCall (now (file .entry)) (now (work .entry))
         (now (out .entry)) ⌝ }
@@ -83,7 +85,8 @@ pub extern "C" fn fahkelo_search(
     if out.len() < OUT_ENTRIES {
         return OUT_TOO_SHORT;
     }
-    let searched = search(file, allowance, answer, work);
+    let ask = Ask { allowance };
+    let searched = search(file, ask, answer, work);
     report_search(searched, out)
 }
 

@@ -9,9 +9,14 @@ use lib.Dec.{ltb}
 use Rattle.model.specs.Layout.{states}
 use Rattle.model.specs.Rules.{Reason, firstBroken, rules}
 use Rattle.model.specs.Values.{answerOf, Valid}
+use Rattle.gate.specs.declared.Ask.{Ask}
 use Rattle.model.specs.declared.Header.{Header}
 use Rattle.model.specs.declared.Checked.{Checked}
 use Rattle.model.specs.declared.Checked.the-variants.{Refused, Accept}
+
+-- what a call asks that names this allowance
+abbrev pub asking : ℕ → Ask
+asking allowance = record { allowance = allowance }
 
 -- 12. the working table has fewer than 6 × N entries
 abbrev pub smallTable : List ℕ → ℕ → Bool

@@ -8,6 +8,7 @@ use native.Mathlib.Omega.{arith}
 use borrow.Author.Tests.{ltb-false}
 use lib.ListN.{length, getD, take, drop, set}
 use lib.Seq.{sets-eq}
+use Rattle.gate.specs.declared.Ask.{Ask}
 use Rattle.lasso.specs.Lists.{pick, someIf}
 use Rattle.lasso.specs.Graph.{Graph, edges}
 use Rattle.lasso.specs.Roll.{leastLength, roll}
@@ -104,17 +105,17 @@ searched-fits [] false rec rounds answer h = (omega arith, omega arith)
 searched-fits (xs ∷ rs) false rec rounds answer h = h xs refl (List·Memᴰ·head refl)
 
 -- the list that a search brings has room
-search-fits : (f : List ℕ) (allowance answer work : ℕ)
-    → Fits (entriesOf (foundLength (ofSearch (searchOutcome f allowance answer work)))) answer
-search-fits f allowance answer work = go (firstBroken (searchReasons f allowance answer work)) refl
+search-fits : (f : List ℕ) (ask : Ask) (answer work : ℕ)
+    → Fits (entriesOf (foundLength (ofSearch (searchOutcome f ask answer work)))) answer
+search-fits f ask answer work = go (firstBroken (searchReasons f ask answer work)) refl
   where
-    go : (o : Option ℕ) → firstBroken (searchReasons f allowance answer work) ≡ o
-        → Fits (entriesOf (foundLength (ofSearch (outcome o (searched (graphOf f) allowance))))) answer
+    go : (o : Option ℕ) → firstBroken (searchReasons f ask answer work) ≡ o
+        → Fits (entriesOf (foundLength (ofSearch (outcome o (searched (graphOf f) ask))))) answer
     go (some n) e = (omega arith, omega arith)
     go none e =
         let g : Graph = graphOf f in
-        searched-fits (roll g) (stopsb g allowance) (afterRounds g allowance) (length (candidates g)) answer
-        (λ xs q m. due-fits f xs answer (subst (λ (due : Option (List ℕ)). firstBroken (listReasons f due answer) ≡ none) q (clear-behind (commonRules f work) (listReasons f (firstDue g allowance) answer) e)) m)
+        searched-fits (roll g) (stopsb g (ask .allowance)) (afterRounds g (ask .allowance)) (length (candidates g)) answer
+        (λ xs q m. due-fits f xs answer (subst (λ (due : Option (List ℕ)). firstBroken (listReasons f due answer) ≡ none) q (clear-behind (commonRules f work) (listReasons f (firstDue g ask) answer) e)) m)
 
 -- the first of some lists is one of them
 head-mem : (rs : List (List ℕ)) (xs : List ℕ) → head? rs ≡ some xs → List·Memᴰ xs rs
@@ -154,12 +155,12 @@ next-fits f earlier answer work = go (firstBroken (nextReasons f earlier answer 
 
 -- the answer table that a call is lent
 abbrev pub tableLent : Call → List ℕ
-tableLent (search allowance a w) = a
+tableLent (search ask a w) = a
 tableLent (next earlier a w) = a
 
 -- the list that a call brings has room
 call-fits : (f : List ℕ) (c : Call) → Fits (entriesOf (foundLength (finderAt f c .answer))) (length (tableLent c))
-call-fits f (search allowance a w) = search-fits f allowance (length a) (length w)
+call-fits f (search ask a w) = search-fits f ask (length a) (length w)
 call-fits f (next earlier a w) = next-fits f earlier (length a) (length w)
 
 -- a call is made: its answer is the finder's, its numbers are in the log

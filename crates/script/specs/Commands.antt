@@ -6,6 +6,7 @@ use mathlib.Core.Bool.{Bool, _||_}
 use mathlib.Core.List.{List}
 use lib.ListN.{length, getD, take, drop}
 use lib.Dec.{eqb, ltb}
+use Rattle.gate.specs.Gate.{asking}
 use Rattle.lasso.specs.Lists.{pick}
 use Rattle.sequence.specs.Calls.{Call, search, next}
 
@@ -35,4 +36,4 @@ lentList script copy = pick (eqb (action script) 1) copy (take (argument script)
 
 -- the call that the first command asks for, lent the tables
 abbrev pub callOf : (script copy a w : List ℕ) → Call
-callOf script copy a w = pick (eqb (action script) 0) (search (argument script) a w) (next (lentList script copy) a w)
+callOf script copy a w = pick (eqb (action script) 0) (search (asking (argument script)) a w) (next (lentList script copy) a w)

@@ -10,6 +10,7 @@ ghost use Rattle.script.specs.Commands.{overb, callOf};
 ghost use Rattle.script.specs.Log.{entriesOf, Made};
 use answers::report_next;
 use answers::report_search;
+use finder::Ask;
 use finder::NextAnswer;
 use finder::SearchAnswer;
 use finder::next;
@@ -64,7 +65,7 @@ fn next_entries(answer: NextAnswer) -> usize
 // A search, with its numbers put into the log.
 fn play_search(
     file: &[u8],
-    allowance: u16,
+    ask: Ask,
     answer: &mut [u16],
     work: &mut [u16],
     log: &mut [u16],
@@ -72,11 +73,11 @@ fn play_search(
 ) -> usize
     requires { ⌜ place + 4 ≤ length (now log) ⌝ }
     ensures { λ r. ⌜ Made (now (file .entry))
-        (Rattle.sequence.specs.Calls.search allowance (now (answer .entry)) (now (work .entry)))
+        (Rattle.sequence.specs.Calls.search ask (now (answer .entry)) (now (work .entry)))
         place (now (log .entry)) (now (answer .exit)) (now (work .exit)) (now (log .exit)) r ⌝ }
 {
     let mut figures = [0u16; 3];
-    let result = search(file, allowance, answer, work);
+    let result = search(file, ask, answer, work);
     let kind = report_search(result, &mut figures);
     put_row(log, place, kind, &figures);
     search_entries(result)
@@ -123,7 +124,8 @@ pub fn play_one(
     let argument = get(script, 1);
     if action == 0 {
         let allowance = argument as u16;
-        return play_search(file, allowance, answer, work, log, place);
+        let ask = Ask { allowance };
+        return play_search(file, ask, answer, work, log, place);
     }
     if action == 1 {
         return play_next(file, copy, answer, work, log, place);

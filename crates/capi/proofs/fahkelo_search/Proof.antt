@@ -4,6 +4,7 @@ use Prim.Native.Nat.{ℕ, _≤_, _<_}
 use native.Mathlib.Omega.{arith}
 use borrow.Author.Needs.{needs}
 use lib.ListN.{length}
+use Rattle.gate.specs.Gate.{asking}
 use Rattle.finder.specs.Outcomes.{Outcome, Searched, searchOutcomeOf}
 use Rattle.gate.specs.Gate.{workOf}
 use Rattle.finder.specs.Search.{searchOutcome, searchAnswer}
@@ -18,10 +19,10 @@ start c = c .before .before .before .before
 
 -- what is due: the answer, and the tables afterwards
 abbrev due : tie.Start → Outcome Searched
-due s = let a = s .args in searchOutcome (a .file .now) (a .allowance) (length (a .answer .now)) (length (a .work .now))
+due s = let a = s .args in searchOutcome (a .file .now) (asking (a .allowance)) (length (a .answer .now)) (length (a .work .now))
 
 abbrev answer-due : tie.Start → List ℕ
-answer-due s = let a = s .args in searchAnswer (a .file .now) (a .allowance) (a .answer .now) (length (a .work .now))
+answer-due s = let a = s .args in searchAnswer (a .file .now) (asking (a .allowance)) (a .answer .now) (length (a .work .now))
 
 abbrev work-due : tie.Start → List ℕ
 work-due s = workOf (s .args .file .now) (s .args .work .now)

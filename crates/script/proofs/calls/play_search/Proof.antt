@@ -44,8 +44,8 @@ returns c =
     let done = reported .before .before .before .before .before .before in
     let s = done .before .before .before .before .before .before .before in
     let a = s .args in
-    made (a .file .now) (calls.search (a .allowance) (a .answer .now) (a .work .now)) (a .place) (calls.ofSearch (searchOutcomeOf (done .search .result)))
-    (ap calls.ofSearch {y = searchOutcome (a .file .now) (a .allowance) (length (a .answer .now)) (length (a .work .now))} (done .search .ensures .0)) (done .search .ensures .1 .0) (done .search .ensures .1 .1) (omega arith)
+    made (a .file .now) (calls.search (a .ask) (a .answer .now) (a .work .now)) (a .place) (calls.ofSearch (searchOutcomeOf (done .search .result)))
+    (ap calls.ofSearch {y = searchOutcome (a .file .now) (a .ask) (length (a .answer .now)) (length (a .work .now))} (done .search .ensures .0)) (done .search .ensures .1 .0) (done .search .ensures .1 .1) (omega arith)
     (reported .report-search .ensures .0) (reported .report-search .ensures .1) (logged .put-row .ensures) (c .search-entries .ensures)
 
 pub play-search-spec : {M : Type 1} → statement M
