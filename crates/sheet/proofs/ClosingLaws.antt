@@ -10,10 +10,10 @@ use lib.ListN.{length, getD, take, drop}
 use lib.Seq.{take-all}
 use Rattle.lasso.specs.Lists.{collect}
 use Rattle.finder.specs.Tables.{written}
+use Rattle.text.specs.Writing.{Wrote}
+use Rattle.text.proofs.WroteLaws.{wrote-then, wrote-as}
+use Rattle.text.proofs.CollectLaws.{take-next}
 use Rattle.sheet.specs.Sheet.{line, mostLists, closingLine, closing, listsText, lastOf}
-use Rattle.sheet.specs.Writing.{Wrote}
-use Rattle.sheet.proofs.WroteLaws.{wrote-then, wrote-as}
-use Rattle.sheet.proofs.CollectLaws.{take-next}
 
 -- n lists were printed: those that the sheet has, and the closing line says so
 pub record Closed (rs : List (List ℕ)) (more : Bool) (n : ℕ) : Type 0 where

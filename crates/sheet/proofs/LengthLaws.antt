@@ -20,9 +20,11 @@ use Rattle.model.proofs.Laws.{accepted-facts, accepted-well-formed}
 use Rattle.finder.specs.Search.{searchReasons}
 use Rattle.finder.proofs.StepLaws.{candidates-length-le}
 use Rattle.finder.proofs.SearchLaws.{roll-first}
+use Rattle.text.specs.Figure.{figure}
+use Rattle.text.proofs.FigureLaws.{figure-room}
 use Rattle.sheet.specs.Words.{refusedWord, noneLine, shortestWord}
-use Rattle.sheet.specs.Sheet.{line, figure, mostLists, closing, listsText, rollText, textOf, allowance, refusal, sheetText, listsRoom, sheetRoom}
-use Rattle.sheet.proofs.RoomLaws.{roll-room, lines-room, closing-room, figure-room, head-room}
+use Rattle.sheet.specs.Sheet.{line, mostLists, closing, listsText, rollText, textOf, allowance, refusal, sheetText, listsRoom, sheetRoom}
+use Rattle.sheet.proofs.RoomLaws.{roll-room, lines-room, closing-room, head-room}
 use Rattle.sheet.proofs.SheetLaws.{headOf, rollText-some}
 
 -- the number of the first reason is one of the table's

@@ -1,7 +1,4 @@
--- The laws of the sheet: writers one after the other, decimal numbers, lines and lists, and the room they take.
-pub mod WroteLaws
-pub mod CollectLaws
-pub mod DecimalLaws
+-- The laws of the sheet: its lines and lists, and the room they take.
 pub mod LineLaws
 pub mod RollPlaces
 pub mod ClosingLaws

@@ -6,13 +6,11 @@ use native.Mathlib.Omega.{arith}
 use lib.ListN.{length, take, drop, length-append, length-drop}
 use lib.Seq.{take-append-le, drop-append-le, take-nil}
 use Rattle.lasso.specs.Graph.{stem, loop, edges, loopStart}
-use Rattle.sheet.specs.Decimal.{decimal}
-use Rattle.sheet.specs.Words.{space, bar, lineFeed, modelWord, roundsWord}
-use Rattle.sheet.specs.Sheet.{spaceAfter, spaceBefore, stemLoop, line, figure, head}
-
--- a line with a word and a number: the word, the digits and the line feed
-pub figure-length : (word : List ℕ) (n : ℕ) → length (figure word n) ≡ length word + length (decimal n) + 1
-figure-length word n = simp length-append
+use Rattle.text.specs.Characters.{space, lineFeed}
+use Rattle.text.specs.Decimal.{decimal}
+use Rattle.text.specs.Figure.{figure}
+use Rattle.sheet.specs.Words.{bar, modelWord, roundsWord}
+use Rattle.sheet.specs.Sheet.{spaceAfter, spaceBefore, stemLoop, line, head}
 
 -- the lines with the numbers of states, edges and rounds
 pub head-length : (n m rounds : ℕ)

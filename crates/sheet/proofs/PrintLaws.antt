@@ -18,10 +18,10 @@ use Rattle.rounds.specs.Promises.{Ready}
 use Rattle.listing.specs.Promises.{StartLoops, Prepared, Kept, upTo}
 use Rattle.listing.proofs.PlacesTable.{prepared-kept, length-fits}
 use Rattle.finder.specs.Tables.{written}
+use Rattle.text.specs.Writing.{Wrote}
+use Rattle.text.proofs.WroteLaws.{wrote-length, wrote-none}
+use Rattle.text.proofs.CollectLaws.{collect-next, wrote-next}
 use Rattle.sheet.specs.Sheet.{line, mostLists, closingLine, listsText, lastOf, listsRoom}
-use Rattle.sheet.specs.Writing.{Wrote}
-use Rattle.sheet.proofs.WroteLaws.{wrote-length, wrote-none}
-use Rattle.sheet.proofs.CollectLaws.{collect-next, wrote-next}
 use Rattle.sheet.proofs.RollPlaces.{Stands, stands-first, stands-next, stands-last}
 use Rattle.sheet.proofs.ClosingLaws.{Closed, closed-end, closed-more, wrote-closed, answer-closed}
 use Rattle.sheet.proofs.RoomLaws.{roll-room, lines-room, closing-room}

@@ -11,12 +11,15 @@ use Rattle.lasso.specs.Graph.{Graph, WellFormed, stem, loop, edges, loopStart}
 use Rattle.lasso.specs.Roll.{leastLength, roll}
 use Rattle.lasso.proofs.Sorted.{All, all-of-mem}
 use Rattle.lasso.proofs.RollLaws.{leastLength-range, lasso-states, roll-lasso, roll-length}
-use Rattle.sheet.specs.Decimal.{decimal}
-use Rattle.sheet.specs.Words.{space, roundsWord, endWord, moreWord}
-use Rattle.sheet.specs.Sheet.{spaceAfter, spaceBefore, line, figure, head, mostLists, closingLine}
-use Rattle.sheet.proofs.DecimalLaws.{decimal-two, decimal-four}
-use Rattle.sheet.proofs.CollectLaws.{collect-length-le}
-use Rattle.sheet.proofs.LineLaws.{figure-length, head-length, stemLoop-length}
+use Rattle.text.specs.Characters.{space}
+use Rattle.text.specs.Decimal.{decimal}
+use Rattle.text.specs.Figure.{figure}
+use Rattle.text.proofs.DecimalLaws.{decimal-two, decimal-four}
+use Rattle.text.proofs.CollectLaws.{collect-length-le}
+use Rattle.text.proofs.FigureLaws.{figure-length, figure-room}
+use Rattle.sheet.specs.Words.{roundsWord, endWord, moreWord}
+use Rattle.sheet.specs.Sheet.{spaceAfter, spaceBefore, line, head, mostLists, closingLine}
+use Rattle.sheet.proofs.LineLaws.{head-length, stemLoop-length}
 
 module _ {A : Type 0} (P : A → Type 0) where
   -- what every entry has, the first ones have
@@ -83,10 +86,6 @@ lines-room n rs a =
 pub closing-room : (more : Bool) (n : ℕ) → n ≤ mostLists → length (closingLine more n) ≤ 8
 closing-room true n few = omega (arith, figure-length moreWord n, decimal-two n (omega arith))
 closing-room false n few = omega (arith, figure-length endWord n, decimal-two n (omega arith))
-
--- a line with a word and a number of at most four digits
-pub figure-room : (word : List ℕ) (n : ℕ) → n < 10000 → length (figure word n) ≤ length word + 5
-figure-room word n less = omega (arith, figure-length word n, decimal-four n less)
 
 -- the lines with the numbers of states, edges and rounds
 pub head-room : (n m rounds : ℕ) → n < 10000 → m < 10000 → rounds < 10000 → length (head n m rounds) ≤ 28

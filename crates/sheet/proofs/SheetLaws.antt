@@ -7,7 +7,6 @@ use mathlib.Core.Option.{Option, some, none}
 use native.Mathlib.Omega.{arith}
 use borrow.Author.Tests.{lt-ltb, le-ltb}
 use lib.ListN.{length, take, drop}
-use lib.Seq.{length-take-le}
 use lib.Dec.{ltb}
 use Rattle.lasso.specs.Lists.{pick}
 use Rattle.lasso.specs.Graph.{edges}
@@ -26,10 +25,11 @@ use Rattle.finder.specs.Search.{searched, unlessRefused}
 use Rattle.finder.proofs.ReasonLaws.{work-refused}
 use Rattle.finder.proofs.StepLaws.{candidates-length-le}
 use Rattle.finder.proofs.SearchLaws.{SearchIs, search-refused, search-empty, search-found, search-no-room, roll-first}
+use Rattle.text.specs.Figure.{figure}
+use Rattle.text.specs.Writing.{Wrote, Within}
+use Rattle.text.proofs.WroteLaws.{wrote-as, wrote-length, within-at}
 use Rattle.sheet.specs.Words.{refusedWord, noneLine, shortestWord}
-use Rattle.sheet.specs.Sheet.{figure, head, mostLists, listsText, rollText, textOf, allowance, refusal, sheetText, lastOf, sheetAnswer, sheetRoom}
-use Rattle.sheet.specs.Writing.{Wrote, Within}
-use Rattle.sheet.proofs.WroteLaws.{wrote-as, wrote-length}
+use Rattle.sheet.specs.Sheet.{head, mostLists, listsText, rollText, textOf, allowance, refusal, sheetText, lastOf, sheetAnswer, sheetRoom}
 
 -- the whole text of a sheet, and the list that it leaves in the answer table
 pub record SheetIs (f : List ℕ) (answer work : ℕ) (text : List ℕ) (due : Option (List ℕ)) : Type 0 where
@@ -127,10 +127,6 @@ head-is {f} {h} {rounds} v e =
     ap (λ (k : ℕ). head k (h .edges) rounds) n
     ∙ ap (λ (k : ℕ). head (states f) k rounds) m
     ∙ ap (λ (k : ℕ). head (states f) (edgeCount f) k) e
-
--- a number that is at most the length of a text counts bytes at its front
-within-at : (n : ℕ) (t : List ℕ) → n ≤ length t → Within n t
-within-at n t le = (le, sym (length-take-le n t le))
 
 -- what a sheet leaves behind, where the room for its text is too small or not: the count, the text and the two tables
 abbrev pub Leaves : Bool → (bytes t a s w v : List ℕ) → ℕ → (t' a' w' : List ℕ) → Type 0

@@ -14,8 +14,10 @@ use Rattle.model.specs.Model.{graphOf}
 use Rattle.model.specs.Rules.{firstBroken}
 use Rattle.finder.specs.Tables.{workOf, written}
 use Rattle.finder.specs.Search.{searchReasons, unlessRefused}
-use Rattle.sheet.specs.Decimal.{decimal}
-use Rattle.sheet.specs.Words.{space, bar, lineFeed, refusedWord, modelWord, roundsWord, noneLine, shortestWord, endWord, moreWord}
+use Rattle.text.specs.Characters.{space, lineFeed}
+use Rattle.text.specs.Decimal.{decimal}
+use Rattle.text.specs.Figure.{figure}
+use Rattle.sheet.specs.Words.{bar, refusedWord, modelWord, roundsWord, noneLine, shortestWord, endWord, moreWord}
 
 -- each state followed by a space
 abbrev pub spaceAfter : List ℕ → List ℕ
@@ -32,10 +34,6 @@ stemLoop ss ls = spaceAfter ss ++ bar ∷ spaceBefore ls ++ lineFeed ∷ []
 -- the line of a list
 abbrev pub line : List ℕ → List ℕ
 line xs = stemLoop (stem xs) (loop xs)
-
--- the line with a word and a number
-abbrev pub figure : List ℕ → ℕ → List ℕ
-figure word n = word ++ decimal n ++ lineFeed ∷ []
 
 -- the lines `model` with N and M, and `rounds` with the rounds
 abbrev pub head : (n m rounds : ℕ) → List ℕ

@@ -2,14 +2,8 @@
 use Prim.Native.Nat.{ℕ}
 use mathlib.Core.List.{List, [], _∷_}
 
-abbrev pub space : ℕ
-space = 32
-
 abbrev pub bar : ℕ
 bar = 124
-
-abbrev pub lineFeed : ℕ
-lineFeed = 10
 
 -- `refused `
 abbrev pub refusedWord : List ℕ

@@ -4,13 +4,13 @@ ghost use mathlib.Core.List.{_++_};
 ghost use Prim.Native.Nat.{_*_, _≤_};
 ghost use lib.ListN.{length, drop};
 ghost use Rattle.model.specs.Values.{Valid};
+ghost use Rattle.text.specs.Figure.{figure};
+ghost use Rattle.text.specs.Writing.{Wrote, Within};
 ghost use Rattle.sheet.specs.Words.{refusedWord};
-ghost use Rattle.sheet.specs.Sheet.{figure, head, sheetText, sheetAnswer, sheetRoom, textWritten, answerAfter, workAfterSheet};
-ghost use Rattle.sheet.specs.Writing.{Wrote, Within};
+ghost use Rattle.sheet.specs.Sheet.{head, sheetText, sheetAnswer, sheetRoom, textWritten, answerAfter, workAfterSheet};
 
 mod lines;
 mod lists;
-mod writing;
 
 use lasso::Best;
 use lists::write_lists;
@@ -20,9 +20,9 @@ use model::check;
 use rounds::run_rounds;
 use rounds::start_distances;
 use table::clear;
-use writing::write_bytes;
-use writing::write_figure;
-use writing::write_number;
+use text::write_bytes;
+use text::write_figure;
+use text::write_number;
 
 // The entries that a text must have: no sheet is longer.
 const SHEET_ROOM: usize = 410_000;

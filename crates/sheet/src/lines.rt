@@ -1,11 +1,11 @@
 // Writers of the lines of a sheet.
 ghost use Prim.Native.Nat.{_+_, _-_, _≤_};
 ghost use lib.ListN.{length, take, drop};
+ghost use Rattle.text.specs.Writing.{Wrote};
 ghost use Rattle.sheet.specs.Sheet.{spaceAfter, spaceBefore, stemLoop};
-ghost use Rattle.sheet.specs.Writing.{Wrote};
-use crate::writing::write_byte;
-use crate::writing::write_number;
 use table::get;
+use text::write_byte;
+use text::write_number;
 
 // Writes each state followed by a space.
 fn write_stem(text: &mut [u8], at: usize, states: &[u16]) -> usize

@@ -9,15 +9,15 @@ ghost use Rattle.lasso.specs.Roll.{leastLength, roll};
 ghost use Rattle.model.specs.Model.{graphOf};
 ghost use Rattle.rounds.specs.Promises.{Ready};
 ghost use Rattle.finder.specs.Tables.{written};
+ghost use Rattle.text.specs.Writing.{Wrote};
 ghost use Rattle.sheet.specs.Sheet.{line, mostLists, closingLine, listsText, lastOf, listsRoom};
-ghost use Rattle.sheet.specs.Writing.{Wrote};
 use crate::lines::write_line;
-use crate::writing::write_figure;
 use listing::advance;
 use listing::first;
 use listing::prepare;
 use listing::write_list;
 use model::Header;
+use text::write_figure;
 
 // Writes the line of the list in region 0, and the list itself to the answer table.
 fn write_current(

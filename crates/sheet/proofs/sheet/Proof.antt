@@ -7,9 +7,9 @@ use lib.ListN.{length}
 use Rattle.model.specs.Values.{Valid}
 use Rattle.model.proofs.Laws.{valid-sizes}
 use Rattle.finder.proofs.ReasonLaws.{check-refused, check-valid, common-refused, valid-small, valid-clear, work-cleared}
+use Rattle.text.proofs.DecimalLaws.{decimal-five}
+use Rattle.text.proofs.FigureLaws.{figure-length}
 use Rattle.sheet.specs.Words.{refusedWord}
-use Rattle.sheet.proofs.DecimalLaws.{decimal-five}
-use Rattle.sheet.proofs.LineLaws.{figure-length}
 use Rattle.sheet.proofs.SheetLaws.{leaves-short, leaves-sheet, leaves-refused}
 use Rattle.sheet.proofs.sheet.Statement.{statement}
 use Rattle.sheet.proofs.sheet.Tie as tie

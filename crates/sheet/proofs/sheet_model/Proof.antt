@@ -18,10 +18,12 @@ use Rattle.finder.proofs.ReasonLaws.{valid-room}
 use Rattle.finder.proofs.ReadyLaws.{ready-started}
 use Rattle.finder.proofs.StepLaws.{candidates-length-le}
 use Rattle.finder.proofs.SearchLaws.{all-rounds}
+use Rattle.text.specs.Figure.{figure}
+use Rattle.text.proofs.WroteLaws.{wrote-length, wrote-then, wrote-as}
+use Rattle.text.proofs.FigureLaws.{figure-room}
 use Rattle.sheet.specs.Words.{refusedWord, noneLine, shortestWord}
-use Rattle.sheet.specs.Sheet.{figure, head, mostLists, listsText, lastOf, allowance}
-use Rattle.sheet.proofs.WroteLaws.{wrote-length, wrote-then, wrote-as}
-use Rattle.sheet.proofs.RoomLaws.{head-room, figure-room}
+use Rattle.sheet.specs.Sheet.{head, mostLists, listsText, lastOf, allowance}
+use Rattle.sheet.proofs.RoomLaws.{head-room}
 use Rattle.sheet.proofs.SheetLaws.{SheetIs, headOf, head-is, sheet-answer, enough-rounds, sheet-empty, sheet-lists, sheet-no-room}
 use Rattle.sheet.proofs.sheet_model.Statement.{statement}
 use Rattle.sheet.proofs.sheet_model.Tie as tie

@@ -6,8 +6,8 @@ use native.Mathlib.Omega.{arith}
 use borrow.Author.Needs.{needs}
 use lib.ListN.{length, take, drop}
 use lib.Seq.{length-take-le}
+use Rattle.text.proofs.WroteLaws.{wrote-length, wrote-then, wrote-as}
 use Rattle.sheet.specs.Sheet.{spaceAfter, spaceBefore}
-use Rattle.sheet.proofs.WroteLaws.{wrote-length, wrote-then, wrote-as}
 use Rattle.sheet.proofs.LineLaws.{stemLoop-length, stemLoop-parts}
 use Rattle.sheet.proofs.lines.write_line.Statement.{statement}
 use Rattle.sheet.proofs.lines.write_line.Tie as tie

@@ -4,12 +4,12 @@ use mathlib.Core.List.{List, _∷_}
 use native.Mathlib.Omega.{arith}
 use borrow.Author.Needs.{needs}
 use lib.ListN.{length, take}
-use Rattle.sheet.specs.Decimal.{decimal}
-use Rattle.sheet.specs.Words.{space}
+use Rattle.text.specs.Characters.{space}
+use Rattle.text.specs.Decimal.{decimal}
+use Rattle.text.specs.Writing.{Wrote}
+use Rattle.text.proofs.WroteLaws.{wrote-length, wrote-none, wrote-then}
+use Rattle.text.proofs.CollectLaws.{wrote-next, next-room, wrote-all}
 use Rattle.sheet.specs.Sheet.{spaceBefore}
-use Rattle.sheet.specs.Writing.{Wrote}
-use Rattle.sheet.proofs.WroteLaws.{wrote-length, wrote-none, wrote-then}
-use Rattle.sheet.proofs.CollectLaws.{wrote-next, next-room, wrote-all}
 use Rattle.sheet.proofs.lines.write_loop.Statement.{statement}
 use Rattle.sheet.proofs.lines.write_loop.Tie as tie
 

@@ -6,8 +6,8 @@ use mathlib.Core.Bool.{true, false}
 use native.Mathlib.Omega.{arith}
 use borrow.Author.Needs.{needs}
 use lib.ListN.{length}
+use Rattle.text.proofs.WroteLaws.{wrote-length}
 use Rattle.sheet.specs.Sheet.{mostLists}
-use Rattle.sheet.proofs.WroteLaws.{wrote-length}
 use Rattle.sheet.proofs.RollPlaces.{stands-mem, advanced-none, advanced-some}
 use Rattle.listing.proofs.PlacesTable.{prepared-kept}
 use Rattle.sheet.proofs.PrintLaws.{Printing, prepared-start, printed-answer-length, printing-first, listed-asks, closing-asks, printing-next, closed-last, closed-full, printing-closed}

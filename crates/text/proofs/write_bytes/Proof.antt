@@ -1,14 +1,14 @@
--- `writing::write_bytes` meets its contract. The loop's invariant: the first i bytes are written.
+-- `write_bytes` meets its contract. The loop's invariant: the first i bytes are written.
 use Prim.Native.Nat.{_-_, _≤_}
 use mathlib.Core.Path.{sym}
 use native.Mathlib.Omega.{arith}
 use lib.ListN.{length, take}
 use lib.Seq.{length-take-le, take-all}
-use Rattle.sheet.specs.Writing.{Wrote}
-use Rattle.sheet.proofs.WroteLaws.{wrote-length, wrote-none, wrote-then, wrote-as}
-use Rattle.sheet.proofs.CollectLaws.{take-next}
-use Rattle.sheet.proofs.writing.write_bytes.Statement.{statement}
-use Rattle.sheet.proofs.writing.write_bytes.Tie as tie
+use Rattle.text.specs.Writing.{Wrote}
+use Rattle.text.proofs.WroteLaws.{wrote-length, wrote-none, wrote-then, wrote-as}
+use Rattle.text.proofs.CollectLaws.{take-next}
+use Rattle.text.proofs.write_bytes.Statement.{statement}
+use Rattle.text.proofs.write_bytes.Tie as tie
 
 abbrev Inv-loop : tie.InvT-loop
 Inv-loop text₀ at bytes next₀ i₀ text next i = (i ≤ length bytes) × Wrote text₀ at (take i bytes) text next

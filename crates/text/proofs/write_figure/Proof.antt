@@ -1,10 +1,10 @@
--- `writing::write_figure` meets its contract: the word, the number and the line feed are written one after the other.
+-- `write_figure` meets its contract: the word, the number and the line feed are written one after the other.
 use native.Mathlib.Omega.{arith}
 use borrow.Author.Needs.{needs}
-use Rattle.sheet.proofs.WroteLaws.{wrote-length, wrote-then}
-use Rattle.sheet.proofs.LineLaws.{figure-length}
-use Rattle.sheet.proofs.writing.write_figure.Statement.{statement}
-use Rattle.sheet.proofs.writing.write_figure.Tie as tie
+use Rattle.text.proofs.WroteLaws.{wrote-length, wrote-then}
+use Rattle.text.proofs.FigureLaws.{figure-length}
+use Rattle.text.proofs.write_figure.Statement.{statement}
+use Rattle.text.proofs.write_figure.Tie as tie
 
 -- the function's start, from behind the word
 abbrev start : tie.After-write-bytes → tie.Start

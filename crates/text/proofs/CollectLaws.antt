@@ -8,8 +8,8 @@ use lib.ListN.{length, getD, take, drop, length-append, take-append-drop}
 use lib.Seq.{take-suc, take-all}
 use Rattle.lasso.specs.Lists.{collect}
 use Rattle.lasso.proofs.Sorted.{All}
-use Rattle.sheet.specs.Writing.{Wrote}
-use Rattle.sheet.proofs.WroteLaws.{wrote-then, wrote-as, wrote-length}
+use Rattle.text.specs.Writing.{Wrote}
+use Rattle.text.proofs.WroteLaws.{wrote-then, wrote-as, wrote-length}
 
 -- one entry more of a list is taken
 pub take-next : {A : Type 0} (ss : List A) (i : ℕ) (d : A) → i < length ss → take (i + 1) ss ≡ take i ss ++ getD ss i d ∷ []

@@ -2,9 +2,9 @@
 ghost use mathlib.Core.List.{[], _∷_};
 ghost use Prim.Native.Nat.{_+_, _≤_, _<_};
 ghost use lib.ListN.{length};
-ghost use Rattle.sheet.specs.Decimal.{decimal};
-ghost use Rattle.sheet.specs.Sheet.{figure};
-ghost use Rattle.sheet.specs.Writing.{Wrote};
+ghost use Rattle.text.specs.Decimal.{decimal};
+ghost use Rattle.text.specs.Figure.{figure};
+ghost use Rattle.text.specs.Writing.{Wrote};
 
 // Writes one byte.
 pub fn write_byte(text: &mut [u8], at: usize, byte: u8) -> usize

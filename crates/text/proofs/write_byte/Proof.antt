@@ -1,8 +1,8 @@
--- `writing::write_byte` meets its contract.
+-- `write_byte` meets its contract.
 use borrow.Author.Needs.{needs}
-use Rattle.sheet.proofs.WroteLaws.{wrote-byte}
-use Rattle.sheet.proofs.writing.write_byte.Statement.{statement}
-use Rattle.sheet.proofs.writing.write_byte.Tie as tie
+use Rattle.text.proofs.WroteLaws.{wrote-byte}
+use Rattle.text.proofs.write_byte.Statement.{statement}
+use Rattle.text.proofs.write_byte.Tie as tie
 
 slice-write-text : tie.Need-slice-write-text
 slice-write-text c = search needs

@@ -1,4 +1,4 @@
--- `writing::write_number` meets its contract: the digits of the tenth, if there are any, and then the last one. The measure
+-- `write_number` meets its contract: the digits of the tenth, if there are any, and then the last one. The measure
 -- is the number.
 use Prim.Native.Nat.{ℕ, _<_}
 use mathlib.Core.Path.{sym, _∙_, ap}
@@ -6,14 +6,14 @@ use native.Mathlib.Omega.{arith}
 use borrow.Fn.Kinds.{In}
 use borrow.Fn.PlainCycle.{Measures, is, falls, and}
 use lib.ListN.{length}
-use Rattle.sheet.proofs.WroteLaws.{wrote-length, wrote-then, wrote-as}
-use Rattle.sheet.proofs.DecimalLaws.{decimal-small, decimal-large, decimal-length}
-use Rattle.sheet.proofs.writing.write_number.Reads as write-number
-use Rattle.sheet.proofs.writing.write_number.Kinds as write-number-kinds
-use Rattle.sheet.proofs.writing.+write_number.Lts-write_number as write-number-lts
-use Rattle.sheet.proofs.writing.write_byte.Reads as write-byte-reads
-use Rattle.sheet.proofs.writing.+write_number.{statement}
-use Rattle.sheet.proofs.writing.+write_number.Tie.{close}
+use Rattle.text.proofs.WroteLaws.{wrote-length, wrote-then, wrote-as}
+use Rattle.text.proofs.DecimalLaws.{decimal-small, decimal-large, decimal-length}
+use Rattle.text.proofs.write_number.Reads as write-number
+use Rattle.text.proofs.write_number.Kinds as write-number-kinds
+use Rattle.text.proofs.+write_number.Lts-write_number as write-number-lts
+use Rattle.text.proofs.write_byte.Reads as write-byte-reads
+use Rattle.text.proofs.+write_number.{statement}
+use Rattle.text.proofs.+write_number.Tie.{close}
 
 abbrev μ-write-number : Measures 1 write-number-kinds.ps ℕ
 μ-write-number κs a = a .1 .1 .0

@@ -9,7 +9,7 @@ use borrow.Author.Tests.{lt-ltb, le-ltb}
 use lib.ListN.{length, length-append}
 use Rattle.lasso.specs.Lists.{pick}
 use Rattle.lasso.proofs.Tests.{lt-or-ge}
-use Rattle.sheet.specs.Decimal.{digit, digitsWithin, decimal}
+use Rattle.text.specs.Decimal.{digit, digitsWithin, decimal}
 
 -- a number below ten has one digit
 within-small : (most n : ℕ) → n < 10 → digitsWithin (suc most) n ≡ digit n ∷ []

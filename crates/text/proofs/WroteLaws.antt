@@ -6,7 +6,7 @@ use native.Mathlib.Numerals.{add-one}
 use native.Mathlib.Omega.{arith}
 use lib.ListN.{length, take, drop, set, length-append, length-take, length-drop, take-append-drop}
 use lib.Seq.{length-take-le, set-split, take-at, drop-at, drop-drop}
-use Rattle.sheet.specs.Writing.{Wrote}
+use Rattle.text.specs.Writing.{Wrote, Within}
 
 -- the text keeps its length
 pub wrote-length : {t : List ℕ} {at : ℕ} {bytes t' : List ℕ} {next : ℕ} → Wrote t at bytes t' next → length t' ≡ length t
@@ -60,3 +60,7 @@ wrote-then {t} {at} {b} {b'} {t'} {t''} {next} {next'} w v =
 -- the bytes may be told otherwise
 pub wrote-as : {t : List ℕ} {at : ℕ} {b b' t' : List ℕ} {next : ℕ} → b ≡ b' → Wrote t at b t' next → Wrote t at b' t' next
 wrote-as {t} {at} {b} {b'} {t'} {next} e w = subst (λ (x : List ℕ). Wrote t at x t' next) e w
+
+-- a number that is at most the length of a text counts bytes at its front
+pub within-at : (n : ℕ) (t : List ℕ) → n ≤ length t → Within n t
+within-at n t le = (le, sym (length-take-le n t le))
