@@ -28,7 +28,7 @@ use Rattle.sheet.proofs.RoomLaws.{roll-room, lines-room, closing-room, 
 use Rattle.sheet.proofs.SheetLaws.{headOf, rollText-some}
 
 -- the number of the first reason is one of the table's
-broken-number : (P : ℕ → Type 0) (rs : List Reason) → All (λ r. P (r .number)) rs → (n : ℕ) → firstBroken rs ≡ some n → P n
+pub broken-number : (P : ℕ → Type 0) (rs : List Reason) → All (λ r. P (r .number)) rs → (n : ℕ) → firstBroken rs ≡ some n → P n
 broken-number P [] h n e = let z : _≡_ {A = ℕ} 0 1 = cc in absurd (omega arith)
 broken-number P (r ∷ rs) h n e = go (r .holds) e (λ q. broken-number P rs (h .1) n q)
   where

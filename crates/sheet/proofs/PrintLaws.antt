@@ -21,7 +21,7 @@ use Rattle.finder.specs.Tables.{written}
 use Rattle.text.specs.Writing.{Wrote}
 use Rattle.text.proofs.WroteLaws.{wrote-length, wrote-none}
 use Rattle.text.proofs.CollectLaws.{collect-next, wrote-next}
-use Rattle.sheet.specs.Sheet.{line, mostLists, closingLine, listsText, lastOf, listsRoom}
+use Rattle.sheet.specs.Sheet.{line, mostLists, closingLine, listsText, lastPrinted, listsRoom}
 use Rattle.sheet.proofs.RollPlaces.{Stands, stands-first, stands-next, stands-last}
 use Rattle.sheet.proofs.ClosingLaws.{Closed, closed-end, closed-more, wrote-closed, answer-closed}
 use Rattle.sheet.proofs.RoomLaws.{roll-room, lines-room, closing-room}
@@ -144,7 +144,7 @@ module _ {f : List ℕ} {h : Header} {l at next count : ℕ} {a₀ w₀ t₀ a w
     -- the whole text of the lists, and the answer table, once the closing line is written
     pub printing-closed : {more : Bool} {t'' : List ℕ} {next'' : ℕ} → Closed (roll (graphOf f)) more (count + 1)
         → Wrote t' next' (closingLine more (count + 1)) t'' next''
-        → Wrote t₀ at (listsText (roll (graphOf f))) t'' next'' × (a' ≡ written (lastOf (take mostLists (roll (graphOf f)))) a₀)
+        → Wrote t₀ at (listsText (roll (graphOf f))) t'' next'' × (a' ≡ written (lastPrinted (roll (graphOf f))) a₀)
     printing-closed c v = (
       wrote-closed c printed-lines v,
       answer-closed a₀ a' listed count l c (p .current .place-in) (sym listed-at) listed-length printed-answer,

@@ -85,10 +85,14 @@ lastOf [] = none
 lastOf (xs ∷ []) = some xs
 lastOf (xs ∷ ys ∷ rest) = lastOf (ys ∷ rest)
 
+-- the last list that is printed of a roll, if any
+abbrev pub lastPrinted : List (List ℕ) → Option (List ℕ)
+lastPrinted rs = lastOf (take mostLists rs)
+
 -- the answer table after a sheet: the last list printed, if any
 abbrev pub sheetAnswer : List ℕ → List ℕ → ℕ → List ℕ
 sheetAnswer f a work =
-    written (unlessRefused (refusal f (length a) work) (lastOf (take mostLists (roll (graphOf f))))) a
+    written (unlessRefused (refusal f (length a) work) (lastPrinted (roll (graphOf f)))) a
 
 -- the room that is asked for a text: no sheet is longer
 abbrev pub sheetRoom : ℕ
@@ -98,14 +102,18 @@ sheetRoom = 410000
 abbrev pub listsRoom : ℕ
 listsRoom = 409748
 
--- what a sheet writes to a text with so much room: nothing if that is too little
-abbrev pub textWritten : List ℕ → (answer work room : ℕ) → List ℕ
-textWritten f answer work room = pick (ltb room sheetRoom) [] (sheetText f answer work)
+-- the text t that is lent has less room than is asked
+abbrev pub smallText : List ℕ → Bool
+smallText t = ltb (length t) sheetRoom
 
--- the answer table after a sheet with so much room for its text: untouched if that is too little
-abbrev pub answerAfter : List ℕ → List ℕ → (work room : ℕ) → List ℕ
-answerAfter f a work room = pick (ltb room sheetRoom) a (sheetAnswer f a work)
+-- what is written to text t, where the tables a and w are lent: nothing if the text is too small
+abbrev pub sheetWritten : (f a w t : List ℕ) → List ℕ
+sheetWritten f a w t = pick (smallText t) [] (sheetText f (length a) (length w))
 
--- the working table after a sheet with so much room for its text: untouched if that is too little
-abbrev pub workAfterSheet : List ℕ → List ℕ → ℕ → List ℕ
-workAfterSheet f w room = pick (ltb room sheetRoom) w (workOf f w)
+-- the answer table a afterwards: untouched if the text is too small
+abbrev pub sheetAnswered : (f a w t : List ℕ) → List ℕ
+sheetAnswered f a w t = pick (smallText t) a (sheetAnswer f a (length w))
+
+-- the working table w afterwards: untouched if the text is too small
+abbrev pub sheetWorked : (f w t : List ℕ) → List ℕ
+sheetWorked f w t = pick (smallText t) w (workOf f w)

@@ -1,13 +1,12 @@
 // The whole text of the desk sheet: a model file goes in, its sheet comes out in a lent text.
 ghost use mathlib.Core.Path.{_≡_};
-ghost use mathlib.Core.List.{_++_};
 ghost use Prim.Native.Nat.{_*_, _≤_};
-ghost use lib.ListN.{length, drop};
+ghost use lib.ListN.{length};
 ghost use Rattle.model.specs.Values.{Valid};
 ghost use Rattle.text.specs.Figure.{figure};
-ghost use Rattle.text.specs.Writing.{Wrote, Within};
+ghost use Rattle.text.specs.Writing.{Wrote};
 ghost use Rattle.sheet.specs.Words.{refusedWord};
-ghost use Rattle.sheet.specs.Sheet.{head, sheetText, sheetAnswer, sheetRoom, textWritten, answerAfter, workAfterSheet};
+ghost use Rattle.sheet.specs.Sheet.{head, sheetText, sheetAnswer, sheetRoom, sheetWritten, sheetAnswered, sheetWorked};
 
 mod lines;
 mod lists;
@@ -59,8 +58,11 @@ fn sheet_model(
     requires { ⌜ Valid (now file) h ⌝ }
     requires { ⌜ 6 * h .states ≤ length (now work) ⌝ }
     requires { ⌜ sheetRoom ≤ length (now text) ⌝ }
-    ensures text { λ r. ⌜ Wrote (now (text .entry)) 0 (sheetText (now (file .entry)) (length (now (answer .entry))) (length (now (work .entry)))) (now (text .exit)) r ⌝ }
-    ensures answer { λ _. ⌜ now (answer .exit) ≡ sheetAnswer (now (file .entry)) (now (answer .entry)) (length (now (work .entry))) ⌝ }
+    ensures text { λ r. ⌜ Wrote (now (text .entry)) 0
+        (sheetText (now (file .entry)) (length (now (answer .entry))) (length (now (work .entry))))
+        (now (text .exit)) r ⌝ }
+    ensures answer { λ _. ⌜ now (answer .exit) ≡
+        sheetAnswer (now (file .entry)) (now (answer .entry)) (length (now (work .entry))) ⌝ }
     ensures kept { λ _. ⌜ length (now (work .exit)) ≡ length (now (work .entry)) ⌝ }
 {
     start_distances(file, h, work);
@@ -89,11 +91,13 @@ fn sheet_model(
 // Writes the sheet of a file to the front of a text, and answers the number of bytes written. With fewer than 410,000
 // bytes of room it writes nothing and answers 0.
 pub fn sheet(input: &[u8], answer: &mut [u16], work: &mut [u16], text: &mut [u8]) -> usize
-    ensures count { λ r. ⌜ r ≡ length (textWritten (now (input .entry)) (length (now (answer .entry))) (length (now (work .entry))) (length (now (text .entry)))) ⌝ }
-    ensures text { λ _. ⌜ now (text .exit) ≡ textWritten (now (input .entry)) (length (now (answer .entry))) (length (now (work .entry))) (length (now (text .entry))) ++ drop (length (textWritten (now (input .entry)) (length (now (answer .entry))) (length (now (work .entry))) (length (now (text .entry))))) (now (text .entry)) ⌝ }
-    ensures answer { λ _. ⌜ now (answer .exit) ≡ answerAfter (now (input .entry)) (now (answer .entry)) (length (now (work .entry))) (length (now (text .entry))) ⌝ }
-    ensures work { λ _. ⌜ now (work .exit) ≡ workAfterSheet (now (input .entry)) (now (work .entry)) (length (now (text .entry))) ⌝ }
-    ensures within { λ r. ⌜ Within r (now (text .exit)) ⌝ }
+    ensures text { λ r. ⌜ Wrote (now (text .entry)) 0
+        (sheetWritten (now (input .entry)) (now (answer .entry)) (now (work .entry)) (now (text .entry)))
+        (now (text .exit)) r ⌝ }
+    ensures answer { λ _. ⌜ now (answer .exit) ≡
+        sheetAnswered (now (input .entry)) (now (answer .entry)) (now (work .entry)) (now (text .entry)) ⌝ }
+    ensures work { λ _. ⌜ now (work .exit) ≡
+        sheetWorked (now (input .entry)) (now (work .entry)) (now (text .entry)) ⌝ }
 {
     if text.len() < SHEET_ROOM {
         return 0;

@@ -43,7 +43,9 @@ fn write_loop(text: &mut [u8], at: usize, states: &[u16]) -> usize
 pub fn write_line(text: &mut [u8], at: usize, list: &[u16], k: usize, l: usize) -> usize
     requires { ⌜ (k ≤ l) × (l ≤ length (now list)) ⌝ }
     requires { ⌜ at + length (stemLoop (take k (now list)) (take (l - k) (drop k (now list)))) ≤ length (now text) ⌝ }
-    ensures { λ r. ⌜ Wrote (now (text .entry)) at (stemLoop (take k (now (list .entry))) (take (l - k) (drop k (now (list .entry))))) (now (text .exit)) r ⌝ }
+    ensures { λ r. ⌜ Wrote (now (text .entry)) at
+        (stemLoop (take k (now (list .entry))) (take (l - k) (drop k (now (list .entry)))))
+        (now (text .exit)) r ⌝ }
 {
     let after_stem = write_stem(text, at, &list[..k]);
     let after_bar = write_byte(text, after_stem, b'|');

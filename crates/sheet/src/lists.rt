@@ -10,7 +10,7 @@ ghost use Rattle.model.specs.Model.{graphOf};
 ghost use Rattle.rounds.specs.Promises.{Ready};
 ghost use Rattle.finder.specs.Tables.{written};
 ghost use Rattle.text.specs.Writing.{Wrote};
-ghost use Rattle.sheet.specs.Sheet.{line, mostLists, closingLine, listsText, lastOf, listsRoom};
+ghost use Rattle.sheet.specs.Sheet.{line, closingLine, listsText, lastPrinted, listsRoom};
 use crate::lines::write_line;
 use listing::advance;
 use listing::first;
@@ -32,8 +32,11 @@ fn write_current(
     requires { ⌜ l < length (now answer) ⌝ }
     requires { ⌜ h .start < 65536 ⌝ }
     requires { ⌜ at + length (line (h .start ∷ take l (now work))) ≤ length (now text) ⌝ }
-    ensures line { λ r. ⌜ Wrote (now (text .entry)) at (line (h .start ∷ take l (now (work .entry)))) (now (text .exit)) r ⌝ }
-    ensures list { λ _. ⌜ now (answer .exit) ≡ (h .start ∷ take l (now (work .entry))) ++ drop (l + 1) (now (answer .entry)) ⌝ }
+    ensures line { λ r. ⌜ Wrote (now (text .entry)) at
+        (line (h .start ∷ take l (now (work .entry))))
+        (now (text .exit)) r ⌝ }
+    ensures list { λ _. ⌜ now (answer .exit) ≡
+        (h .start ∷ take l (now (work .entry))) ++ drop (l + 1) (now (answer .entry)) ⌝ }
 {
     let k = write_list(h, work, l, answer);
     write_line(text, at, answer, k, l)
@@ -65,8 +68,11 @@ pub fn write_lists(
     requires { ⌜ leastLength (graphOf (now file)) ≡ some l ⌝ }
     requires { ⌜ l < length (now answer) ⌝ }
     requires { ⌜ at + listsRoom ≤ length (now text) ⌝ }
-    ensures text { λ r. ⌜ Wrote (now (text .entry)) at (listsText (roll (graphOf (now (file .entry))))) (now (text .exit)) r ⌝ }
-    ensures answer { λ _. ⌜ now (answer .exit) ≡ written (lastOf (take mostLists (roll (graphOf (now (file .entry)))))) (now (answer .entry)) ⌝ }
+    ensures text { λ r. ⌜ Wrote (now (text .entry)) at
+        (listsText (roll (graphOf (now (file .entry)))))
+        (now (text .exit)) r ⌝ }
+    ensures answer { λ _. ⌜ now (answer .exit) ≡
+        written (lastPrinted (roll (graphOf (now (file .entry))))) (now (answer .entry)) ⌝ }
     ensures kept { λ _. ⌜ length (now (work .exit)) ≡ length (now (work .entry)) ⌝ }
 {
     prepare(file, h, work, l);

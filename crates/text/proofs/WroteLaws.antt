@@ -61,6 +61,8 @@ wrote-then {t} {at} {b} {b'} {t'} {t''} {next} {next'} w v =
 pub wrote-as : {t : List ℕ} {at : ℕ} {b b' t' : List ℕ} {next : ℕ} → b ≡ b' → Wrote t at b t' next → Wrote t at b' t' next
 wrote-as {t} {at} {b} {b'} {t'} {next} e w = subst (λ (x : List ℕ). Wrote t at x t' next) e w
 
--- a number that is at most the length of a text counts bytes at its front
-pub within-at : (n : ℕ) (t : List ℕ) → n ≤ length t → Within n t
-within-at n t le = (le, sym (length-take-le n t le))
+-- what was written to the front of a text lies within it
+pub wrote-within : {t bytes t' : List ℕ} {next : ℕ} → Wrote t 0 bytes t' next → Within next t'
+wrote-within {t' = t'} {next} w =
+    let le : next ≤ length t' = omega (arith, w .place, w .room, wrote-length w) in
+    (le, sym (length-take-le next t' le))

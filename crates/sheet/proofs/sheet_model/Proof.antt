@@ -22,7 +22,7 @@ use Rattle.text.specs.Figure.{figure}
 use Rattle.text.proofs.WroteLaws.{wrote-length, wrote-then, wrote-as}
 use Rattle.text.proofs.FigureLaws.{figure-room}
 use Rattle.sheet.specs.Words.{refusedWord, noneLine, shortestWord}
-use Rattle.sheet.specs.Sheet.{head, mostLists, listsText, lastOf, allowance}
+use Rattle.sheet.specs.Sheet.{head, listsText, lastPrinted, allowance}
 use Rattle.sheet.proofs.RoomLaws.{head-room}
 use Rattle.sheet.proofs.SheetLaws.{SheetIs, headOf, head-is, sheet-answer, enough-rounds, sheet-empty, sheet-lists, sheet-no-room}
 use Rattle.sheet.proofs.sheet_model.Statement.{statement}
@@ -93,7 +93,9 @@ figured c = c .before .before .before .before .before .before
 
 -- the sheet of a file with lists that have room
 lists-are : (c : tie.After-write-head2) → let b = best-of c in let a = start (some-rounds b) .args in
-    SheetIs (a .file .now) (length (a .answer .now)) (length (a .work .now)) (headOf (a .file .now) ++ figure shortestWord (length-of b) ++ listsText (roll (graphOf (a .file .now)))) (lastOf (take mostLists (roll (graphOf (a .file .now)))))
+    SheetIs (a .file .now) (length (a .answer .now)) (length (a .work .now))
+    (headOf (a .file .now) ++ figure shortestWord (length-of b) ++ listsText (roll (graphOf (a .file .now))))
+    (lastPrinted (roll (graphOf (a .file .now))))
 lists-are c =
     let b = best-of c in
     let s = start (some-rounds b) in

@@ -1,0 +1,3 @@
+-- The laws of the program's sizes.
+pub mod CutLaws
+pub mod SizeLaws

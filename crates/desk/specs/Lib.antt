@@ -1,0 +1,3 @@
+-- What the desk sheet program prints for an input, and the laws of its sizes.
+pub mod Desk
+pub mod Sizes
