@@ -14,8 +14,8 @@ use Rattle.desk.proofs.deciding_bytes.Tie as tie
 
 returns : tie.Need-returns
 returns c =
-    let a = c .before .args in
-    ((omega arith, refl), sym (ap (λ (b : Bool). inputText (pick b [] (a .read .now))) (c .if1 .taken)))
+    let read = c .before .args .read .now in
+    ((omega arith, sym (length-take-le _ read (omega arith))), rw (c .if1 .taken) refl)
 
 returns-2 : tie.Need-returns-2
 returns-2 c =
