@@ -1,3 +1,4 @@
--- What the desk sheet program prints for an input, and the laws of its sizes.
+-- What the desk sheet program prints for an input, the laws of its sizes, and example D.
 pub mod Desk
 pub mod Sizes
+pub mod Examples

@@ -1,4 +1,5 @@
--- The laws of the program's sizes, as statements: the buffer holds enough of every input, the tables suffice for every file.
+-- The laws of the program's sizes, as statements: the buffer holds enough of every input, the tables suffice for every
+-- file.
 use Prim.Native.Nat.{ℕ, _≤_}
 use mathlib.Core.Path.{_≡_}
 use mathlib.Core.List.{List, []}

@@ -11,13 +11,15 @@ mod reading;
 use reading::read_input;
 use sheet::sheet;
 
-// The bytes of the buffer for an input: one more than the longest file has, so that a longer input is not taken for it.
+// The bytes of the buffer for an input: one more than the longest file has, so that a longer input is not taken for
+// it.
 const INPUT_ROOM: usize = 25_115;
 
 // The bytes of the buffer for a text: no sheet is longer.
 const TEXT_ROOM: usize = 410_000;
 
-// The number of bytes at the front of what was read that decide its text: none if a read failed, and no more than told.
+// The number of bytes at the front of what was read that decide its text: none if a read failed, and no more than
+// told.
 fn deciding_bytes(read: &[u8], failed: bool, most: usize) -> usize
     requires { ⌜ inputBytes ≤ most ⌝ }
     ensures within { λ r. ⌜ Within r (now (read .entry)) ⌝ }
@@ -42,8 +44,8 @@ fn write_sheet(input: &[u8], answer: &mut [u16], work: &mut [u16], text: &mut [u
     sheet(input, answer, work, text)
 }
 
-// Writes the sheet of what was read of an input to the front of a text, and answers the number of bytes written. An input
-// that could not be read to its end, since a read failed, counts as empty.
+// Writes the sheet of what was read of an input to the front of a text, and answers the number of bytes written. An
+// input that could not be read to its end, since a read failed, counts as empty.
 pub fn desk_sheet(read: &[u8], failed: bool, text: &mut [u8; TEXT_ROOM]) -> usize
     ensures { λ r. ⌜ Wrote (now (text .entry)) 0 (deskText failed (now (read .entry))) (now (text .exit)) r ⌝ }
 {

@@ -1,7 +1,8 @@
 // Reading an input from a descriptor. An error is not the end of the input.
 ghost use Rattle.text.specs.Writing.{Within};
 
-// What was read: so many bytes at the front of the buffer, and whether a read failed, so that the input has not ended there.
+// What was read: so many bytes at the front of the buffer, and whether a read failed, so that the input has not ended
+// there.
 pub struct Reading {
     pub count: usize,
     pub failed: bool,

@@ -13,7 +13,8 @@ use Rattle.finder.specs.Tables.{written}
 use Rattle.text.specs.Writing.{Wrote}
 use Rattle.text.proofs.WroteLaws.{wrote-then, wrote-as}
 use Rattle.text.proofs.CollectLaws.{take-next}
-use Rattle.sheet.specs.Sheet.{line, mostLists, closingLine, closing, listsText, lastOf, lastPrinted}
+use Rattle.lines.specs.Line.{line}
+use Rattle.sheet.specs.Sheet.{mostLists, closingLine, closing, listsText, lastOf, lastPrinted}
 
 -- n lists were printed: those that the sheet has, and the closing line says so
 pub record Closed (rs : List (List ℕ)) (more : Bool) (n : ℕ) : Type 0 where

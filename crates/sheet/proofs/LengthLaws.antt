@@ -22,8 +22,9 @@ use Rattle.finder.proofs.StepLaws.{candidates-length-le}
 use Rattle.finder.proofs.SearchLaws.{roll-first}
 use Rattle.text.specs.Figure.{figure}
 use Rattle.text.proofs.FigureLaws.{figure-room}
+use Rattle.lines.specs.Line.{line}
 use Rattle.sheet.specs.Words.{refusedWord, noneLine, shortestWord}
-use Rattle.sheet.specs.Sheet.{line, mostLists, closing, listsText, rollText, textOf, allowance, refusal, sheetText, listsRoom, sheetRoom}
+use Rattle.sheet.specs.Sheet.{mostLists, closing, listsText, rollText, textOf, allowance, refusal, sheetText, listsRoom, sheetRoom}
 use Rattle.sheet.proofs.RoomLaws.{roll-room, lines-room, closing-room, head-room}
 use Rattle.sheet.proofs.SheetLaws.{headOf, rollText-some}
 

@@ -21,7 +21,8 @@ use Rattle.finder.specs.Tables.{written}
 use Rattle.text.specs.Writing.{Wrote}
 use Rattle.text.proofs.WroteLaws.{wrote-length, wrote-none}
 use Rattle.text.proofs.CollectLaws.{collect-next, wrote-next}
-use Rattle.sheet.specs.Sheet.{line, mostLists, closingLine, listsText, lastPrinted, listsRoom}
+use Rattle.lines.specs.Line.{line}
+use Rattle.sheet.specs.Sheet.{mostLists, closingLine, listsText, lastPrinted, listsRoom}
 use Rattle.sheet.proofs.RollPlaces.{Stands, stands-first, stands-next, stands-last}
 use Rattle.sheet.proofs.ClosingLaws.{Closed, closed-end, closed-more, wrote-closed, answer-closed}
 use Rattle.sheet.proofs.RoomLaws.{roll-room, lines-room, closing-room}

@@ -6,7 +6,7 @@ use mathlib.Core.Option.{Option, some, none}
 use lib.ListN.{length, take}
 use lib.Dec.{ltb}
 use Rattle.lasso.specs.Lists.{pick, collect}
-use Rattle.lasso.specs.Graph.{edges, stem, loop}
+use Rattle.lasso.specs.Graph.{edges}
 use Rattle.lasso.specs.Roll.{roll}
 use Rattle.lasso.specs.Rounds.{candidates}
 use Rattle.model.specs.Layout.{states, edgeCount}
@@ -14,26 +14,11 @@ use Rattle.model.specs.Model.{graphOf}
 use Rattle.model.specs.Rules.{firstBroken}
 use Rattle.finder.specs.Tables.{workOf, written}
 use Rattle.finder.specs.Search.{searchReasons, unlessRefused}
-use Rattle.text.specs.Characters.{space, lineFeed}
+use Rattle.text.specs.Characters.{space}
 use Rattle.text.specs.Decimal.{decimal}
 use Rattle.text.specs.Figure.{figure}
-use Rattle.sheet.specs.Words.{bar, refusedWord, modelWord, roundsWord, noneLine, shortestWord, endWord, moreWord}
-
--- each state followed by a space
-abbrev pub spaceAfter : List ℕ → List ℕ
-spaceAfter ss = collect (λ s. decimal s ++ space ∷ []) ss
-
--- each state preceded by a space
-abbrev pub spaceBefore : List ℕ → List ℕ
-spaceBefore ss = collect (λ s. space ∷ decimal s) ss
-
--- the line with the states of a stem, a bar, and the states of a loop
-abbrev pub stemLoop : List ℕ → List ℕ → List ℕ
-stemLoop ss ls = spaceAfter ss ++ bar ∷ spaceBefore ls ++ lineFeed ∷ []
-
--- the line of a list
-abbrev pub line : List ℕ → List ℕ
-line xs = stemLoop (stem xs) (loop xs)
+use Rattle.lines.specs.Line.{line}
+use Rattle.sheet.specs.Words.{refusedWord, modelWord, roundsWord, noneLine, shortestWord, endWord, moreWord}
 
 -- the lines `model` with N and M, and `rounds` with the rounds
 abbrev pub head : (n m rounds : ℕ) → List ℕ

@@ -1,9 +1,6 @@
--- The characters and words of the sheet, in ASCII.
+-- The words of the sheet, in ASCII.
 use Prim.Native.Nat.{ℕ}
 use mathlib.Core.List.{List, [], _∷_}
-
-abbrev pub bar : ℕ
-bar = 124
 
 -- `refused `
 abbrev pub refusedWord : List ℕ

@@ -6,9 +6,9 @@ ghost use Rattle.model.specs.Values.{Valid};
 ghost use Rattle.text.specs.Figure.{figure};
 ghost use Rattle.text.specs.Writing.{Wrote};
 ghost use Rattle.sheet.specs.Words.{refusedWord};
-ghost use Rattle.sheet.specs.Sheet.{head, sheetText, sheetAnswer, sheetRoom, sheetWritten, sheetAnswered, sheetWorked};
+ghost use Rattle.sheet.specs.Sheet.{head, sheetText, sheetAnswer, sheetRoom};
+ghost use Rattle.sheet.specs.Sheet.{sheetWritten, sheetAnswered, sheetWorked};
 
-mod lines;
 mod lists;
 
 use lasso::Best;

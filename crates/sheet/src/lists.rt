@@ -1,5 +1,5 @@
-// The lists of a sheet: one after the other in region 0 of the working table, each written to the answer table and as a
-// line of the text.
+// The lists of a sheet: one after the other in region 0 of the working table, each written to the answer table and as
+// a line of the text.
 ghost use mathlib.Core.Path.{_≡_};
 ghost use mathlib.Core.List.{_∷_, _++_};
 ghost use mathlib.Core.Option.{some};
@@ -10,8 +10,9 @@ ghost use Rattle.model.specs.Model.{graphOf};
 ghost use Rattle.rounds.specs.Promises.{Ready};
 ghost use Rattle.finder.specs.Tables.{written};
 ghost use Rattle.text.specs.Writing.{Wrote};
-ghost use Rattle.sheet.specs.Sheet.{line, closingLine, listsText, lastPrinted, listsRoom};
-use crate::lines::write_line;
+ghost use Rattle.lines.specs.Line.{line};
+ghost use Rattle.sheet.specs.Sheet.{closingLine, listsText, lastPrinted, listsRoom};
+use lines::write_line;
 use listing::advance;
 use listing::first;
 use listing::prepare;

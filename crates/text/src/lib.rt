@@ -1,4 +1,5 @@
-// Writers of bytes, words and numbers: each puts its bytes into the text from a place on, and answers the place behind.
+// Writers of bytes, words and numbers: each puts its bytes into the text from a place on, and answers the place behind
+// them.
 ghost use mathlib.Core.List.{[], _∷_};
 ghost use Prim.Native.Nat.{_+_, _≤_, _<_};
 ghost use lib.ListN.{length};

@@ -1,9 +1,8 @@
--- The sheet of example D, computed from the file's bytes by the definitions.
+-- The text of example D, as a statement.
 use Prim.Native.Nat.{ℕ}
-use mathlib.Core.Path.{_≡_, refl}
+use mathlib.Core.Path.{_≡_}
 use mathlib.Core.List.{List, [], _∷_, _++_}
-use Rattle.text.specs.Decimal.{decimal}
-use Rattle.sheet.specs.Sheet.{sheetText}
+use Rattle.desk.specs.Desk.{inputText}
 
 -- example D: N = 5, M = 7, i = 0
 abbrev pub exampleD : List ℕ
@@ -20,7 +19,6 @@ sheetD =
     (48 ∷ 32 ∷ 124 ∷ 32 ∷ 50 ∷ 32 ∷ 51 ∷ 10 ∷ []) ++
     (101 ∷ 110 ∷ 100 ∷ 32 ∷ 50 ∷ 10 ∷ [])
 
--- the sheet of example D, with the program's tables
-pub exampleD-sheet : sheetText exampleD 4097 24576 ≡ sheetD
-unfolding decimal
-exampleD-sheet = refl
+-- the program's text for example D
+abbrev pub ExampleD : Type 0
+ExampleD = inputText exampleD ≡ sheetD

@@ -1,4 +1,4 @@
--- The lines of a sheet: how long each is, and how its parts follow one another.
+-- The line of a list: how long it is, and how its parts follow one another.
 use Prim.Native.Nat.{ℕ, zero, suc, _+_, _-_, _≤_}
 use mathlib.Core.Path.{_≡_, sym, _∙_, ap}
 use mathlib.Core.List.{List, [], _∷_, _++_, append-assoc}
@@ -6,19 +6,8 @@ use native.Mathlib.Omega.{arith}
 use lib.ListN.{length, take, drop, length-append, length-drop}
 use lib.Seq.{take-append-le, drop-append-le, take-nil}
 use Rattle.lasso.specs.Graph.{stem, loop, edges, loopStart}
-use Rattle.text.specs.Characters.{space, lineFeed}
-use Rattle.text.specs.Decimal.{decimal}
-use Rattle.text.specs.Figure.{figure}
-use Rattle.sheet.specs.Words.{bar, modelWord, roundsWord}
-use Rattle.sheet.specs.Sheet.{spaceAfter, spaceBefore, stemLoop, line, head}
-
--- the lines with the numbers of states, edges and rounds
-pub head-length : (n m rounds : ℕ)
-    → length (head n m rounds) ≡ 6 + length (decimal n) + length (figure (space ∷ []) m) + length (figure roundsWord rounds)
-head-length n m rounds =
-    length-append (modelWord ++ decimal n ++ figure (space ∷ []) m) (figure roundsWord rounds)
-    ∙ ap (λ (k : ℕ). k + length (figure roundsWord rounds)) (length-append (modelWord ++ decimal n) (figure (space ∷ []) m)
-    ∙ ap (λ (k : ℕ). k + length (figure (space ∷ []) m)) (length-append modelWord (decimal n)))
+use Rattle.text.specs.Characters.{lineFeed}
+use Rattle.lines.specs.Line.{bar, spaceAfter, spaceBefore, stemLoop, line}
 
 -- the line of a list
 pub stemLoop-length : (ss ls : List ℕ)

@@ -1,8 +1,8 @@
-// Writers of the lines of a sheet.
+// The writer of the line of a list.
 ghost use Prim.Native.Nat.{_+_, _-_, _≤_};
 ghost use lib.ListN.{length, take, drop};
 ghost use Rattle.text.specs.Writing.{Wrote};
-ghost use Rattle.sheet.specs.Sheet.{spaceAfter, spaceBefore, stemLoop};
+ghost use Rattle.lines.specs.Line.{spaceAfter, spaceBefore, stemLoop};
 use table::get;
 use text::write_byte;
 use text::write_number;
@@ -39,7 +39,8 @@ fn write_loop(text: &mut [u8], at: usize, states: &[u16]) -> usize
     next
 }
 
-// Writes the line of the list that stands in a table from entry 0 on, given its length and the place where its loop starts.
+// Writes the line of the list that stands in a table from entry 0 on, given its length and the place where its loop
+// starts.
 pub fn write_line(text: &mut [u8], at: usize, list: &[u16], k: usize, l: usize) -> usize
     requires { ⌜ (k ≤ l) × (l ≤ length (now list)) ⌝ }
     requires { ⌜ at + length (stemLoop (take k (now list)) (take (l - k) (drop k (now list)))) ≤ length (now text) ⌝ }

@@ -1,4 +1,4 @@
--- `lines::write_stem` meets its contract. The loop's invariant: the first i states are written.
+-- `write_stem` meets its contract. The loop's invariant: the first i states are written.
 use Prim.Native.Nat.{ℕ, _+_, _-_, _≤_}
 use mathlib.Core.List.{List, [], _∷_, _++_}
 use native.Mathlib.Omega.{arith}
@@ -9,9 +9,9 @@ use Rattle.text.specs.Decimal.{decimal}
 use Rattle.text.specs.Writing.{Wrote}
 use Rattle.text.proofs.WroteLaws.{wrote-length, wrote-none, wrote-then}
 use Rattle.text.proofs.CollectLaws.{wrote-next, next-room, wrote-all}
-use Rattle.sheet.specs.Sheet.{spaceAfter}
-use Rattle.sheet.proofs.lines.write_stem.Statement.{statement}
-use Rattle.sheet.proofs.lines.write_stem.Tie as tie
+use Rattle.lines.specs.Line.{spaceAfter}
+use Rattle.lines.proofs.write_stem.Statement.{statement}
+use Rattle.lines.proofs.write_stem.Tie as tie
 
 abbrev Inv-loop : tie.InvT-loop
 Inv-loop text₀ at states next₀ i₀ text next i = (i ≤ length states) × Wrote text₀ at (spaceAfter (take i states)) text next

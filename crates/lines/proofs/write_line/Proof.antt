@@ -1,4 +1,4 @@
--- `lines::write_line` meets its contract: the stem, the bar, the loop and the line feed are written one after the other.
+-- `write_line` meets its contract: the stem, the bar, the loop and the line feed are written one after the other.
 use Prim.Native.Nat.{ℕ, _+_, _-_, _≤_}
 use mathlib.Core.Path.{sym}
 use mathlib.Core.List.{List}
@@ -7,10 +7,10 @@ use borrow.Author.Needs.{needs}
 use lib.ListN.{length, take, drop}
 use lib.Seq.{length-take-le}
 use Rattle.text.proofs.WroteLaws.{wrote-length, wrote-then, wrote-as}
-use Rattle.sheet.specs.Sheet.{spaceAfter, spaceBefore}
-use Rattle.sheet.proofs.LineLaws.{stemLoop-length, stemLoop-parts}
-use Rattle.sheet.proofs.lines.write_line.Statement.{statement}
-use Rattle.sheet.proofs.lines.write_line.Tie as tie
+use Rattle.lines.specs.Line.{spaceAfter, spaceBefore}
+use Rattle.lines.proofs.LineLaws.{stemLoop-length, stemLoop-parts}
+use Rattle.lines.proofs.write_line.Statement.{statement}
+use Rattle.lines.proofs.write_line.Tie as tie
 
 -- the states of the stem and of the loop
 abbrev stem-of : tie.Start → List ℕ
