@@ -1,5 +1,4 @@
--- The laws of the program's sizes, as statements: the buffer holds enough of every input, the tables suffice for every
--- file.
+-- The laws of the program's sizes, as statements: the buffer holds enough of an input, the tables suffice for a file.
 use Prim.Native.Nat.{ℕ, _≤_}
 use mathlib.Core.Path.{_≡_}
 use mathlib.Core.List.{List, []}

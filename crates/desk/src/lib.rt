@@ -11,15 +11,13 @@ mod reading;
 use reading::read_input;
 use sheet::sheet;
 
-// The bytes of the buffer for an input: one more than the longest file has, so that a longer input is not taken for
-// it.
+// The bytes of the buffer for an input: one more than the longest file has, so that no longer input passes for it.
 const INPUT_ROOM: usize = 25_115;
 
 // The bytes of the buffer for a text: no sheet is longer.
 const TEXT_ROOM: usize = 410_000;
 
-// The number of bytes at the front of what was read that decide its text: none if a read failed, and no more than
-// told.
+// The number of bytes at the front of what was read that decide its text: none if a read failed, else at most so many.
 fn deciding_bytes(read: &[u8], failed: bool, most: usize) -> usize
     requires { ⌜ inputBytes ≤ most ⌝ }
     ensures within { λ r. ⌜ Within r (now (read .entry)) ⌝ }

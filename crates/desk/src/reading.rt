@@ -1,8 +1,10 @@
 // Reading an input from a descriptor. An error is not the end of the input.
+ghost use Prim.Native.Nat.{_≤_};
+ghost use lib.ListN.{length};
 ghost use Rattle.text.specs.Writing.{Within};
+ghost use Rattle.desk.specs.Desk.{inputBytes};
 
-// What was read: so many bytes at the front of the buffer, and whether a read failed, so that the input has not ended
-// there.
+// What was read: so many bytes at the front of the buffer, and whether a read failed before the end of the input.
 pub struct Reading {
     pub count: usize,
     pub failed: bool,
@@ -20,8 +22,9 @@ fn read_once(from: i32, buffer: &mut [u8]) -> Reading
     }
 }
 
-// Reads until the buffer is full, the input ends or a read fails.
+// Reads until the buffer is full, the input ends or a read fails. A full buffer holds enough of the input.
 pub fn read_input(from: i32, buffer: &mut [u8]) -> Reading
+    requires { ⌜ inputBytes ≤ length (now buffer) ⌝ }
     ensures { λ r. ⌜ Within (r .count) (now (buffer .exit)) ⌝ }
 {
     let mut count = 0;

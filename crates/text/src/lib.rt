@@ -1,5 +1,4 @@
-// Writers of bytes, words and numbers: each puts its bytes into the text from a place on, and answers the place behind
-// them.
+// Writers of bytes, words and numbers: each puts its bytes into the text from a place on, and answers the next place.
 ghost use mathlib.Core.List.{[], _∷_};
 ghost use Prim.Native.Nat.{_+_, _≤_, _<_};
 ghost use lib.ListN.{length};
