@@ -10,10 +10,11 @@ use lib.ListN.{length, getD, take, drop}
 use lib.Seq.{take-all}
 use Rattle.lasso.specs.Lists.{collect}
 use Rattle.finder.specs.Tables.{written}
-use Rattle.sheet.specs.Sheet.{line, mostLists, closingLine, closing, listsText, lastOf}
-use Rattle.sheet.specs.Writing.{Wrote}
-use Rattle.sheet.proofs.WroteLaws.{wrote-then, wrote-as}
-use Rattle.sheet.proofs.CollectLaws.{take-next}
+use Rattle.text.specs.Writing.{Wrote}
+use Rattle.text.proofs.WroteLaws.{wrote-then, wrote-as}
+use Rattle.text.proofs.CollectLaws.{take-next}
+use Rattle.lines.specs.Line.{line}
+use Rattle.sheet.specs.Sheet.{mostLists, closingLine, closing, listsText, lastOf, lastPrinted}
 
 -- n lists were printed: those that the sheet has, and the closing line says so
 pub record Closed (rs : List (List ℕ)) (more : Bool) (n : ℕ) : Type 0 where
@@ -54,9 +55,9 @@ lastOf-snoc (r ∷ q ∷ rs) xs = lastOf-snoc (q ∷ rs) xs
 
 -- the answer table holds the last list printed
 pub answer-closed : {rs : List (List ℕ)} {more : Bool} (a a' xs : List ℕ) (place l : ℕ) → Closed rs more (place + 1) → place < length rs
-    → getD rs place [] ≡ xs → length xs ≡ suc l → a' ≡ xs ++ drop (l + 1) a → a' ≡ written (lastOf (take mostLists rs)) a
+    → getD rs place [] ≡ xs → length xs ≡ suc l → a' ≡ xs ++ drop (l + 1) a → a' ≡ written (lastPrinted rs) a
 answer-closed {rs} a a' xs place l c less same long e =
     let q : l + 1 ≡ length xs = omega arith in
-    let last : lastOf (take mostLists rs) ≡ some xs =
+    let last : lastPrinted rs ≡ some xs =
     ap lastOf (sym (c .printed) ∙ take-next rs place [] less) ∙ lastOf-snoc (take place rs) (getD rs place []) ∙ ap some same in
     e ∙ ap (λ (n : ℕ). xs ++ drop n a) q ∙ sym (ap (λ (o : Option (List ℕ)). written o a) last)

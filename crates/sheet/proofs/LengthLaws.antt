@@ -20,13 +20,16 @@ use Rattle.model.proofs.Laws.{accepted-facts, accepted-well-formed}
 use Rattle.finder.specs.Search.{searchReasons}
 use Rattle.finder.proofs.StepLaws.{candidates-length-le}
 use Rattle.finder.proofs.SearchLaws.{roll-first}
+use Rattle.text.specs.Figure.{figure}
+use Rattle.text.proofs.FigureLaws.{figure-room}
+use Rattle.lines.specs.Line.{line}
 use Rattle.sheet.specs.Words.{refusedWord, noneLine, shortestWord}
-use Rattle.sheet.specs.Sheet.{line, figure, mostLists, closing, listsText, rollText, textOf, allowance, refusal, sheetText, listsRoom, sheetRoom}
-use Rattle.sheet.proofs.RoomLaws.{roll-room, lines-room, closing-room, figure-room, head-room}
+use Rattle.sheet.specs.Sheet.{mostLists, closing, listsText, rollText, textOf, sheetAsk, refusal, sheetText, listsRoom, sheetRoom}
+use Rattle.sheet.proofs.RoomLaws.{roll-room, lines-room, closing-room, head-room}
 use Rattle.sheet.proofs.SheetLaws.{headOf, rollText-some}
 
 -- the number of the first reason is one of the table's
-broken-number : (P : ℕ → Type 0) (rs : List Reason) → All (λ r. P (r .number)) rs → (n : ℕ) → firstBroken rs ≡ some n → P n
+pub broken-number : (P : ℕ → Type 0) (rs : List Reason) → All (λ r. P (r .number)) rs → (n : ℕ) → firstBroken rs ≡ some n → P n
 broken-number P [] h n e = let z : _≡_ {A = ℕ} 0 1 = cc in absurd (omega arith)
 broken-number P (r ∷ rs) h n e = go (r .holds) e (λ q. broken-number P rs (h .1) n q)
   where
@@ -46,11 +49,11 @@ clear-front (r ∷ rs) ss e = go (r .holds) e (λ q. clear-front rs ss q)
 
 -- a file that is not refused breaks none of 1 to 11
 refusal-accepted : (f : List ℕ) (answer work : ℕ) → refusal f answer work ≡ none → Accepted f
-refusal-accepted f answer work e = clear-front (rules f) (drop 11 (searchReasons f allowance answer work)) e
+refusal-accepted f answer work e = clear-front (rules f) (drop 11 (searchReasons f sheetAsk answer work)) e
 
 -- the number of a refusal is at most 15
 refusal-number : (f : List ℕ) (answer work n : ℕ) → refusal f answer work ≡ some n → n ≤ 15
-refusal-number f answer work n e = broken-number (λ k. k ≤ 15) (searchReasons f allowance answer work) (omega arith) n e
+refusal-number f answer work n e = broken-number (λ k. k ≤ 15) (searchReasons f sheetAsk answer work) (omega arith) n e
 
 module _ (f : List ℕ) (accepted : Accepted f) where
   -- the lines before the lists

@@ -1,65 +1,34 @@
 -- The room that the lines of a sheet take.
-use Prim.Native.Nat.{ℕ, zero, suc, _+_, _*_, _-_, _≤_, _<_}
-use mathlib.Core.Path.{_≡_}
+use Prim.Native.Nat.{ℕ, _+_, _*_, _≤_, _<_}
+use mathlib.Core.Path.{_≡_, _∙_, ap}
 use mathlib.Core.Bool.{Bool, true, false}
 use mathlib.Core.List.{List, [], _∷_, _++_}
 use mathlib.Core.Option.{some}
 use native.Mathlib.Omega.{arith}
-use lib.ListN.{length, take, drop, length-append, length-take, length-drop}
+use lib.ListN.{length, take, length-append, length-take}
 use Rattle.lasso.specs.Lists.{collect}
-use Rattle.lasso.specs.Graph.{Graph, WellFormed, stem, loop, edges, loopStart}
+use Rattle.lasso.specs.Graph.{Graph, WellFormed}
 use Rattle.lasso.specs.Roll.{leastLength, roll}
 use Rattle.lasso.proofs.Sorted.{All, all-of-mem}
 use Rattle.lasso.proofs.RollLaws.{leastLength-range, lasso-states, roll-lasso, roll-length}
-use Rattle.sheet.specs.Decimal.{decimal}
-use Rattle.sheet.specs.Words.{space, roundsWord, endWord, moreWord}
-use Rattle.sheet.specs.Sheet.{spaceAfter, spaceBefore, line, figure, head, mostLists, closingLine}
-use Rattle.sheet.proofs.DecimalLaws.{decimal-two, decimal-four}
-use Rattle.sheet.proofs.CollectLaws.{collect-length-le}
-use Rattle.sheet.proofs.LineLaws.{figure-length, head-length, stemLoop-length}
+use Rattle.text.specs.Characters.{space}
+use Rattle.text.specs.Decimal.{decimal}
+use Rattle.text.specs.Figure.{figure}
+use Rattle.text.proofs.DecimalLaws.{decimal-two, decimal-four}
+use Rattle.text.proofs.CollectLaws.{collect-length-le}
+use Rattle.text.proofs.FigureLaws.{figure-length, figure-room}
+use Rattle.lines.specs.Line.{line}
+use Rattle.lines.proofs.RoomLaws.{Small, all-weaker, all-take, line-room}
+use Rattle.sheet.specs.Words.{modelWord, roundsWord, endWord, moreWord}
+use Rattle.sheet.specs.Sheet.{head, mostLists, closingLine}
 
-module _ {A : Type 0} (P : A → Type 0) where
-  -- what every entry has, the first ones have
-  pub all-take : (n : ℕ) (xs : List A) → All P xs → All P (take n xs)
-  all-take zero xs h = tt
-  all-take (suc n) [] h = tt
-  all-take (suc n) (x ∷ xs) h = (h .0, all-take n xs (h .1))
-
-  -- what every entry has, the others have
-  pub all-drop : (n : ℕ) (xs : List A) → All P xs → All P (drop n xs)
-  all-drop zero xs h = h
-  all-drop (suc n) [] h = tt
-  all-drop (suc n) (x ∷ xs) h = all-drop n xs (h .1)
-
--- states of at most four digits
-abbrev Small : ℕ → Type 0
-Small s = s < 10000
-
--- what all entries of a list have follows from what they have
-all-weaker : {A : Type 0} (P Q : A → Type 0) (xs : List A) → ((x : A) → P x → Q x) → All P xs → All Q xs
-all-weaker P Q [] h a = tt
-all-weaker P Q (x ∷ xs) h a = (h x (a .0), all-weaker P Q xs h (a .1))
-
--- each state of a stem takes at most five bytes
-after-room : (ss : List ℕ) → All Small ss → length (spaceAfter ss) ≤ length ss * 5
-after-room ss a =
-    collect-length-le (λ s. decimal s ++ space ∷ []) 5 ss
-    (all-weaker Small (λ s. length (decimal s ++ space ∷ []) ≤ 5) ss (λ s h. omega (arith, decimal-four s h, length-append (decimal s) (space ∷ []))) a)
-
--- each state of a loop takes at most five bytes
-before-room : (ss : List ℕ) → All Small ss → length (spaceBefore ss) ≤ length ss * 5
-before-room ss a =
-    collect-length-le (λ s. space ∷ decimal s) 5 ss
-    (all-weaker Small (λ s. length (space ∷ decimal s) ≤ 5) ss (λ s h. omega (arith, decimal-four s h)) a)
-
--- the line of a list takes at most five bytes for each of its entries, and two more
-pub line-room : (xs : List ℕ) → All Small xs → length (line xs) ≤ length xs * 5 + 2
-line-room xs a =
-    let k : ℕ = loopStart xs in
-    let n : ℕ = edges xs in
-    let s = after-room (stem xs) (all-take Small k xs a) in
-    let l = before-room (loop xs) (all-drop Small k (take n xs) (all-take Small n xs a)) in
-    omega (arith, stemLoop-length (stem xs) (loop xs), s, l, length-take k xs, length-drop k (take n xs), length-take n xs)
+-- the lines with the numbers of states, edges and rounds
+pub head-length : (n m rounds : ℕ)
+    → length (head n m rounds) ≡ 6 + length (decimal n) + length (figure (space ∷ []) m) + length (figure roundsWord rounds)
+head-length n m rounds =
+    length-append (modelWord ++ decimal n ++ figure (space ∷ []) m) (figure roundsWord rounds)
+    ∙ ap (λ (k : ℕ). k + length (figure roundsWord rounds)) (length-append (modelWord ++ decimal n) (figure (space ∷ []) m)
+    ∙ ap (λ (k : ℕ). k + length (figure (space ∷ []) m)) (length-append modelWord (decimal n)))
 
 -- the most that the line of a list of the roll takes
 abbrev pub lineRoom : ℕ
@@ -83,10 +52,6 @@ lines-room n rs a =
 pub closing-room : (more : Bool) (n : ℕ) → n ≤ mostLists → length (closingLine more n) ≤ 8
 closing-room true n few = omega (arith, figure-length moreWord n, decimal-two n (omega arith))
 closing-room false n few = omega (arith, figure-length endWord n, decimal-two n (omega arith))
-
--- a line with a word and a number of at most four digits
-pub figure-room : (word : List ℕ) (n : ℕ) → n < 10000 → length (figure word n) ≤ length word + 5
-figure-room word n less = omega (arith, figure-length word n, decimal-four n less)
 
 -- the lines with the numbers of states, edges and rounds
 pub head-room : (n m rounds : ℕ) → n < 10000 → m < 10000 → rounds < 10000 → length (head n m rounds) ≤ 28

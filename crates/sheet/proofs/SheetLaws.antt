@@ -6,9 +6,7 @@ use mathlib.Core.List.{List, [], _∷_, _++_, head?, append-assoc}
 use mathlib.Core.Option.{Option, some, none}
 use native.Mathlib.Omega.{arith}
 use borrow.Author.Tests.{lt-ltb, le-ltb}
-use lib.ListN.{length, take, drop}
-use lib.Seq.{length-take-le}
-use lib.Dec.{ltb}
+use lib.ListN.{length}
 use Rattle.lasso.specs.Lists.{pick}
 use Rattle.lasso.specs.Graph.{edges}
 use Rattle.lasso.specs.Roll.{leastLength, roll}
@@ -27,15 +25,16 @@ use Rattle.finder.specs.Search.{searched, unlessRefused}
 use Rattle.gate.proofs.GateLaws.{work-refused}
 use Rattle.finder.proofs.StepLaws.{candidates-length-le}
 use Rattle.finder.proofs.SearchLaws.{SearchIs, search-refused, search-empty, search-found, search-no-room, roll-first}
+use Rattle.text.specs.Figure.{figure}
+use Rattle.text.specs.Writing.{Wrote}
+use Rattle.text.proofs.WroteLaws.{wrote-none, wrote-as}
 use Rattle.sheet.specs.Words.{refusedWord, noneLine, shortestWord}
-use Rattle.sheet.specs.Sheet.{figure, head, mostLists, listsText, rollText, textOf, allowance, refusal, sheetText, lastOf, sheetAnswer, sheetRoom}
-use Rattle.sheet.specs.Writing.{Wrote, Within}
-use Rattle.sheet.proofs.WroteLaws.{wrote-as, wrote-length}
+use Rattle.sheet.specs.Sheet.{head, listsText, rollText, textOf, sheetAsk, refusal, sheetText, lastPrinted, sheetAnswer, sheetRoom, smallText}
 
 -- the whole text of a sheet, and the list that it leaves in the answer table
 pub record SheetIs (f : List ℕ) (answer work : ℕ) (text : List ℕ) (due : Option (List ℕ)) : Type 0 where
   pub text-is : sheetText f answer work ≡ text
-  pub list-is : unlessRefused (refusal f answer work) (lastOf (take mostLists (roll (graphOf f)))) ≡ due
+  pub list-is : unlessRefused (refusal f answer work) (lastPrinted (roll (graphOf f))) ≡ due
 
 -- the answer table holds that list
 pub sheet-answer : {f : List ℕ} {work : ℕ} {text : List ℕ} {due : Option (List ℕ)} (a : List ℕ) → SheetIs f (length a) work text due
@@ -48,28 +47,28 @@ outcome-refused none s n e = let z : _≡_ {A = ℕ} 0 1 = cc in absurd (omega a
 outcome-refused (some m) s n e = let q : m ≡ n = cc in ap some q
 
 -- an answer has none
-outcome-answered : {A : Type 0} (o : Option ℕ) (s a : A) → outcome o s ≡ answered a → o ≡ none
+pub outcome-answered : {A : Type 0} (o : Option ℕ) (s a : A) → outcome o s ≡ answered a → o ≡ none
 outcome-answered none s a e = refl
 outcome-answered (some m) s a e = let z : _≡_ {A = ℕ} 0 1 = cc in absurd (omega arith)
 
 -- the sheet of a file that a search refuses
-pub sheet-refused : {f : List ℕ} {answer work n : ℕ} {due : Option (List ℕ)} → SearchIs f allowance answer work (refused n) due
+pub sheet-refused : {f : List ℕ} {answer work n : ℕ} {due : Option (List ℕ)} → SearchIs f sheetAsk answer work (refused n) due
     → SheetIs f answer work (figure refusedWord n) none
 sheet-refused {f} {answer} {work} {n} s =
-    let e : refusal f answer work ≡ some n = outcome-refused (refusal f answer work) (searched (graphOf f) allowance) n (s .outcome) in
+    let e : refusal f answer work ≡ some n = outcome-refused (refusal f answer work) (searched (graphOf f) sheetAsk) n (s .outcome) in
     record {
       text-is = ap (λ (o : Option ℕ). textOf o f) e;
-      list-is = ap (λ (o : Option ℕ). unlessRefused o (lastOf (take mostLists (roll (graphOf f))))) e;
+      list-is = ap (λ (o : Option ℕ). unlessRefused o (lastPrinted (roll (graphOf f)))) e;
     }
 
 -- the sheet of a file that a search does not refuse
-sheet-kept : {f : List ℕ} {answer work : ℕ} {a : Searched} {due : Option (List ℕ)} → SearchIs f allowance answer work (answered a) due
-    → SheetIs f answer work (textOf none f) (lastOf (take mostLists (roll (graphOf f))))
+sheet-kept : {f : List ℕ} {answer work : ℕ} {a : Searched} {due : Option (List ℕ)} → SearchIs f sheetAsk answer work (answered a) due
+    → SheetIs f answer work (textOf none f) (lastPrinted (roll (graphOf f)))
 sheet-kept {f} {answer} {work} {a} s =
-    let e : refusal f answer work ≡ none = outcome-answered (refusal f answer work) (searched (graphOf f) allowance) a (s .outcome) in
+    let e : refusal f answer work ≡ none = outcome-answered (refusal f answer work) (searched (graphOf f) sheetAsk) a (s .outcome) in
     record {
       text-is = ap (λ (o : Option ℕ). textOf o f) e;
-      list-is = ap (λ (o : Option ℕ). unlessRefused o (lastOf (take mostLists (roll (graphOf f))))) e;
+      list-is = ap (λ (o : Option ℕ). unlessRefused o (lastPrinted (roll (graphOf f)))) e;
     }
 
 -- the text behind the rounds, if there is a first list
@@ -87,7 +86,7 @@ headOf f = head (states f) (edgeCount f) (length (candidates (graphOf f)))
 
 module _ (f : List ℕ) (accepted : Accepted f) (answer work : ℕ) (room : 6 * states f ≤ work) where
   -- the allowance suffices
-  pub enough-rounds : length (candidates (graphOf f)) ≤ allowance
+  pub enough-rounds : length (candidates (graphOf f)) ≤ sheetAsk .allowance
   enough-rounds =
       let facts = accepted-facts f accepted in
       omega (arith, candidates-length-le (graphOf f), facts .states-range)
@@ -96,18 +95,18 @@ module _ (f : List ℕ) (accepted : Accepted f) (answer work : ℕ) (room : 6 * 
   pub sheet-empty : leastLength (graphOf f) ≡ none → SheetIs f answer work (headOf f ++ noneLine) none
   sheet-empty e =
       let no-list : roll (graphOf f) ≡ [] = roll-empty (graphOf f) .1 e in
-      let s = sheet-kept (search-empty f accepted allowance answer work room enough-rounds e) in
+      let s = sheet-kept (search-empty f accepted sheetAsk answer work room enough-rounds e) in
       record {
         text-is = s .text-is ∙ ap (λ (rs : List (List ℕ)). headOf f ++ rollText rs) no-list;
-        list-is = s .list-is ∙ ap (λ (rs : List (List ℕ)). lastOf (take mostLists rs)) no-list;
+        list-is = s .list-is ∙ ap (λ (rs : List (List ℕ)). lastPrinted rs) no-list;
       }
 
   -- there are lists, and they have room
   pub sheet-lists : (l : ℕ) → leastLength (graphOf f) ≡ some l → l + 1 ≤ answer
-      → SheetIs f answer work (headOf f ++ figure shortestWord l ++ listsText (roll (graphOf f))) (lastOf (take mostLists (roll (graphOf f))))
+      → SheetIs f answer work (headOf f ++ figure shortestWord l ++ listsText (roll (graphOf f))) (lastPrinted (roll (graphOf f)))
   sheet-lists l e fits =
       let (xs, first, long) = roll-first (graphOf f) l e in
-      let s = sheet-kept (search-found f accepted allowance answer work room enough-rounds xs first (omega arith)) in
+      let s = sheet-kept (search-found f accepted sheetAsk answer work room enough-rounds xs first (omega arith)) in
       record {
         text-is =
             s .text-is
@@ -118,7 +117,7 @@ module _ (f : List ℕ) (accepted : Accepted f) (answer work : ℕ) (room : 6 * 
 
   -- there are lists, and they have no room
   pub sheet-no-room : (l : ℕ) → leastLength (graphOf f) ≡ some l → answer < l + 1 → SheetIs f answer work (figure refusedWord 15) none
-  sheet-no-room l e less = sheet-refused (search-no-room f accepted allowance answer work room enough-rounds l e less)
+  sheet-no-room l e less = sheet-refused (search-no-room f accepted sheetAsk answer work room enough-rounds l e less)
 
 -- the numbers of the header are the file's
 pub head-is : {f : List ℕ} {h : Header} {rounds : ℕ} → Valid f h → rounds ≡ length (candidates (graphOf f))
@@ -129,39 +128,33 @@ head-is {f} {h} {rounds} v e =
     ∙ ap (λ (k : ℕ). head (states f) k rounds) m
     ∙ ap (λ (k : ℕ). head (states f) (edgeCount f) k) e
 
--- a number that is at most the length of a text counts bytes at its front
-within-at : (n : ℕ) (t : List ℕ) → n ≤ length t → Within n t
-within-at n t le = (le, sym (length-take-le n t le))
-
--- what a sheet leaves behind, where the room for its text is too small or not: the count, the text and the two tables
+-- what a sheet leaves behind, where the room for its text is too small or not: the text and the two tables
 abbrev pub Leaves : Bool → (bytes t a s w v : List ℕ) → ℕ → (t' a' w' : List ℕ) → Type 0
 Leaves short bytes t a s w v next t' a' w' =
-    (next ≡ length (pick short [] bytes)) × ((t' ≡ pick short [] bytes ++ drop (length (pick short [] bytes)) t) × ((a' ≡ pick short a s) × ((w' ≡ pick short w v) × Within next t')))
+    Wrote t 0 (pick short [] bytes) t' next × ((a' ≡ pick short a s) × (w' ≡ pick short w v))
 
 module _ (f : List ℕ) (t a w : List ℕ) where
   -- what the contract says: the text of the sheet and the tables after it, by the room
   abbrev pub LeavesSheet : ℕ → (t' a' w' : List ℕ) → Type 0
   LeavesSheet =
-      Leaves (ltb (length t) sheetRoom) (sheetText f (length a) (length w)) t a (sheetAnswer f a (length w)) w (workOf f w)
+      Leaves (smallText t) (sheetText f (length a) (length w)) t a (sheetAnswer f a (length w)) w (workOf f w)
 
   -- too little room: nothing changes
   pub leaves-short : length t < sheetRoom → LeavesSheet 0 t a w
   leaves-short less =
       subst (λ (b : Bool). Leaves b (sheetText f (length a) (length w)) t a (sheetAnswer f a (length w)) w (workOf f w) 0 t a w)
-      (sym (lt-ltb (length t) sheetRoom less)) (refl, (refl, (refl, (refl, within-at 0 t (omega arith)))))
+      (sym (lt-ltb (length t) sheetRoom less)) (wrote-none t 0 (omega arith), (refl, refl))
 
   -- room enough: the text is written to the front
   pub leaves-sheet : {t' a' w' : List ℕ} {next : ℕ} → sheetRoom ≤ length t → Wrote t 0 (sheetText f (length a) (length w)) t' next
       → a' ≡ sheetAnswer f a (length w) → w' ≡ workOf f w → LeavesSheet next t' a' w'
   leaves-sheet {t'} {a'} {w'} {next} room wrote p q =
-      let bytes : List ℕ = sheetText f (length a) (length w) in
-      let n : 0 + length bytes ≡ length bytes = omega arith in
-      subst (λ (b : Bool). Leaves b bytes t a (sheetAnswer f a (length w)) w (workOf f w) next t' a' w')
-      (sym (le-ltb (length t) sheetRoom room)) (wrote .place ∙ n, (wrote .text ∙ ap (λ (k : ℕ). bytes ++ drop k t) n, (p, (q, within-at next t' (omega (arith, wrote .place, wrote .room, wrote-length wrote))))))
+      subst (λ (b : Bool). Leaves b (sheetText f (length a) (length w)) t a (sheetAnswer f a (length w)) w (workOf f w) next t' a' w')
+      (sym (le-ltb (length t) sheetRoom room)) (wrote, (p, q))
 
   -- room enough, and the file is refused for a reason of 1 to 12: one line, and the tables are untouched
   pub leaves-refused : {t' : List ℕ} {n next : ℕ} → sheetRoom ≤ length t → firstBroken (commonRules f (length w)) ≡ some n
       → Wrote t 0 (figure refusedWord n) t' next → LeavesSheet next t' a w
   leaves-refused {n = n} room broken wrote =
-      let is = sheet-refused (search-refused f allowance (length a) (length w) n broken) in
+      let is = sheet-refused (search-refused f sheetAsk (length a) (length w) n broken) in
       leaves-sheet room (wrote-as (sym (is .text-is)) wrote) (sym (sheet-answer a is)) (work-refused f w n broken)

@@ -6,37 +6,22 @@ use mathlib.Core.Option.{Option, some, none}
 use lib.ListN.{length, take}
 use lib.Dec.{ltb}
 use Rattle.lasso.specs.Lists.{pick, collect}
-use Rattle.lasso.specs.Graph.{edges, stem, loop}
+use Rattle.lasso.specs.Graph.{edges}
 use Rattle.lasso.specs.Roll.{roll}
 use Rattle.lasso.specs.Rounds.{candidates}
 use Rattle.model.specs.Layout.{states, edgeCount}
 use Rattle.model.specs.Model.{graphOf}
 use Rattle.model.specs.Rules.{firstBroken}
 use Rattle.gate.specs.Gate.{workOf}
+use Rattle.gate.specs.declared.Ask.{Ask}
+use Rattle.gate.specs.Gate.{asking}
 use Rattle.finder.specs.Tables.{written}
 use Rattle.finder.specs.Search.{searchReasons, unlessRefused}
-use Rattle.sheet.specs.Decimal.{decimal}
-use Rattle.sheet.specs.Words.{space, bar, lineFeed, refusedWord, modelWord, roundsWord, noneLine, shortestWord, endWord, moreWord}
-
--- each state followed by a space
-abbrev pub spaceAfter : List ℕ → List ℕ
-spaceAfter ss = collect (λ s. decimal s ++ space ∷ []) ss
-
--- each state preceded by a space
-abbrev pub spaceBefore : List ℕ → List ℕ
-spaceBefore ss = collect (λ s. space ∷ decimal s) ss
-
--- the line with the states of a stem, a bar, and the states of a loop
-abbrev pub stemLoop : List ℕ → List ℕ → List ℕ
-stemLoop ss ls = spaceAfter ss ++ bar ∷ spaceBefore ls ++ lineFeed ∷ []
-
--- the line of a list
-abbrev pub line : List ℕ → List ℕ
-line xs = stemLoop (stem xs) (loop xs)
-
--- the line with a word and a number
-abbrev pub figure : List ℕ → ℕ → List ℕ
-figure word n = word ++ decimal n ++ lineFeed ∷ []
+use Rattle.text.specs.Characters.{space}
+use Rattle.text.specs.Decimal.{decimal}
+use Rattle.text.specs.Figure.{figure}
+use Rattle.lines.specs.Line.{line}
+use Rattle.sheet.specs.Words.{refusedWord, modelWord, roundsWord, noneLine, shortestWord, endWord, moreWord}
 
 -- the lines `model` with N and M, and `rounds` with the rounds
 abbrev pub head : (n m rounds : ℕ) → List ℕ
@@ -70,13 +55,13 @@ abbrev pub textOf : Option ℕ → List ℕ → List ℕ
 textOf none f = head (states f) (edgeCount f) (length (candidates (graphOf f))) ++ rollText (roll (graphOf f))
 textOf (some n) f = figure refusedWord n
 
--- the allowance of the search: there are never more than 4,096 candidates
-abbrev pub allowance : ℕ
-allowance = 65535
+-- what the sheet's search asks: allowance 65,535; there are never more than 4,096 candidates
+abbrev pub sheetAsk : Ask
+sheetAsk = asking 65535
 
 -- the reason to refuse, if there is one; the tables have so many entries
 abbrev pub refusal : List ℕ → ℕ → ℕ → Option ℕ
-refusal f answer work = firstBroken (searchReasons f allowance answer work)
+refusal f answer work = firstBroken (searchReasons f sheetAsk answer work)
 
 -- the whole text of the sheet of a file
 abbrev pub sheetText : List ℕ → ℕ → ℕ → List ℕ
@@ -88,10 +73,14 @@ lastOf [] = none
 lastOf (xs ∷ []) = some xs
 lastOf (xs ∷ ys ∷ rest) = lastOf (ys ∷ rest)
 
+-- the last list that is printed of a roll, if any
+abbrev pub lastPrinted : List (List ℕ) → Option (List ℕ)
+lastPrinted rs = lastOf (take mostLists rs)
+
 -- the answer table after a sheet: the last list printed, if any
 abbrev pub sheetAnswer : List ℕ → List ℕ → ℕ → List ℕ
 sheetAnswer f a work =
-    written (unlessRefused (refusal f (length a) work) (lastOf (take mostLists (roll (graphOf f))))) a
+    written (unlessRefused (refusal f (length a) work) (lastPrinted (roll (graphOf f)))) a
 
 -- the room that is asked for a text: no sheet is longer
 abbrev pub sheetRoom : ℕ
@@ -101,14 +90,18 @@ sheetRoom = 410000
 abbrev pub listsRoom : ℕ
 listsRoom = 409748
 
--- what a sheet writes to a text with so much room: nothing if that is too little
-abbrev pub textWritten : List ℕ → (answer work room : ℕ) → List ℕ
-textWritten f answer work room = pick (ltb room sheetRoom) [] (sheetText f answer work)
+-- the text t that is lent has less room than is asked
+abbrev pub smallText : List ℕ → Bool
+smallText t = ltb (length t) sheetRoom
 
--- the answer table after a sheet with so much room for its text: untouched if that is too little
-abbrev pub answerAfter : List ℕ → List ℕ → (work room : ℕ) → List ℕ
-answerAfter f a work room = pick (ltb room sheetRoom) a (sheetAnswer f a work)
+-- what is written to text t, where the tables a and w are lent: nothing if the text is too small
+abbrev pub sheetWritten : (f a w t : List ℕ) → List ℕ
+sheetWritten f a w t = pick (smallText t) [] (sheetText f (length a) (length w))
 
--- the working table after a sheet with so much room for its text: untouched if that is too little
-abbrev pub workAfterSheet : List ℕ → List ℕ → ℕ → List ℕ
-workAfterSheet f w room = pick (ltb room sheetRoom) w (workOf f w)
+-- the answer table a afterwards: untouched if the text is too small
+abbrev pub sheetAnswered : (f a w t : List ℕ) → List ℕ
+sheetAnswered f a w t = pick (smallText t) a (sheetAnswer f a (length w))
+
+-- the working table w afterwards: untouched if the text is too small
+abbrev pub sheetWorked : (f w t : List ℕ) → List ℕ
+sheetWorked f w t = pick (smallText t) w (workOf f w)

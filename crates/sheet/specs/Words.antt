@@ -1,15 +1,6 @@
--- The characters and words of the sheet, in ASCII.
+-- The words of the sheet, in ASCII.
 use Prim.Native.Nat.{ℕ}
 use mathlib.Core.List.{List, [], _∷_}
-
-abbrev pub space : ℕ
-space = 32
-
-abbrev pub bar : ℕ
-bar = 124
-
-abbrev pub lineFeed : ℕ
-lineFeed = 10
 
 -- `refused `
 abbrev pub refusedWord : List ℕ

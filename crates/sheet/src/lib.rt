@@ -1,32 +1,33 @@
 // The whole text of the desk sheet: a model file goes in, its sheet comes out in a lent text.
 ghost use mathlib.Core.Path.{_≡_};
-ghost use mathlib.Core.List.{_++_};
 ghost use Prim.Native.Nat.{_*_, _≤_};
-ghost use lib.ListN.{length, drop};
+ghost use lib.ListN.{length};
 ghost use Rattle.model.specs.Values.{Valid};
+ghost use Rattle.text.specs.Figure.{figure};
+ghost use Rattle.text.specs.Writing.{Wrote};
 ghost use Rattle.sheet.specs.Words.{refusedWord};
-ghost use Rattle.sheet.specs.Sheet.{figure, head, sheetText, sheetAnswer, sheetRoom, textWritten, answerAfter, workAfterSheet};
-ghost use Rattle.sheet.specs.Writing.{Wrote, Within};
+ghost use Rattle.sheet.specs.Sheet.{head, sheetText, sheetAnswer, sheetRoom};
+ghost use Rattle.sheet.specs.Sheet.{sheetWritten, sheetAnswered, sheetWorked};
 
-mod lines;
 mod lists;
-mod writing;
 
-use lasso::Best;
+use cursor::Begun;
+use cursor::begin;
+use gate::admit;
+use gate::leave;
 use lasso::Entries;
 use lists::write_lists;
 use model::Checked;
 use model::Header;
-use model::check;
-use rounds::run_rounds;
-use rounds::start_distances;
-use table::clear;
-use writing::write_bytes;
-use writing::write_figure;
-use writing::write_number;
+use text::write_bytes;
+use text::write_figure;
+use text::write_number;
 
 // The entries that a text must have: no sheet is longer.
 const SHEET_ROOM: usize = 410_000;
+
+// An allowance that suffices for every model: the rounds are never stopped.
+const ALL_ROUNDS: u16 = 65535;
 
 // Writes the one line of a refused file.
 fn write_refusal(text: &mut [u8], number: usize) -> usize
@@ -60,28 +61,29 @@ fn sheet_model(
     requires { ⌜ Valid (now file) h ⌝ }
     requires { ⌜ 6 * h .states ≤ length (now work) ⌝ }
     requires { ⌜ sheetRoom ≤ length (now text) ⌝ }
-    ensures text { λ r. ⌜ Wrote (now (text .entry)) 0 (sheetText (now (file .entry)) (length (now (answer .entry))) (length (now (work .entry)))) (now (text .exit)) r ⌝ }
-    ensures answer { λ _. ⌜ now (answer .exit) ≡ sheetAnswer (now (file .entry)) (now (answer .entry)) (length (now (work .entry))) ⌝ }
+    ensures text { λ r. ⌜ Wrote (now (text .entry)) 0
+        (sheetText (now (file .entry)) (length (now (answer .entry))) (length (now (work .entry))))
+        (now (text .exit)) r ⌝ }
+    ensures answer { λ _. ⌜ now (answer .exit) ≡
+        sheetAnswer (now (file .entry)) (now (answer .entry)) (length (now (work .entry))) ⌝ }
     ensures kept { λ _. ⌜ length (now (work .exit)) ≡ length (now (work .entry)) ⌝ }
 {
-    start_distances(file, h, work);
-    let record = run_rounds(file, h, work, 65535);
-    let rounds = record.done as usize;
-    let best = record.best;
-    match best {
-        Best::None => {
-            let at = write_head(text, h, rounds);
+    let begun = begin(file, h, ALL_ROUNDS, work);
+    match begun {
+        Begun::Stopped(_) => 0,
+        Begun::Empty(rounds) => {
+            let at = write_head(text, h, rounds as usize);
             write_bytes(text, at, b"none\n")
         }
-        Best::Length(length) => {
+        Begun::Listed(length, rounds) => {
             let entries = length.entries();
             let room = Entries(answer.len());
             if room.0 < entries.0 {
                 return write_refusal(text, 15);
             }
-            let at = write_head(text, h, rounds);
-            let shortest = length.number();
-            let after_length = write_figure(text, at, b"shortest ", shortest);
+            let at = write_head(text, h, rounds as usize);
+            let number = length.number();
+            let after_length = write_figure(text, at, b"shortest ", number);
             write_lists(file, h, length, answer, work, text, after_length)
         }
     }
@@ -90,25 +92,23 @@ fn sheet_model(
 // Writes the sheet of a file to the front of a text, and answers the number of bytes written. With fewer than 410,000
 // bytes of room it writes nothing and answers 0.
 pub fn sheet(input: &[u8], answer: &mut [u16], work: &mut [u16], text: &mut [u8]) -> usize
-    ensures count { λ r. ⌜ r ≡ length (textWritten (now (input .entry)) (length (now (answer .entry))) (length (now (work .entry))) (length (now (text .entry)))) ⌝ }
-    ensures text { λ _. ⌜ now (text .exit) ≡ textWritten (now (input .entry)) (length (now (answer .entry))) (length (now (work .entry))) (length (now (text .entry))) ++ drop (length (textWritten (now (input .entry)) (length (now (answer .entry))) (length (now (work .entry))) (length (now (text .entry))))) (now (text .entry)) ⌝ }
-    ensures answer { λ _. ⌜ now (answer .exit) ≡ answerAfter (now (input .entry)) (now (answer .entry)) (length (now (work .entry))) (length (now (text .entry))) ⌝ }
-    ensures work { λ _. ⌜ now (work .exit) ≡ workAfterSheet (now (input .entry)) (now (work .entry)) (length (now (text .entry))) ⌝ }
-    ensures within { λ r. ⌜ Within r (now (text .exit)) ⌝ }
+    ensures text { λ r. ⌜ Wrote (now (text .entry)) 0
+        (sheetWritten (now (input .entry)) (now (answer .entry)) (now (work .entry)) (now (text .entry)))
+        (now (text .exit)) r ⌝ }
+    ensures answer { λ _. ⌜ now (answer .exit) ≡
+        sheetAnswered (now (input .entry)) (now (answer .entry)) (now (work .entry)) (now (text .entry)) ⌝ }
+    ensures work { λ _. ⌜ now (work .exit) ≡
+        sheetWorked (now (input .entry)) (now (work .entry)) (now (text .entry)) ⌝ }
 {
     if text.len() < SHEET_ROOM {
         return 0;
     }
-    let checked = check(input);
+    let checked = admit(input, work);
     match checked {
         Checked::Refused(number) => write_refusal(text, number as usize),
         Checked::Accept(h) => {
-            if work.len() < 6 * h.states {
-                return write_refusal(text, 12);
-            }
             let written = sheet_model(input, h, answer, work, text);
-            let end = work.len();
-            clear(work, 0, end);
+            leave(work);
             written
         }
     }

@@ -1,27 +1,27 @@
-// The lists of a sheet: one after the other in region 0 of the working table, each written to the answer table and as a
-// line of the text.
+// The lists of a sheet: one after the other in the working table, each written to the answer table and as a line of the
+// text.
 ghost use mathlib.Core.Path.{_≡_};
 ghost use mathlib.Core.List.{_++_};
 ghost use mathlib.Core.Option.{some};
 ghost use Prim.Native.Nat.{_+_, _≤_, _<_};
-ghost use lib.ListN.{length, take, drop};
+ghost use lib.ListN.{length, drop};
 ghost use Rattle.lasso.specs.Roll.{leastLength, roll};
-ghost use Rattle.model.specs.Model.{graphOf};
+ghost use Rattle.model.specs.Model.{graphIn};
 ghost use Rattle.rounds.specs.Promises.{RoundsReady};
 ghost use Rattle.current.specs.Current.{listIn};
 ghost use Rattle.finder.specs.Tables.{written};
-ghost use Rattle.sheet.specs.Sheet.{line, mostLists, closingLine, listsText, lastOf, listsRoom};
-ghost use Rattle.sheet.specs.Writing.{Wrote};
-use crate::lines::write_line;
-use crate::writing::write_figure;
-use current::write_list;
+ghost use Rattle.text.specs.Writing.{Wrote};
+ghost use Rattle.lines.specs.Line.{line};
+ghost use Rattle.sheet.specs.Sheet.{closingLine, listsText, lastPrinted, listsRoom};
+use cursor::to_first;
+use cursor::to_next;
+use cursor::write_list;
 use lasso::Transitions;
-use listing::advance;
-use listing::first;
+use lines::write_line;
 use model::Header;
-use starts::prepare;
+use text::write_figure;
 
-// Writes the line of the list in region 0, and the list itself to the answer table.
+// Writes the line of the current list, and the list itself to the answer table.
 fn write_current(
     h: Header,
     length: Transitions,
@@ -54,8 +54,7 @@ fn write_closing(text: &mut [u8], at: usize, count: usize, more: bool) -> usize
     write_figure(text, at, b"end ", count)
 }
 
-// Writes the lines of the first 20 lists and the closing line. The distances from the start stand in region 0, and the
-// length of the lists is known.
+// Writes the lines of the first 20 lists and the closing line. All rounds are done, and the length of the lists is known.
 pub fn write_lists(
     file: &[u8],
     h: Header,
@@ -66,23 +65,22 @@ pub fn write_lists(
     at: usize,
 ) -> usize
     requires { ⌜ RoundsReady (now file) h (now work) ⌝ }
-    requires { ⌜ leastLength (graphOf (now file)) ≡ some (length .0) ⌝ }
+    requires { ⌜ leastLength (graphIn (now file) h) ≡ some (length .0) ⌝ }
     requires { ⌜ length .0 < lib.ListN.length (now answer) ⌝ }
     requires { ⌜ at + listsRoom ≤ lib.ListN.length (now text) ⌝ }
     ensures text { λ r. ⌜ Wrote (now (text .entry)) at
-        (listsText (roll (graphOf (now (file .entry))))) (now (text .exit)) r ⌝ }
+        (listsText (roll (graphIn (now (file .entry)) h))) (now (text .exit)) r ⌝ }
     ensures answer { λ _. ⌜ now (answer .exit)
-        ≡ written (lastOf (take mostLists (roll (graphOf (now (file .entry)))))) (now (answer .entry)) ⌝ }
+        ≡ written (lastPrinted (roll (graphIn (now (file .entry)) h))) (now (answer .entry)) ⌝ }
     ensures kept { λ _. ⌜ lib.ListN.length (now (work .exit)) ≡ lib.ListN.length (now (work .entry)) ⌝ }
 {
-    prepare(file, h, work, length);
-    first(file, h, work, length);
+    to_first(file, h, length, work);
     let mut next = at;
     let mut count = 0;
     loop {
         next = write_current(h, length, answer, work, text, next);
         count += 1;
-        let more = advance(file, h, work, length);
+        let more = to_next(file, h, length, work);
         if !more {
             return write_closing(text, next, count, false);
         }

@@ -1,79 +1,91 @@
--- `sheet_model` meets its contract: the record's best decides between no list and lists, the answer table's length between
--- lists and a refusal.
+-- `sheet_model` meets its contract: what the rounds come to decides between no list and lists, the answer table's length
+-- between lists and a refusal. The rounds are never stopped, since no model has so many candidates.
 use Prim.Native.Nat.{ℕ, _+_, _≤_}
-use mathlib.Core.Path.{_≡_, sym, _∙_, ap}
+use mathlib.Core.Path.{_≡_, sym, _∙_, ap, subst}
 use mathlib.Core.List.{List, _++_}
-use mathlib.Core.Option.{some}
+use mathlib.Core.Option.{some, none}
 use native.Mathlib.Omega.{arith}
 use borrow.Author.Needs.{needs}
-use lib.ListN.{length, take}
+use lib.ListN.{length}
+use Rattle.lasso.specs.Graph.{Graph}
 use Rattle.lasso.specs.Roll.{leastLength, roll}
-use Rattle.lasso.specs.Rounds.{candidates, bestLength}
-use Rattle.lasso.specs.Values.{bestOf, recordOf}
+use Rattle.lasso.specs.Rounds.{candidates}
 use Rattle.lasso.proofs.RollLaws.{leastLength-range}
-use Rattle.model.specs.Model.{graphOf}
-use Rattle.model.proofs.Laws.{valid-sizes, valid-well-formed}
-use Rattle.rounds.proofs.TableLaws.{ready-kept}
+use Rattle.lasso.proofs.RoundLaws.{candidates-length-le}
+use Rattle.model.specs.Model.{graphIn, graphOf}
+use Rattle.model.proofs.Laws.{valid-graph, valid-sizes}
 use Rattle.gate.proofs.GateLaws.{valid-room}
-use Rattle.finder.proofs.ReadyLaws.{ready-started}
-use Rattle.finder.proofs.StepLaws.{candidates-length-le}
-use Rattle.finder.proofs.SearchLaws.{all-rounds}
+use Rattle.cursor.specs.Cursor.{BegunSays, AllDone}
+use Rattle.cursor.specs.declared.Begun.{Begun}
+use Rattle.finder.specs.Tables.{written}
+use Rattle.text.specs.Figure.{figure}
+use Rattle.text.proofs.WroteLaws.{wrote-length, wrote-then, wrote-as}
+use Rattle.text.proofs.FigureLaws.{figure-room}
 use Rattle.sheet.specs.Words.{refusedWord, noneLine, shortestWord}
-use Rattle.sheet.specs.Sheet.{figure, head, mostLists, listsText, lastOf, allowance}
-use Rattle.sheet.proofs.WroteLaws.{wrote-length, wrote-then, wrote-as}
-use Rattle.sheet.proofs.RoomLaws.{head-room, figure-room}
-use Rattle.sheet.proofs.SheetLaws.{SheetIs, headOf, head-is, sheet-answer, enough-rounds, sheet-empty, sheet-lists, sheet-no-room}
+use Rattle.sheet.specs.Sheet.{head, listsText, lastPrinted}
+use Rattle.sheet.proofs.RoomLaws.{head-room}
+use Rattle.sheet.proofs.SheetLaws.{SheetIs, headOf, head-is, sheet-answer, sheet-empty, sheet-lists, sheet-no-room}
 use Rattle.sheet.proofs.sheet_model.Statement.{statement}
 use Rattle.sheet.proofs.sheet_model.Tie as tie
 
--- the distances from the start, and the function's start, from where the rounds are done
-abbrev started : tie.After-run-rounds → tie.After-start-distances
-started c = c .before .before .before .before
+-- the function's start, and what the rounds came to
+abbrev start : tie.After-begin → tie.Start
+start c = c .before .before .before .before .before .before
 
-abbrev start : tie.After-run-rounds → tie.Start
-start c = started c .before .before .before .before .before .before
+abbrev done : tie.After-slice-known4 → tie.After-begin
+done c = c .before .before
 
--- the rounds, from where the record's best was seen
-abbrev none-rounds : tie.After-enum-told → tie.After-run-rounds
-none-rounds c = c .before .before .before .before .before
+-- what an answer of the rounds says, by its case
+says : (c : tie.After-begin) (r : Begun) → c .begin .result ≡ r → BegunSays (graphIn (start c .args .file .now) (start c .args .h)) 65535 r
+says c r e = rw e at (c .begin .ensures .0)
 
-abbrev some-rounds : tie.After-best → tie.After-run-rounds
-some-rounds c = c .before .before .before .before .before
+-- the same of the file's graph
+says-file : (c : tie.After-begin) (r : Begun) → c .begin .result ≡ r → BegunSays (graphOf (start c .args .file .now)) 65535 r
+says-file c r e = subst (λ (g : Graph). BegunSays g 65535 r) (valid-graph (start c .pre .0)) (says c r e)
+
+-- the rounds, from where their answer was seen
+abbrev none-rounds : tie.After-begun → tie.After-begin
+none-rounds c = done (c .before .before)
+
+abbrev some-rounds : tie.After-begun2 → tie.After-begin
+some-rounds c = done (c .before .before)
 
 -- the working table keeps its length
-kept : (c : tie.After-run-rounds) → length (c .run-rounds .last .1 .1 .0) ≡ length (start c .args .work .now)
-kept c = c .run-rounds .ensures .1 .same-length ∙ started c .start-distances .ensures .same-length
-
--- the record holds the number of candidates and the least length of an accepting path
-all-done : (c : tie.After-run-rounds)
-    → let g = graphOf (start c .args .file .now) in
-    (c .run-rounds .result .done ≡ length (candidates g)) × (bestLength (recordOf (c .run-rounds .result)) ≡ leastLength g)
-all-done c =
-    let s = start c in
-    let v = s .pre .0 in
-    all-rounds (valid-well-formed v) (recordOf (c .run-rounds .result)) allowance (c .run-rounds .ensures .0)
-    (enough-rounds (s .args .file .now) (v .accepted) 0 (length (s .args .work .now)) (valid-room v (s .pre .1 .0)))
+kept : (c : tie.After-begin) → length (c .begin .last .1 .1 .1 .0) ≡ length (start c .args .work .now)
+kept c = c .begin .ensures .1 .1
 
 -- the lines before the lists are the file's, and have room
-head-of : (c : tie.After-run-rounds) → let a = start c .args in head (a .h .states) (a .h .edges) (c .run-rounds .result .done) ≡ headOf (a .file .now)
-head-of c = head-is (start c .pre .0) (all-done c .0)
-
-head-short : (c : tie.After-run-rounds) → let a = start c .args in length (head (a .h .states) (a .h .edges) (c .run-rounds .result .done)) ≤ 28
-head-short c =
+head-short : (c : tie.After-begin) (rounds : ℕ) → rounds ≡ length (candidates (graphOf (start c .args .file .now)))
+    → let a = start c .args in length (head (a .h .states) (a .h .edges) rounds) ≤ 28
+head-short c rounds e =
     let a = start c .args in
     let sizes = valid-sizes (start c .pre .0) in
-    head-room (a .h .states) (a .h .edges) (c .run-rounds .result .done) (omega arith) (omega arith)
-    (omega (arith, all-done c .0, candidates-length-le (graphOf (a .file .now))))
+    head-room (a .h .states) (a .h .edges) rounds (omega arith) (omega arith) (omega (arith, e, candidates-length-le (graphOf (a .file .now))))
 
--- the length that the record holds is the least
-abbrev length-of : tie.After-best → ℕ
-length-of c = c .best .given .0 .0 .0
+-- without a list: the number of rounds, and that there is none
+abbrev none-figure : tie.After-begun → ℕ
+none-figure c = c .begun .given .0 .0
 
-least : (c : tie.After-best) → leastLength (graphOf (start (some-rounds c) .args .file .now)) ≡ some (length-of c)
-least c = sym (all-done (some-rounds c) .1) ∙ ap bestOf (c .best .given .1)
+none-done : (c : tie.After-begun)
+    → AllDone (graphOf (start (none-rounds c) .args .file .now)) 65535 (none-figure c) none
+none-done c = says-file (none-rounds c) _ (c .begun .given .1)
+
+-- with lists: their length, and the number of rounds
+abbrev length-of : tie.After-begun2 → ℕ
+length-of c = c .begun2 .given .0 .0 .0
+
+abbrev some-figure : tie.After-begun2 → ℕ
+some-figure c = c .begun2 .given .0 .1 .0
+
+some-done : (c : tie.After-begun2)
+    → AllDone (graphOf (start (some-rounds c) .args .file .now)) 65535 (some-figure c) (some (length-of c))
+some-done c = says-file (some-rounds c) _ (c .begun2 .given .1)
+
+least : (c : tie.After-begun2) → leastLength (graphOf (start (some-rounds c) .args .file .now)) ≡ some (length-of c)
+least c = some-done c .least-is
 
 -- no accepting path is longer than there are states
-length-range : (c : tie.After-best) → (length-of c ≤ 4096)
+length-range : (c : tie.After-begun2) → (length-of c ≤ 4096)
 length-range c =
     let s = start (some-rounds c) in
     let sizes = valid-sizes (s .pre .0) in
@@ -83,7 +95,7 @@ length-range c =
 abbrev headed : tie.After-write-figure → tie.After-write-head2
 headed c = c .before .before .before .before .before .before
 
-abbrev best-of : tie.After-write-head2 → tie.After-best
+abbrev best-of : tie.After-write-head2 → tie.After-begun2
 best-of c = c .before .before .before .before .before .before .before
 
 abbrev figured : tie.After-write-lists → tie.After-write-figure
@@ -91,7 +103,9 @@ figured c = c .before .before .before .before .before .before
 
 -- the sheet of a file with lists that have room
 lists-are : (c : tie.After-write-head2) → let b = best-of c in let a = start (some-rounds b) .args in
-    SheetIs (a .file .now) (length (a .answer .now)) (length (a .work .now)) (headOf (a .file .now) ++ figure shortestWord (length-of b) ++ listsText (roll (graphOf (a .file .now)))) (lastOf (take mostLists (roll (graphOf (a .file .now)))))
+    SheetIs (a .file .now) (length (a .answer .now)) (length (a .work .now))
+    (headOf (a .file .now) ++ figure shortestWord (length-of b) ++ listsText (roll (graphOf (a .file .now))))
+    (lastPrinted (roll (graphOf (a .file .now))))
 lists-are c =
     let b = best-of c in
     let s = start (some-rounds b) in
@@ -100,21 +114,22 @@ lists-are c =
     sheet-lists (a .file .now) (v .accepted) (length (a .answer .now)) (length (a .work .now)) (valid-room v (s .pre .1 .0)) (length-of b) (least b)
     (omega (arith, c .before .before .before .before .before .entries .ensures, c .before .before .if1 .left))
 
-start-distances-requires : tie.Need-start-distances-requires
-start-distances-requires c κs = search needs
-
-run-rounds-requires : tie.Need-run-rounds-requires
-run-rounds-requires c κs = search needs
-
-cast-rounds : tie.Need-cast-rounds
-cast-rounds c = search needs
+begin-requires : tie.Need-begin-requires
+begin-requires c κs = search needs
 
 enum-told : tie.Need-enum-told
 enum-told c = search needs
 
+enum-known-begun : tie.Need-enum-known-begun
+enum-known-begun c = search needs
+
+cast-write-head : tie.Need-cast-write-head
+cast-write-head c = search needs
+
 write-head-requires : tie.Need-write-head-requires
 write-head-requires c κs =
-    let done = none-rounds (c .before) in omega (arith, head-short done, start done .pre .1 .1)
+    let told = c .before .before in
+    omega (arith, head-short (none-rounds told) (none-figure told) (none-done told .rounds-are), start (none-rounds told) .pre .1 .1)
 
 slice-aggregate-write-bytes : tie.Need-slice-aggregate-write-bytes
 slice-aggregate-write-bytes c = search needs
@@ -122,20 +137,20 @@ slice-aggregate-write-bytes c = search needs
 write-bytes-requires : tie.Need-write-bytes-requires
 write-bytes-requires c κs =
     let headed = c .before .before .before .before in
-    let done = none-rounds (headed .before .before) in
+    let told = headed .before .before .before in
     let w = headed .write-head .ensures in
-    omega (arith, head-short done, start done .pre .1 .1, w .place, wrote-length w)
+    omega (arith, head-short (none-rounds told) (none-figure told) (none-done told .rounds-are), start (none-rounds told) .pre .1 .1, w .place, wrote-length w)
 
-enum-known-best : tie.Need-enum-known-best
-enum-known-best c = search needs
+enum-known-begun-2 : tie.Need-enum-known-begun-2
+enum-known-begun-2 c = search needs
 
 entries-requires : tie.Need-entries-requires
 entries-requires c κs = search needs
 
 write-refusal-requires : tie.Need-write-refusal-requires
 write-refusal-requires c κs =
-    let done = some-rounds (c .before .before .before .before .before .before) in
-    omega (arith, figure-room refusedWord 15 (omega arith), start done .pre .1 .1)
+    let told = c .before .before .before .before .before .before in
+    omega (arith, figure-room refusedWord 15 (omega arith), start (some-rounds told) .pre .1 .1)
 
 same-length : tie.Need-same-length
 same-length c = search needs
@@ -155,9 +170,13 @@ returns c =
     let is = sheet-no-room (a .file .now) (v .accepted) (length (a .answer .now)) (length (a .work .now)) (valid-room v (s .pre .1 .0)) (length-of b) (least b) (omega (arith, counted .entries .ensures, then .if1 .taken)) in
     (wrote-as (sym (is .text-is)) (done .write-refusal .ensures), (sym (sheet-answer (a .answer .now) is), kept (some-rounds b)))
 
+cast-write-head-2 : tie.Need-cast-write-head-2
+cast-write-head-2 c = search needs
+
 write-head-requires-2 : tie.Need-write-head-requires-2
 write-head-requires-2 c κs =
-    let done = some-rounds (c .before .before .before .before .before .before) in omega (arith, head-short done, start done .pre .1 .1)
+    let told = c .before .before .before .before .before .before in
+    omega (arith, head-short (some-rounds told) (some-figure told) (some-done told .rounds-are), start (some-rounds told) .pre .1 .1)
 
 number-requires : tie.Need-number-requires
 number-requires c κs = search needs
@@ -171,24 +190,24 @@ write-figure-requires c κs =
     let b = best-of head in
     let w = head .write-head2 .ensures in
     let number = c .before .before .number in
-    omega (arith, head-short (some-rounds b), figure-room shortestWord (number .result) (omega (arith, number .ensures, length-range b)), start (some-rounds b) .pre .1 .1, w .place, wrote-length w)
+    omega (arith, head-short (some-rounds b) (some-figure b) (some-done b .rounds-are), figure-room shortestWord (number .result) (omega (arith, number .ensures, length-range b)), start (some-rounds b) .pre .1 .1, w .place, wrote-length w)
 
 write-lists-requires : tie.Need-write-lists-requires
 write-lists-requires c κs =
     let figure = c .before .before .before .before .before in
     let head = headed figure in
     let b = best-of head in
-    let done = some-rounds b in
-    let s = start done in
+    let rounds = some-rounds b in
+    let s = start rounds in
     let w = head .write-head2 .ensures in
     let v = figure .write-figure .ensures in
     let number = figure .before .before .before .number in (
-      ready-kept (ready-started (s .pre .0) (s .pre .1 .0) (started done .start-distances .ensures)) (done .run-rounds .ensures .1),
+      rounds .begin .ensures .1 .0,
       (
-        least b,
+        says rounds _ (b .begun2 .given .1) .least-is,
         (
           omega (arith, head .before .before .before .before .before .entries .ensures, head .before .before .if1 .left),
-          omega (arith, head-short done, figure-room shortestWord (number .result) (omega (arith, number .ensures, length-range b)), s .pre .1 .1, w .place, v .place, wrote-length w, wrote-length v),
+          omega (arith, head-short rounds (some-figure b) (some-done b .rounds-are), figure-room shortestWord (number .result) (omega (arith, number .ensures, length-range b)), s .pre .1 .1, w .place, v .place, wrote-length w, wrote-length v),
         ),
       ),
     )
@@ -196,73 +215,92 @@ write-lists-requires c κs =
 same-length-3 : tie.Need-same-length-3
 same-length-3 c = search needs
 
-same-length-4 : tie.Need-same-length-4
-same-length-4 c = search needs
-
 returns-2 : tie.Need-returns-2
 returns-2 c =
-    let end = c .before .before in
-    let head = end .before .before .before .before .before in
-    let told = head .before .before in
-    let done = none-rounds told in
-    let s = start done in
-    let a = s .args in
-    let v = s .pre .0 in
-    let is = sheet-empty (a .file .now) (v .accepted) (length (a .answer .now)) (length (a .work .now)) (valid-room v (s .pre .1 .0)) (sym (all-done done .1) ∙ ap bestOf (told .enum-told .given .1)) in (
-      wrote-as (ap (λ (r : List ℕ). r ++ noneLine) (head-of done) ∙ sym (is .text-is)) (wrote-then (head .write-head .ensures) (end .write-bytes .ensures)),
-      (sym (sheet-answer (a .answer .now) is), kept done),
-    )
+    let rounds = done (c .before .before) in
+    let s = start rounds in
+    let sizes = valid-sizes (s .pre .0) in
+    let stop = says-file rounds _ (c .enum-told .given .1) in
+    absurd (omega (arith, stop .short, candidates-length-le (graphOf (s .args .file .now))))
+
+same-length-4 : tie.Need-same-length-4
+same-length-4 c = search needs
 
 same-length-5 : tie.Need-same-length-5
 same-length-5 c = search needs
 
+returns-3 : tie.Need-returns-3
+returns-3 c =
+    let end = c .before .before in
+    let head = end .before .before .before .before .before in
+    let told = head .before .before .before in
+    let rounds = none-rounds told in
+    let s = start rounds in
+    let a = s .args in
+    let v = s .pre .0 in
+    let is = sheet-empty (a .file .now) (v .accepted) (length (a .answer .now)) (length (a .work .now)) (valid-room v (s .pre .1 .0)) (none-done told .least-is) in (
+      wrote-as (ap (λ (r : List ℕ). r ++ noneLine) (head-is v (none-done told .rounds-are)) ∙ sym (is .text-is)) (wrote-then (head .write-head .ensures) (end .write-bytes .ensures)),
+      (sym (sheet-answer (a .answer .now) is), kept rounds),
+    )
+
 same-length-6 : tie.Need-same-length-6
-same-length-6 c =
+same-length-6 c = search needs
+
+same-length-7 : tie.Need-same-length-7
+same-length-7 c =
     let lists = c .before .before .before .before .before .before in
     lists .write-lists .ensures .1 .1 ∙ kept (some-rounds (best-of (headed (figured lists))))
 
-same-length-7 : tie.Need-same-length-7
-same-length-7 c = search needs
+same-length-8 : tie.Need-same-length-8
+same-length-8 c = search needs
 
-returns-3 : tie.Need-returns-3
-returns-3 c =
+returns-4 : tie.Need-returns-4
+returns-4 c =
     let lists = c .before .before .before .before .before .before in
     let length-line = figured lists in
     let head = headed length-line in
-    let done = some-rounds (best-of head) in
+    let b = best-of head in
+    let rounds = some-rounds b in
     let is = lists-are head in
-    let a = start done .args in (
-      wrote-as (ap (λ (r : List ℕ). r ++ figure shortestWord (length-of (best-of head)) ++ listsText (roll (graphOf (a .file .now)))) (head-of done) ∙ sym (is .text-is))
-          (wrote-then (wrote-then (head .write-head2 .ensures) (wrote-as (ap (figure shortestWord) (length-line .before .before .before .number .ensures)) (length-line .write-figure .ensures))) (lists .write-lists .ensures .0)),
-      (lists .write-lists .ensures .1 .0 ∙ sym (sheet-answer (a .answer .now) is), lists .write-lists .ensures .1 .1 ∙ kept done),
+    let s = start rounds in
+    let a = s .args in
+    let g-is = valid-graph (s .pre .0) in
+    let same-text = ap (λ (g : Graph). listsText (roll g)) g-is in
+    let same-answer = ap (λ (g : Graph). written (lastPrinted (roll g)) (a .answer .now)) g-is in (
+      wrote-as (ap (λ (r : List ℕ). r ++ figure shortestWord (length-of b) ++ listsText (roll (graphOf (a .file .now)))) (head-is (s .pre .0) (some-done b .rounds-are)) ∙ sym (is .text-is))
+          (wrote-then (wrote-then (head .write-head2 .ensures) (wrote-as (ap (figure shortestWord) (length-line .before .before .before .number .ensures)) (length-line .write-figure .ensures))) (wrote-as same-text (lists .write-lists .ensures .0))),
+      (lists .write-lists .ensures .1 .0 ∙ same-answer ∙ sym (sheet-answer (a .answer .now) is), lists .write-lists .ensures .1 .1 ∙ kept rounds),
     )
 
 pub sheet-model-spec : {M : Type 1} → statement M
 sheet-model-spec =
     tie.close
     (tie.spec
-    start-distances-requires
-    run-rounds-requires
-    cast-rounds
+    begin-requires
     enum-told
+    enum-known-begun
+    cast-write-head
     write-head-requires
     slice-aggregate-write-bytes
     write-bytes-requires
-    enum-known-best
+    enum-known-begun-2
     entries-requires
     write-refusal-requires
     same-length
     same-length-2
     returns
+    cast-write-head-2
     write-head-requires-2
     number-requires
     slice-aggregate-write-figure
     write-figure-requires
     write-lists-requires
     same-length-3
-    same-length-4
     returns-2
+    same-length-4
     same-length-5
+    returns-3
     same-length-6
     same-length-7
-    returns-3)
+    same-length-8
+    returns-4)

@@ -4,11 +4,12 @@ use mathlib.Core.List.{[], _∷_}
 use native.Mathlib.Omega.{arith}
 use borrow.Author.Needs.{needs}
 use lib.ListN.{length}
-use Rattle.sheet.specs.Decimal.{decimal}
-use Rattle.sheet.specs.Words.{space, roundsWord}
-use Rattle.sheet.specs.Sheet.{figure}
-use Rattle.sheet.proofs.WroteLaws.{wrote-length, wrote-then}
-use Rattle.sheet.proofs.LineLaws.{head-length}
+use Rattle.text.specs.Characters.{space}
+use Rattle.text.specs.Decimal.{decimal}
+use Rattle.text.specs.Figure.{figure}
+use Rattle.text.proofs.WroteLaws.{wrote-length, wrote-then}
+use Rattle.sheet.specs.Words.{roundsWord}
+use Rattle.sheet.proofs.RoomLaws.{head-length}
 use Rattle.sheet.proofs.write_head.Statement.{statement}
 use Rattle.sheet.proofs.write_head.Tie as tie
 

@@ -2,8 +2,8 @@
 use mathlib.Core.Path.{sym, ap}
 use mathlib.Core.Bool.{Bool}
 use borrow.Author.Needs.{needs}
+use Rattle.text.proofs.WroteLaws.{wrote-as}
 use Rattle.sheet.specs.Sheet.{closingLine}
-use Rattle.sheet.proofs.WroteLaws.{wrote-as}
 use Rattle.sheet.proofs.lists.write_closing.Statement.{statement}
 use Rattle.sheet.proofs.lists.write_closing.Tie as tie
 

@@ -6,9 +6,9 @@ use native.Mathlib.Omega.{arith}
 use borrow.Author.Needs.{needs}
 use lib.ListN.{length, take, drop}
 use lib.Seq.{length-take-le}
-use Rattle.sheet.specs.Sheet.{stemLoop, line}
-use Rattle.sheet.proofs.WroteLaws.{wrote-as}
-use Rattle.sheet.proofs.LineLaws.{line-read}
+use Rattle.text.proofs.WroteLaws.{wrote-as}
+use Rattle.lines.specs.Line.{stemLoop, line}
+use Rattle.lines.proofs.LineLaws.{line-read}
 use Rattle.sheet.proofs.lists.write_current.Statement.{statement}
 use Rattle.sheet.proofs.lists.write_current.Tie as tie
 

@@ -1,16 +1,16 @@
 -- `lists::write_lists` meets its contract. The loop's invariant: the list at place `count` of the roll stands in region 0,
 -- and those before it are printed.
 use Prim.Native.Nat.{_-_}
-use mathlib.Core.Path.{_≡_, _∙_}
-use mathlib.Core.Bool.{true, false}
+use mathlib.Core.Path.{_≡_, _∙_, subst}
+use mathlib.Core.Bool.{Bool, true, false}
 use native.Mathlib.Omega.{arith}
 use borrow.Author.Needs.{needs}
+use borrow.Author.Tests.{not-true, not-false}
 use lib.ListN.{length}
+use Rattle.text.proofs.WroteLaws.{wrote-length}
 use Rattle.sheet.specs.Sheet.{mostLists}
-use Rattle.sheet.proofs.WroteLaws.{wrote-length}
-use Rattle.sheet.proofs.RollPlaces.{stands-mem, advanced-none, advanced-some}
-use Rattle.listing.proofs.PlacesTable.{prepared-kept}
-use Rattle.sheet.proofs.PrintLaws.{Printing, prepared-start, printed-answer-length, printing-first, listed-asks, closing-asks, printing-next, closed-last, closed-full, printing-closed}
+use Rattle.cursor.specs.Cursor.{MovedTo}
+use Rattle.sheet.proofs.PrintLaws.{Printing, printed-answer-length, printing-first, listed-asks, closing-asks, printing-next, closed-last, closed-full, printing-closed}
 use Rattle.sheet.proofs.lists.write_lists.Statement.{statement}
 use Rattle.sheet.proofs.lists.write_lists.Tie as tie
 
@@ -22,8 +22,8 @@ abbrev μ-loop : tie.MeasureT-loop
 μ-loop file h length answer₀ work₀ text₀ at next₀ count₀ answer work text next count = mostLists - count
 
 -- the function's start, and the places on the way to the following list
-abbrev start : tie.After-first Inv-loop μ-loop → tie.Start Inv-loop μ-loop
-start c = c .before .before .before .before .before .before .before .before .before .before
+abbrev start : tie.After-to-first Inv-loop μ-loop → tie.Start Inv-loop μ-loop
+start c = c .before .before .before .before .before .before
 
 abbrev at-loop : tie.After-write-current Inv-loop μ-loop → tie.At-loop Inv-loop μ-loop
 at-loop c = c .before .before .before .before
@@ -31,15 +31,14 @@ at-loop c = c .before .before .before .before
 abbrev from : tie.At-loop Inv-loop μ-loop → tie.Start Inv-loop μ-loop
 from c = start (c .before .before .before)
 
-abbrev written-list : tie.After-advance Inv-loop μ-loop → tie.After-write-current Inv-loop μ-loop
+abbrev written-list : tie.After-to-next Inv-loop μ-loop → tie.After-write-current Inv-loop μ-loop
 written-list c = c .before .before .before .before .before .before
 
 -- the tables and the text keep their lengths up to the following list
-kept : (c : tie.After-advance Inv-loop μ-loop) → length (c .advance .last .1 .1 .0) ≡ length (from (at-loop (written-list c)) .args .work .now)
+kept : (c : tie.After-to-next Inv-loop μ-loop) → length (c .to-next .last .1 .1 .1 .0) ≡ length (from (at-loop (written-list c)) .args .work .now)
 kept c =
     let l = at-loop (written-list c) in
-    let listed = l .before .before .before in
-    c .advance .ensures .1 .same-length ∙ l .loop .inv .work-length ∙ listed .first .ensures .1 .same-length ∙ listed .before .before .before .before .prepare .ensures .1 .same-length
+    c .to-next .ensures .1 ∙ l .loop .inv .work-length ∙ l .before .before .before .to-first .ensures .1
 
 kept-answer : (c : tie.After-write-current Inv-loop μ-loop) → length (c .write-current .last .1 .1 .0) ≡ length (from (at-loop c) .args .answer .now)
 kept-answer c =
@@ -49,19 +48,14 @@ kept-answer c =
 kept-text : (c : tie.After-write-current Inv-loop μ-loop) → length (c .write-current .last .1 .1 .1 .1 .0) ≡ length (from (at-loop c) .args .text .now)
 kept-text c = wrote-length (c .write-current .ensures .0) ∙ wrote-length (at-loop c .loop .inv .lines)
 
-prepare-requires : tie.Need-prepare-requires Inv-loop μ-loop
-prepare-requires c κs = search needs
-
-first-requires : tie.Need-first-requires Inv-loop μ-loop
-first-requires c κs = search needs
+to-first-requires : tie.Need-to-first-requires Inv-loop μ-loop
+to-first-requires c κs = search needs
 
 loop-holds : tie.Need-loop-holds Inv-loop μ-loop
 loop-holds c =
     let listed = c .before .before in
-    let ready = listed .before .before .before .before in
     let s = start listed in
-    let p = prepared-start (s .pre .0) (s .pre .1 .0) (ready .prepare .ensures .0) (ready .prepare .ensures .1 .same-length) in
-    printing-first (prepared-kept p (listed .first .ensures .1)) (listed .first .ensures .0) (omega (arith, s .pre .1 .1 .1))
+    printing-first (listed .to-first .ensures .0) (omega (arith, s .pre .1 .1 .1))
 
 write-current-requires : tie.Need-write-current-requires Inv-loop μ-loop
 write-current-requires c κs =
@@ -72,10 +66,19 @@ write-current-requires c κs =
 add-count : tie.Need-add-count Inv-loop μ-loop
 add-count c = omega (arith, at-loop (c .before .before .before .before) .loop .inv .few)
 
-advance-requires : tie.Need-advance-requires Inv-loop μ-loop
-advance-requires c κs =
-    let p = at-loop (c .before .before .before .before .before) .loop .inv in
-    (p .prepared, stands-mem (p .current))
+to-next-requires : tie.Need-to-next-requires Inv-loop μ-loop
+to-next-requires c κs = record { place = _; at = at-loop (c .before .before .before .before .before) .loop .inv .here }
+
+-- what the step to the following list says of the place reached
+moved : (c : tie.After-to-next Inv-loop μ-loop) (more : Bool) → c .to-next .result ≡ more
+    → let l = at-loop (written-list c) in
+    let a = from l .args in
+    MovedTo (a .file .now) (a .h) (a .length .0) (l .loop .count) (c .to-next .last .1 .1 .1 .0) more
+moved c more e =
+    let l = at-loop (written-list c) in
+    let a = from l .args in
+    subst (λ (b : Bool). MovedTo (a .file .now) (a .h) (a .length .0) (l .loop .count) (c .to-next .last .1 .1 .1 .0) b) e
+    (c .to-next .ensures .0 (l .loop .count) (l .loop .inv .here))
 
 write-closing-requires : tie.Need-write-closing-requires Inv-loop μ-loop
 write-closing-requires c κs =
@@ -100,7 +103,7 @@ returns c =
     let advanced = then .before .before .before in
     let printed = written-list advanced in
     let p = at-loop printed .loop .inv in
-    let closed = closed-last p (advanced-none _ _ _ _ (advanced .advance .result) (advanced .advance .ensures .0) (then .if1 .taken)) in
+    let closed = closed-last p (moved advanced false (not-true _ (then .if1 .taken))) in
     let (text, answer) = printing-closed p (printed .write-current .ensures .0) (printed .write-current .ensures .1) closed (done .write-closing .ensures) in
     (text, (answer, kept advanced))
 
@@ -127,7 +130,7 @@ returns-2 c =
     let advanced = full .before .before .before .before in
     let printed = written-list advanced in
     let p = at-loop printed .loop .inv in
-    let closed = closed-full p _ (advanced-some _ _ _ _ (advanced .advance .result) (advanced .advance .ensures .0) (full .before .if1 .left)) (omega (arith, full .if2 .taken)) in
+    let closed = closed-full p (moved advanced true (not-false _ (full .before .if1 .left))) (omega (arith, full .if2 .taken)) in
     let (text, answer) = printing-closed p (printed .write-current .ensures .0) (printed .write-current .ensures .1) closed (done .write-closing2 .ensures) in
     (text, (answer, kept advanced))
 
@@ -141,7 +144,7 @@ loop-again c =
     let printed = written-list advanced in
     let l = at-loop printed in
     printing-next (l .loop .inv) (printed .write-current .ensures .0) (printed .write-current .ensures .1) (from l .pre .1 .1 .0)
-    (advanced .advance .ensures .1) (advanced-some _ _ _ _ (advanced .advance .result) (advanced .advance .ensures .0) (else .if1 .left)) (c .if2 .left)
+    (moved advanced true (not-false _ (else .if1 .left))) (advanced .to-next .ensures .1) (c .if2 .left)
 
 pub write-lists-spec : {M : Type 1} → statement M
 write-lists-spec =
@@ -149,12 +152,11 @@ write-lists-spec =
     (tie.spec
     Inv-loop
     μ-loop
-    prepare-requires
-    first-requires
+    to-first-requires
     loop-holds
     write-current-requires
     add-count
-    advance-requires
+    to-next-requires
     write-closing-requires
     same-length
     same-length-2

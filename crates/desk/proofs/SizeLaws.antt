@@ -1,0 +1,66 @@
+-- The program's tables suffice for every file: 12, 14 and 15 never hold.
+use Prim.Native.Nat.{ℕ, _*_, _≤_}
+use mathlib.Core.Path.{_≡_, refl, sym, _∙_}
+use mathlib.Core.List.{List}
+use mathlib.Core.Option.{Option, some, none}
+use native.Mathlib.Omega.{arith}
+use Rattle.lasso.specs.Graph.{Graph}
+use Rattle.lasso.specs.Roll.{leastLength}
+use Rattle.lasso.proofs.RollLaws.{leastLength-range}
+use Rattle.text.specs.Decimal.{decimal}
+use Rattle.model.specs.Layout.{states}
+use Rattle.model.specs.Model.{graphOf}
+use Rattle.model.specs.Rules.{rules, firstBroken, Accepted}
+use Rattle.model.proofs.Laws.{accepted-facts}
+use Rattle.gate.specs.Gate.{commonRules}
+use Rattle.finder.specs.Search.{searched, firstDue, listReasons}
+use Rattle.gate.proofs.GateLaws.{broken-append, common-refused}
+use Rattle.finder.proofs.SearchLaws.{search-empty, search-found, roll-first}
+use Rattle.sheet.specs.Sheet.{sheetAsk}
+use Rattle.sheet.proofs.SheetLaws.{outcome-answered, enough-rounds}
+use Rattle.sheet.proofs.LengthLaws.{broken-number}
+use Rattle.desk.specs.Desk.{answerEntries, workEntries, inputRefusal}
+use Rattle.desk.specs.Sizes.{OnlyTheFileRefuses, RefusedUpToEleven, EmptyRefused}
+
+module _ (f : List ℕ) (accepted : Accepted f) where
+  -- the working table has six entries a state
+  work-enough : 6 * states f ≤ workEntries
+  work-enough = let facts = accepted-facts f accepted in omega (arith, facts .states-range)
+
+  -- an accepted file is not refused
+  accepted-kept : inputRefusal f ≡ none
+  accepted-kept = go (leastLength (graphOf f)) refl
+    where
+      go : (o : Option ℕ) → leastLength (graphOf f) ≡ o → inputRefusal f ≡ none
+      go none e =
+          let is = search-empty f accepted sheetAsk answerEntries workEntries work-enough (enough-rounds f accepted answerEntries workEntries work-enough) e in
+          outcome-answered (inputRefusal f) (searched (graphOf f) sheetAsk) _ (is .outcome)
+      go (some l) e =
+          let facts = accepted-facts f accepted in
+          let (xs, first, long) = roll-first (graphOf f) l e in
+          let is = search-found f accepted sheetAsk answerEntries workEntries work-enough (enough-rounds f accepted answerEntries workEntries work-enough) xs first
+          (omega (arith, leastLength-range (graphOf f) l e, facts .states-range)) in
+          outcome-answered (inputRefusal f) (searched (graphOf f) sheetAsk) _ (is .outcome)
+
+-- a refused file is refused with its own number
+refused-same : (f : List ℕ) (n : ℕ) → firstBroken (rules f) ≡ some n → inputRefusal f ≡ some n
+refused-same f n e =
+    broken-append (commonRules f workEntries) (listReasons f (firstDue (graphOf f) sheetAsk) answerEntries) n (common-refused f workEntries n e)
+
+-- an input is refused exactly as its file is
+pub only-the-file-refuses : OnlyTheFileRefuses
+only-the-file-refuses f = go (firstBroken (rules f)) refl
+  where
+    go : (o : Option ℕ) → firstBroken (rules f) ≡ o → inputRefusal f ≡ firstBroken (rules f)
+    go none e = accepted-kept f e ∙ sym e
+    go (some n) e = refused-same f n e ∙ sym e
+
+-- only 1 to 11 are printed behind `refused`
+pub refused-up-to-eleven : RefusedUpToEleven
+refused-up-to-eleven f n e =
+    broken-number (λ k. (1 ≤ k) × (k ≤ 11)) (rules f) (omega arith) n (sym (only-the-file-refuses f) ∙ e)
+
+-- the empty input is refused with 1
+pub empty-refused : EmptyRefused
+unfolding decimal
+empty-refused = refl

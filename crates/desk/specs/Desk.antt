@@ -1,0 +1,31 @@
+-- The text of the desk sheet program, for every input.
+use Prim.Native.Nat.{ℕ}
+use mathlib.Core.Bool.{Bool}
+use mathlib.Core.List.{List, []}
+use mathlib.Core.Option.{Option}
+use Rattle.lasso.specs.Lists.{pick}
+use Rattle.sheet.specs.Sheet.{refusal, sheetText}
+
+-- the entries of the answer table
+abbrev pub answerEntries : ℕ
+answerEntries = 4097
+
+-- the entries of the working table
+abbrev pub workEntries : ℕ
+workEntries = 24576
+
+-- the bytes of the buffer that an input is read into: one more than the longest file has
+abbrev pub inputBytes : ℕ
+inputBytes = 25115
+
+-- the reason to refuse an input, if there is one
+abbrev pub inputRefusal : List ℕ → Option ℕ
+inputRefusal input = refusal input answerEntries workEntries
+
+-- the text for an input
+abbrev pub inputText : List ℕ → List ℕ
+inputText input = sheetText input answerEntries workEntries
+
+-- the text for what was read of an input: one that could not be read to its end, since a read failed, counts as empty
+abbrev pub deskText : (failed : Bool) (read : List ℕ) → List ℕ
+deskText failed read = inputText (pick failed [] read)

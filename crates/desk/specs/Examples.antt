@@ -1,0 +1,24 @@
+-- The text of example D, as a statement.
+use Prim.Native.Nat.{ℕ}
+use mathlib.Core.Path.{_≡_}
+use mathlib.Core.List.{List, [], _∷_, _++_}
+use Rattle.desk.specs.Desk.{inputText}
+
+-- example D: N = 5, M = 7, i = 0
+abbrev pub exampleD : List ℕ
+exampleD =
+    5 ∷ 0 ∷ 7 ∷ 0 ∷ 0 ∷ 0 ∷ 0 ∷ 0 ∷ 24 ∷ 0 ∷ 0 ∷ 0 ∷ 36 ∷ 0 ∷ 0 ∷ 0 ∷ 50 ∷ 0 ∷ 0 ∷ 0 ∷ 51 ∷ 0 ∷ 0 ∷ 0 ∷ 0 ∷ 0 ∷ 2 ∷ 0 ∷ 3 ∷ 0 ∷ 4 ∷ 0 ∷ 6 ∷ 0 ∷ 7 ∷ 0 ∷ 1 ∷ 0 ∷ 2 ∷ 0 ∷ 3 ∷ 0 ∷ 3 ∷ 0 ∷ 1 ∷ 0 ∷ 2 ∷ 0 ∷ 4 ∷ 0 ∷ 24 ∷ []
+
+-- its sheet: `model 5 7`, `rounds 1`, `shortest 3`, `0 | 1 3`, `0 | 2 3`, `end 2`
+abbrev pub sheetD : List ℕ
+sheetD =
+    (109 ∷ 111 ∷ 100 ∷ 101 ∷ 108 ∷ 32 ∷ 53 ∷ 32 ∷ 55 ∷ 10 ∷ []) ++
+    (114 ∷ 111 ∷ 117 ∷ 110 ∷ 100 ∷ 115 ∷ 32 ∷ 49 ∷ 10 ∷ []) ++
+    (115 ∷ 104 ∷ 111 ∷ 114 ∷ 116 ∷ 101 ∷ 115 ∷ 116 ∷ 32 ∷ 51 ∷ 10 ∷ []) ++
+    (48 ∷ 32 ∷ 124 ∷ 32 ∷ 49 ∷ 32 ∷ 51 ∷ 10 ∷ []) ++
+    (48 ∷ 32 ∷ 124 ∷ 32 ∷ 50 ∷ 32 ∷ 51 ∷ 10 ∷ []) ++
+    (101 ∷ 110 ∷ 100 ∷ 32 ∷ 50 ∷ 10 ∷ [])
+
+-- the program's text for example D
+abbrev pub ExampleD : Type 0
+ExampleD = inputText exampleD ≡ sheetD

@@ -1,1 +1,0 @@
--- The program has no laws of its own.

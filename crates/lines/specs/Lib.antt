@@ -1,0 +1,2 @@
+-- The line of a list of states, in ASCII.
+pub mod Line
