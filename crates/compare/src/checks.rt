@@ -1,21 +1,13 @@
 // The calls on one model: steps from many records, searches with every allowance, and next after right and wrong lists.
 ghost use Prim.Native.Nat.{_≤_};
 use crate::calls;
-use crate::calls::NEXT_NO_MORE;
-use crate::calls::SEARCH_EMPTY;
 use crate::calls::Seen;
-use crate::calls::brings_list;
-use crate::calls::first_of;
-use crate::calls::kind_of;
-use crate::exhaustive::Truth;
 use crate::expected;
 use crate::lists::Earlier;
 use crate::lists::near;
 use crate::lists::random_list;
 use crate::lists::seed_of;
 use crate::lists::tables_for;
-use crate::models::Model;
-use crate::models::drawn;
 use crate::tally::DIFFERENCES;
 use crate::tally::ENTRIES;
 use crate::tally::LISTS;
@@ -25,6 +17,14 @@ use crate::tally::STEPS;
 use crate::tally::add;
 use crate::tally::add_if;
 use crate::tally::compare;
+use exhaustive::Model;
+use exhaustive::Truth;
+use exhaustive::drawn;
+use trials::NEXT_NO_MORE;
+use trials::SEARCH_EMPTY;
+use trials::brings_list;
+use trials::first_of;
+use trials::kind_of;
 
 // A working table's length for so many states: one entry too short, or with up to five entries more than needed.
 fn room(states: usize, short: bool, more: usize) -> usize

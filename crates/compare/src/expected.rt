@@ -1,34 +1,30 @@
 // What the calls must answer, from what the exhaustive search found.
 ghost use Prim.Native.Nat.{_≤_};
-use crate::calls::NEXT_FOUND;
-use crate::calls::NEXT_NO_MORE;
-use crate::calls::NEXT_REFUSED;
-use crate::calls::NO_LENGTH;
-use crate::calls::SEARCH_EMPTY;
-use crate::calls::SEARCH_FOUND;
-use crate::calls::SEARCH_REFUSED;
-use crate::calls::SEARCH_STOPPED;
-use crate::calls::STEP_ADVANCED;
-use crate::calls::STEP_FINISHED;
-use crate::calls::STEP_REFUSED;
 use crate::calls::Seen;
-use crate::calls::code_of;
-use crate::digits::digit;
-use crate::digits::front;
-use crate::digits::holds;
-use crate::digits::size;
-use crate::exhaustive::Truth;
-use crate::exhaustive::loop_states;
+use exhaustive::Truth;
+use exhaustive::digit;
+use exhaustive::front;
+use exhaustive::loop_states;
+use exhaustive::member;
+use exhaustive::size;
+use trials::NEXT_FOUND;
+use trials::NEXT_NO_MORE;
+use trials::NEXT_REFUSED;
+use trials::NO_LENGTH;
+use trials::SEARCH_EMPTY;
+use trials::SEARCH_FOUND;
+use trials::SEARCH_REFUSED;
+use trials::SEARCH_STOPPED;
+use trials::STEP_ADVANCED;
+use trials::STEP_FINISHED;
+use trials::STEP_REFUSED;
+use trials::code_of;
 
-// The number of candidates, of which there are never more than 64.
+// The number of candidates.
 pub fn rounds(t: Truth) -> usize
     ensures { λ r. ⌜ r ≤ 64 ⌝ }
 {
-    let count = size(t.candidates);
-    if 64 < count {
-        return 64;
-    }
-    count
+    size(t.candidates)
 }
 
 // The lesser of two figures.
@@ -39,27 +35,11 @@ fn lesser(a: u64, b: u64) -> u64 {
     b
 }
 
-// The candidate at a place, or 8 if there are not so many.
-fn candidate(candidates: u64, place: usize) -> usize {
-    let mut left = place;
-    let mut state = 0;
-    while state < 8 {
-        if holds(candidates, state) {
-            if left == 0 {
-                return state;
-            }
-            left -= 1;
-        }
-        state += 1;
-    }
-    8
-}
-
 // The figure of the length of the round at a place; no length also if there is no such round.
 pub fn round_at(t: Truth, place: usize) -> u64
     ensures { λ r. ⌜ r ≤ 65536 ⌝ }
 {
-    let found = digit(t.lengths, candidate(t.candidates, place));
+    let found = digit(t.lengths, member(t.candidates, place));
     if found == 0 {
         return NO_LENGTH;
     }
