@@ -1,17 +1,17 @@
 // A step, a search and next on a file, each with tables of its own, and their answers in print.
 ghost use Prim.Native.Nat.{_≤_};
+use harness::NO_LENGTH;
 use harness::NONE;
 use harness::VARIED;
 use harness::entries;
 use harness::fill;
+use harness::first_of;
+use harness::kind_of;
 use harness::say;
+use harness::second_of;
+use harness::third_of;
+use harness::written;
 use table::put;
-use trials::NO_LENGTH;
-use trials::first_of;
-use trials::kind_of;
-use trials::second_of;
-use trials::third_of;
-use trials::written;
 use trials::wrong_answer;
 use trials::wrong_work;
 

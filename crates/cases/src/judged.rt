@@ -1,6 +1,6 @@
 // How many tables were looked at after a call, and how many of them were not as they should be.
 use crate::calls::Answers;
-use trials::wrong_of;
+use harness::wrong_of;
 
 pub struct Judged {
     pub looked: u64,

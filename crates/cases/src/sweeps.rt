@@ -10,9 +10,9 @@ use crate::model::File;
 use harness::byte_at;
 use harness::part;
 use harness::put_byte;
+use harness::refusal_of;
 use harness::say;
 use harness::text;
-use trials::refusal_of;
 
 // Sixteen counts for the step, sixteen for the search, sixteen for next: first the calls that were not refused, then the
 // refusals by their number.

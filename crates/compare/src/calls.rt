@@ -2,13 +2,8 @@
 ghost use Prim.Native.Nat.{_≤_};
 use crate::tables::list_in;
 use crate::tables::put_list;
-use trials::written;
-
-// What a call answered, as one number, and the list that it wrote, 0 if it wrote none.
-pub struct Seen {
-    pub code: u64,
-    pub list: u64,
-}
+use exhaustive::Seen;
+use harness::written;
 
 // A step from a record, with room for so many entries in the working table.
 pub fn step(file: &[u8], done: u16, best: u64, room: usize) -> Seen

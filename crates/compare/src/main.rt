@@ -2,8 +2,6 @@
 // many pseudo-random ones of four to seven, and prints how many answers of each kind were compared.
 mod calls;
 mod checks;
-mod expected;
-mod lists;
 mod report;
 mod tables;
 mod tally;

@@ -1,7 +1,7 @@
 // The counts that are printed, and the comparison that counts differences.
-use crate::calls::Seen;
-use trials::kind_of;
-use trials::refusal_of;
+use exhaustive::Seen;
+use harness::kind_of;
+use harness::refusal_of;
 
 // Places in the tally, in the order in which they are printed: models by their number of states, models by the least
 // length, models with several lists, steps, searches and nexts with the kinds of their answers after each, refusals with

@@ -1,9 +1,32 @@
-// Test support: prints texts with numbers, fills tables and looks at them, makes model files, reads lines of text.
+// Test support: answers as one number, texts with numbers in print, tables that are filled and looked at, model files,
+// and lines of text that are read.
+mod answer;
 mod files;
 mod print;
 mod reading;
 mod tables;
 
+pub use answer::NEXT_FOUND;
+pub use answer::NEXT_NO_MORE;
+pub use answer::NEXT_REFUSED;
+pub use answer::NO_LENGTH;
+pub use answer::SEARCH_EMPTY;
+pub use answer::SEARCH_FOUND;
+pub use answer::SEARCH_REFUSED;
+pub use answer::SEARCH_STOPPED;
+pub use answer::STEP_ADVANCED;
+pub use answer::STEP_FINISHED;
+pub use answer::STEP_REFUSED;
+pub use answer::brings_list;
+pub use answer::code_of;
+pub use answer::first_of;
+pub use answer::kind_of;
+pub use answer::refusal_of;
+pub use answer::second_of;
+pub use answer::third_of;
+pub use answer::with_wrong;
+pub use answer::written;
+pub use answer::wrong_of;
 pub use files::example_d;
 pub use files::header_word;
 pub use files::put_byte;

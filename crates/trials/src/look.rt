@@ -1,11 +1,11 @@
 // The look at the tables after a call, which were filled with varied numbers before it.
 ghost use Prim.Native.Nat.{_≤_};
-use crate::answer::refusal_of;
-use crate::answer::with_wrong;
-use crate::answer::written;
 use harness::VARIED;
 use harness::ZEROS;
 use harness::holds;
+use harness::refusal_of;
+use harness::with_wrong;
+use harness::written;
 
 // 0 if a table holds its filling from a place on, else 1.
 fn unlike(table: &[u16], from: usize, filling: usize) -> u64

@@ -1,9 +1,9 @@
--- `compare::expected::place_after` meets its contract. Each place that is read is in the roll.
+-- `exhaustive::expected::place_after` meets its contract. Each place that is read is in the roll.
 use borrow.Author.Needs.{needs}
 use Prim.Native.Nat.{_-_, _≤_}
 use lib.ListN.{length}
-use Rattle.compare.proofs.expected.place_after.Statement.{statement}
-use Rattle.compare.proofs.expected.place_after.Tie as tie
+use Rattle.exhaustive.proofs.expected.place_after.Statement.{statement}
+use Rattle.exhaustive.proofs.expected.place_after.Tie as tie
 
 abbrev Inv-loop : tie.InvT-loop
 Inv-loop roll lists list place₀ place = place ≤ length roll

@@ -1,11 +1,11 @@
 // The lists that next is lent: right ones, wrong ones near a right one, and pseudo-random ones.
 ghost use Prim.Native.Nat.{_<_, _≤_};
-use exhaustive::Model;
-use exhaustive::and;
-use exhaustive::drawn;
-use exhaustive::front;
-use exhaustive::last;
-use exhaustive::with_digit;
+use crate::digits::and;
+use crate::digits::front;
+use crate::digits::last;
+use crate::digits::with_digit;
+use crate::models::Model;
+use crate::models::drawn;
 
 // A list with so many entries.
 pub struct Earlier {

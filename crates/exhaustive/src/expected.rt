@@ -1,24 +1,29 @@
 // What the calls must answer, from what the exhaustive search found.
 ghost use Prim.Native.Nat.{_≤_};
-use crate::calls::Seen;
-use exhaustive::Truth;
-use exhaustive::digit;
-use exhaustive::front;
-use exhaustive::loop_states;
-use exhaustive::member;
-use exhaustive::size;
-use trials::NEXT_FOUND;
-use trials::NEXT_NO_MORE;
-use trials::NEXT_REFUSED;
-use trials::NO_LENGTH;
-use trials::SEARCH_EMPTY;
-use trials::SEARCH_FOUND;
-use trials::SEARCH_REFUSED;
-use trials::SEARCH_STOPPED;
-use trials::STEP_ADVANCED;
-use trials::STEP_FINISHED;
-use trials::STEP_REFUSED;
-use trials::code_of;
+use crate::digits::digit;
+use crate::digits::front;
+use crate::digits::member;
+use crate::digits::size;
+use crate::search::Truth;
+use crate::search::loop_states;
+use harness::NEXT_FOUND;
+use harness::NEXT_NO_MORE;
+use harness::NEXT_REFUSED;
+use harness::NO_LENGTH;
+use harness::SEARCH_EMPTY;
+use harness::SEARCH_FOUND;
+use harness::SEARCH_REFUSED;
+use harness::SEARCH_STOPPED;
+use harness::STEP_ADVANCED;
+use harness::STEP_FINISHED;
+use harness::STEP_REFUSED;
+use harness::code_of;
+
+// What a call answers, as one number, and the list that it writes, 0 if it writes none.
+pub struct Seen {
+    pub code: u64,
+    pub list: u64,
+}
 
 // The number of candidates.
 pub fn rounds(t: Truth) -> usize

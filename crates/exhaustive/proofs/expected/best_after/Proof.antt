@@ -1,8 +1,8 @@
--- `compare::expected::best_after` meets its contract. The loop goes through the rounds.
+-- `exhaustive::expected::best_after` meets its contract. The loop goes through the rounds.
 use borrow.Author.Needs.{needs}
 use Prim.Native.Nat.{_-_, _≤_}
-use Rattle.compare.proofs.expected.best_after.Statement.{statement}
-use Rattle.compare.proofs.expected.best_after.Tie as tie
+use Rattle.exhaustive.proofs.expected.best_after.Statement.{statement}
+use Rattle.exhaustive.proofs.expected.best_after.Tie as tie
 
 abbrev Inv-loop : tie.InvT-loop
 Inv-loop t count best₀ place₀ best place = place ≤ count
