@@ -1,64 +1,83 @@
-// Runs the cases of a text, one a line: a name, a model, what is changed in its file, the tables and the list that are
-// lent. Each line is answered by a line with what a step, a search and next answer.
+// Runs a case that is written as a line: a name, a model, what is changed in its file, the tables and the list that are
+// lent. What a step, a search and next answer is printed, or counted where the line stands for many calls.
 ghost use Prim.Native.Nat.{_≤_, _<_};
 ghost use lib.ListN.{length};
-use crate::files::front;
-use crate::files::put_model;
-use crate::files::set16;
-use crate::report::show;
-use crate::report::title;
-use crate::script::byte_at;
-use crate::script::digits;
-use crate::script::find;
-use crate::script::next_number;
-use crate::script::part;
-use crate::script::skip;
-use crate::tally::Tally;
+use crate::calls::Figures;
+use crate::judged::Judged;
+use crate::model::File;
+use crate::model::put_model;
+use crate::sweeps::changes;
+use crate::sweeps::lengths;
+use crate::sweeps::once;
+use harness::Reading;
+use harness::byte_at;
+use harness::digits;
+use harness::find;
+use harness::next_number;
+use harness::part;
+use harness::put16;
+use harness::say;
+use harness::skip;
+use harness::text;
 use table::put;
 
-// The buffer for a file, and the largest tables that a model can need.
-type File = [u8; 25200];
-
+// The longest list that a model can have.
 type List = [u16; 4097];
 
-type Work = [u16; 24576];
-
-// What a line says in numbers: the file's size, the search's allowance, and the entries of the tables that are lent.
-struct Figures {
-    size: usize,
-    allowance: usize,
-    room: usize,
-    entries: usize,
-    next: usize,
+// A number that is at most as large as there is room for; one that had to be cut shows in print.
+fn within(value: usize, most: usize) -> usize
+    ensures { λ r. ⌜ r ≤ most ⌝ }
+{
+    if value <= most {
+        return value;
+    }
+    text(b" cut");
+    most
 }
 
-// The four numbers from a place on.
-fn read_figures(line: &[u8], from: usize) -> Figures
-    requires { ⌜ from ≤ length (now line) ⌝ }
-    ensures { λ r. ⌜ r .next ≤ length (now (line .entry)) ⌝ }
+// A case's size, allowance and entries, from four places of a line.
+fn figures_at(line: &[u8], from: usize, size: usize, shown: bool) -> Figures
+    requires { ⌜ (size ≤ length (now line)) ⌝ }
+    ensures { λ r. ⌜ (r .size ≤ 25200) × (r .room ≤ 4097) × (r .entries ≤ 24576) ⌝ }
 {
-    let size = next_number(line, from);
-    let allowance = next_number(line, size.next);
+    let bytes = next_number(line, size);
+    let allowance = next_number(line, bytes.next);
     let room = next_number(line, allowance.next);
     let entries = next_number(line, room.next);
     Figures {
-        size: size.value,
-        allowance: allowance.value,
-        room: room.value,
-        entries: entries.value,
-        next: entries.next,
+        from: from,
+        size: within(bytes.value, 25200),
+        allowance: (allowance.value % 65536) as u16,
+        room: within(room.value, 4097),
+        entries: within(entries.value, 24576),
+        shown: shown,
     }
+}
+
+// The place behind so many numbers from a place on.
+fn behind(line: &[u8], from: usize, count: usize) -> usize
+    requires { ⌜ from ≤ length (now line) ⌝ }
+    ensures { λ r. ⌜ r ≤ length (now (line .entry)) ⌝ }
+{
+    let mut place = from;
+    let mut left = count;
+    while 0 < left {
+        let number = next_number(line, place);
+        place = number.next;
+        left -= 1;
+    }
+    place
 }
 
 // Changes a 16-bit number of the file.
 fn change(file: &mut File, at: usize, value: usize) {
     if at < 65000 {
-        set16(file, at, value);
+        put16(file, at, value);
     }
 }
 
 // Makes the changes that a part of a line lists: pairs of a place and the 16-bit number to stand there.
-fn changes(pairs: &[u8], file: &mut File) {
+fn put_changes(pairs: &[u8], file: &mut File) {
     let mut p = skip(pairs, 0);
     while p < pairs.len() {
         let at = digits(pairs, p);
@@ -78,24 +97,26 @@ fn enter(list: &mut List, at: usize, state: usize) {
     }
 }
 
-// Reads a list of states; answers how many there are.
-fn states(numbers: &[u8], list: &mut List) -> usize {
+// Reads the list of states from a place of a line on; answers how many there are.
+fn put_states(line: &[u8], from: usize, list: &mut List) -> usize
+    requires { ⌜ from ≤ length (now line) ⌝ }
+{
     let mut n = 0;
-    let mut p = skip(numbers, 0);
-    while p < numbers.len() {
-        let state = digits(numbers, p);
+    let mut p = skip(line, from);
+    while p < line.len() {
+        let state = digits(line, p);
         if state.next <= p {
             return n;
         }
         enter(list, n, state.value);
         n += 1;
-        p = skip(numbers, state.next);
+        p = skip(line, state.next);
     }
     n
 }
 
 // The first states of the ring of 4,096, round and round.
-fn ring_states(count: usize, list: &mut List)
+fn put_ring(count: usize, list: &mut List)
     requires { ⌜ count < 100000 ⌝ }
 {
     let mut i = 0;
@@ -105,14 +126,16 @@ fn ring_states(count: usize, list: &mut List)
     }
 }
 
-// The list that the end of a line gives: states, or `ring` and how many states of the ring.
-fn lent_list(words: &[u8], list: &mut List) -> usize {
-    if byte_at(words, 1) == b'r' {
-        let count = next_number(words, 0);
-        ring_states(count.value, list);
-        return count.value;
+// The list that the end of a line gives: states, or `ring` and how many states of the ring. Answers its entries.
+fn put_list(line: &[u8], slash: usize, list: &mut List) -> usize
+    requires { ⌜ slash ≤ length (now line) ⌝ }
+{
+    if byte_behind(line, slash, 1) == b'r' {
+        let count = next_number(line, slash);
+        put_ring(count.value, list);
+        return within(count.value, 4097);
     }
-    states(words, list)
+    within(put_states(line, slash, list), 4097)
 }
 
 // The first entries of a list.
@@ -124,86 +147,94 @@ fn first(list: &[u16], count: usize) -> &[u16] {
     }
 }
 
-// The first letter of the model's name, two places behind the colon.
-fn letter_at(line: &[u8], colon: usize) -> u8 {
-    if colon < line.len() {
-        byte_at(line, colon + 2)
-    } else {
-        0
+// Runs a case on the file and with the list that it lends: once, at every length, or with every byte changed.
+fn run_lent(
+    mark: u8,
+    file: &mut File,
+    list: &List,
+    count: usize,
+    f: Figures,
+    before: Judged,
+) -> Judged
+    requires { ⌜ (f .size ≤ 25200) × (f .room ≤ 4097) × (f .entries ≤ 24576) ⌝ }
+{
+    let earlier = first(list, count);
+    match mark {
+        b'+' => lengths(file, earlier, f, before),
+        b'*' => changes(file, earlier, f, before),
+        _ => once(file, earlier, f, before),
     }
 }
 
-// A number as an allowance of 16 bits.
-fn short(value: usize) -> u16 {
-    (value % 65536) as u16
-}
-
-// Runs the case of one line.
-fn run_case(
-    line: &[u8],
-    file: &mut File,
-    list: &mut List,
-    answer: &mut List,
-    work: &mut Work,
-    tally: &mut Tally,
-) {
-    let colon = find(line, 0, b':');
-    let name = part(line, 0, colon);
-    let f = read_figures(line, colon);
-    let after = f.next;
-    let slash = find(line, after, b'/');
-    let end = line.len();
-    put_model(letter_at(line, colon), file);
-    changes(part(line, after, slash), file);
-    let count = lent_list(part(line, slash, end), list);
-    let allowance = short(f.allowance);
-    let bytes = front(file, f.size);
-    show(
-        name,
-        bytes,
-        allowance,
-        f.room,
-        f.entries,
-        first(list, count),
-        answer,
-        work,
-        tally,
-    );
-}
-
-// Runs one line: a title is printed as it stands.
-fn run_line(
-    line: &[u8],
-    file: &mut File,
-    list: &mut List,
-    answer: &mut List,
-    work: &mut Work,
-    tally: &mut Tally,
-) {
-    if byte_at(line, 0) == b'#' {
-        title(line);
-    } else {
-        run_case(line, file, list, answer, work, tally);
-    }
-}
-
-// Runs all lines of a text.
-pub fn run(script: &[u8], tally: &mut Tally) {
+// Runs a case whose model, changes and list stand at places of its line.
+fn run_parts(line: &[u8], colon: usize, end: usize, f: Figures, before: Judged) -> Judged
+    requires { ⌜ (colon ≤ length (now line)) × (end ≤ length (now line)) ⌝ }
+    requires { ⌜ (f .size ≤ 25200) × (f .room ≤ 4097) × (f .entries ≤ 24576) ⌝ }
+{
     let mut file = [0u8; 25200];
     let mut list = [0u16; 4097];
-    let mut answer = [0u16; 4097];
-    let mut work = [0u16; 24576];
-    let mut at = 0;
-    while at < script.len() {
-        let end = find(script, at, b'\n');
-        run_line(
-            part(script, at, end),
-            &mut file,
-            &mut list,
-            &mut answer,
-            &mut work,
-            tally,
-        );
-        at = end + 1;
+    let slash = find(line, end, b'/');
+    put_model(byte_behind(line, colon, 2), &mut file);
+    put_changes(part(line, end, slash), &mut file);
+    let count = put_list(line, slash, &mut list);
+    run_lent(
+        byte_behind(line, colon, 1),
+        &mut file,
+        &list,
+        count,
+        f,
+        before,
+    )
+}
+
+// The byte so many places behind a place of a line.
+fn byte_behind(line: &[u8], place: usize, more: usize) -> u8
+    requires { ⌜ more < 10 ⌝ }
+{
+    if place < line.len() {
+        return byte_at(line, place + more);
     }
+    0
+}
+
+// 0 for a case with one call each, 1 for one with many.
+fn many(mark: u8) -> usize {
+    if mark == b' ' { 0 } else { 1 }
+}
+
+// The least length and the place behind it; only the cases with every length have one.
+fn least_length(line: &[u8], colon: usize, mark: u8) -> Reading
+    requires { ⌜ colon ≤ length (now line) ⌝ }
+    ensures { λ r. ⌜ r .next ≤ length (now (line .entry)) ⌝ }
+{
+    if mark == b'+' {
+        return next_number(line, colon);
+    }
+    Reading {
+        value: 0,
+        next: colon,
+    }
+}
+
+// Runs a case whose name ends at a place. Behind the colon a blank stands for one call each, `+` for every length from
+// one up to another, which has one number more, and `*` for every byte changed to every other value.
+fn run_case(line: &[u8], colon: usize, before: Judged) -> Judged
+    requires { ⌜ colon ≤ length (now line) ⌝ }
+{
+    let mark = byte_behind(line, colon, 1);
+    let from = least_length(line, colon, mark);
+    text(part(line, 0, colon));
+    say(b":|\n", many(mark), &[]);
+    let f = figures_at(line, from.value, from.next, mark == b' ');
+    run_parts(line, colon, behind(line, from.next, 4), f, before)
+}
+
+// Runs a line. One that begins with `#` is printed as it stands.
+pub fn run_line(line: &[u8], before: Judged) -> Judged {
+    if byte_at(line, 0) == b'#' {
+        text(line);
+        text(b"\n");
+        return before;
+    }
+    run_case(line, find(line, 0, b':'), before)
 }

@@ -1,38 +1,41 @@
-// Runs the cases that it reads, and then example D at every length and with every byte changed; prints what the calls
-// answer, and how many tables were not as they should be after a call.
+// Runs the cases that it reads: prints what step, search and next answer, and how many tables were not as they should be
+// after a call.
 mod calls;
-mod files;
+mod judged;
 mod lines;
-mod report;
-mod script;
+mod model;
 mod sweeps;
-mod tally;
 
 use calls::spoilt;
-use files::front;
+use harness::find;
+use harness::part;
+use harness::say;
+use judged::Judged;
 use libc::STDIN_FILENO;
-use lines::run;
-use report::number;
-use report::text;
-use sweeps::sweep_cases;
-use tally::LOOKED;
-use tally::WRONG;
-use tally::amount;
+use lines::run_line;
 
-// Prints a name and a number on a line.
-fn line(name: &[u8], value: u64) {
-    text(name);
-    number(value);
-    text(b"\n");
+// Runs all lines of a text.
+fn run(script: &[u8]) -> Judged {
+    let mut so_far = Judged {
+        looked: 0,
+        wrong: 0,
+    };
+    let mut at = 0;
+    while at < script.len() {
+        let end = find(script, at, b'\n');
+        so_far = run_line(part(script, at, end), so_far);
+        at = end + 1;
+    }
+    so_far
 }
 
 fn main() {
     let mut input = [0u8; 20000];
-    let mut tally = [0u64; 50];
     let got = io::read_full(STDIN_FILENO, &mut input);
-    run(front(&input, got), &mut tally);
-    sweep_cases(&mut tally);
-    line(b"spoilt tables noticed", spoilt());
-    line(b"tables looked at", amount(&tally, LOOKED));
-    line(b"tables wrong", amount(&tally, WRONG));
+    let all = run(&input[..got]);
+    say(
+        b"spoilt tables noticed #\ntables looked at #\ntables wrong #\n",
+        0,
+        &[spoilt(), all.looked, all.wrong],
+    );
 }

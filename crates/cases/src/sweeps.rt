@@ -1,202 +1,134 @@
-// Example D at every length up to 25,115 bytes, and with every byte changed to every other value. The answers are
-// counted by call and number.
-ghost use Prim.Native.Nat.{_<_};
-use crate::calls::next_number;
-use crate::calls::search_number;
-use crate::calls::step_number;
-use crate::calls::try_next;
-use crate::calls::try_search;
-use crate::calls::try_step;
-use crate::files::D_SIZE;
-use crate::files::EDGE_COUNT;
-use crate::files::STATE_COUNT;
-use crate::files::TOTAL_SIZE;
-use crate::files::example_d;
-use crate::files::front;
-use crate::files::set8;
-use crate::files::set16;
-use crate::report::number;
-use crate::report::text;
-use crate::report::title;
-use crate::script::byte_at;
-use crate::tally::OF_NEXT;
-use crate::tally::OF_SEARCH;
-use crate::tally::OF_STEP;
-use crate::tally::Tally;
-use crate::tally::amount;
-use crate::tally::count;
-use crate::tally::restart;
+// A file once, at every length, and with every byte changed to every other value. The answers of the last two
+// are counted by call and number.
+ghost use Prim.Native.Nat.{_≤_, _<_};
+use crate::calls::Answers;
+use crate::calls::Figures;
+use crate::calls::try_all;
+use crate::judged::Judged;
+use crate::judged::and;
+use crate::model::File;
+use harness::byte_at;
+use harness::part;
+use harness::put_byte;
+use harness::refusal_of;
+use harness::say;
+use harness::text;
 
-// A buffer for a file of any length up to one byte more than the longest.
-type Buffer = [u8; 25115];
+// Sixteen counts for the step, sixteen for the search, sixteen for next: first the calls that were not refused, then the
+// refusals by their number.
+type Counts = [u64; 48];
 
-// Counts an answer by its call and its number.
-fn note(tally: &mut Tally, call: usize, refusal: usize)
-    requires { ⌜ call < 64 ⌝ }
+// Counts an answer of the call whose counts begin at a place.
+fn count(counts: &mut Counts, call: usize, code: u64)
+    requires { ⌜ call ≤ 32 ⌝ }
 {
+    let refusal = refusal_of(code);
     if refusal < 16 {
-        count(tally, call + refusal);
+        let old = counts[call + refusal];
+        if old < 1000000000 {
+            counts[call + refusal] = old + 1;
+        }
     }
 }
 
-// A step on a file, counted.
-fn count_step(file: &[u8], tally: &mut Tally) {
-    let mut work = [0u16; 30];
-    let result = try_step(file, &mut work, tally);
-    note(tally, OF_STEP, step_number(result));
+// Counts the answers of three calls.
+fn note(counts: &mut Counts, answers: Answers) {
+    count(counts, 0, answers.step);
+    count(counts, 16, answers.search);
+    count(counts, 32, answers.next);
 }
 
-// A search on a file, counted.
-fn count_search(file: &[u8], tally: &mut Tally) {
-    let mut answer = [0u16; 6];
-    let mut work = [0u16; 30];
-    let result = try_search(file, 65535, &mut answer, &mut work, tally);
-    note(tally, OF_SEARCH, search_number(result));
+// 0 for what was not refused, 1 for a refusal.
+fn refused(refusal: usize) -> usize {
+    if refusal == 0 { 0 } else { 1 }
 }
 
-// A call of next on a file after the first list of D, counted.
-fn count_next(file: &[u8], tally: &mut Tally) {
-    let mut answer = [0u16; 6];
-    let mut work = [0u16; 30];
-    let earlier = [0u16, 1, 3, 1];
-    let result = try_next(file, &earlier, &mut answer, &mut work, tally);
-    note(tally, OF_NEXT, next_number(result));
-}
-
-// The three calls on one file, counted.
-fn try_all(file: &[u8], tally: &mut Tally) {
-    count_step(file, tally);
-    count_search(file, tally);
-    count_next(file, tally);
-}
-
-// Prints one of the counts behind its name.
-fn column(name: &[u8], tally: &Tally, at: usize) {
-    text(name);
-    number(amount(tally, at));
-}
-
-// Prints the name of a number's line.
-fn row_name(refusal: usize) {
-    if refusal == 0 {
-        text(b"  not refused:");
-    } else {
-        text(b"  refused");
-        number(refusal as u64);
-        text(b":");
-    }
-}
-
-// Prints the counts of one number: the step's, the search's and those of next.
-fn counts_of(refusal: usize, tally: &Tally)
+// Prints the counts of one number, if it occurs: the step's, the search's and those of next.
+fn show_number(counts: &Counts, refusal: usize)
     requires { ⌜ refusal < 16 ⌝ }
 {
-    row_name(refusal);
-    column(b" step", tally, OF_STEP + refusal);
-    column(b", search", tally, OF_SEARCH + refusal);
-    column(b", next", tally, OF_NEXT + refusal);
-    text(b"\n");
-}
-
-// Some call was answered with this number.
-fn occurs(refusal: usize, tally: &Tally) -> bool
-    requires { ⌜ refusal < 16 ⌝ }
-{
-    if 0 < amount(tally, OF_STEP + refusal) {
-        return true;
+    let a = counts[refusal];
+    let b = counts[16 + refusal];
+    let c = counts[32 + refusal];
+    if a | b | c == 0 {
+        return;
     }
-    if 0 < amount(tally, OF_SEARCH + refusal) {
-        return true;
-    }
-    0 < amount(tally, OF_NEXT + refusal)
+    say(
+        b"  not refused|  refused #",
+        refused(refusal),
+        &[refusal as u64],
+    );
+    say(b": step #, search #, next #\n", 0, &[a, b, c]);
 }
 
 // Prints a line for each number that occurs.
-fn all_counts(tally: &Tally) {
+fn show_counts(counts: &Counts) {
     let mut refusal = 0;
     while refusal < 16 {
-        if occurs(refusal, tally) {
-            counts_of(refusal, tally);
-        }
+        show_number(counts, refusal);
         refusal += 1;
     }
 }
 
-// The first bytes of a buffer, at every length from one up to another.
-fn lengths(name: &[u8], file: &Buffer, from: usize, to: usize, tally: &mut Tally)
-    requires { ⌜ to < 65536 ⌝ }
+// The three calls on the first bytes of a buffer, on a line.
+pub fn once(file: &File, earlier: &[u16], f: Figures, before: Judged) -> Judged
+    requires { ⌜ (f .size ≤ 25200) × (f .room ≤ 4097) × (f .entries ≤ 24576) ⌝ }
 {
-    restart(tally);
-    let mut size = from;
-    while size <= to {
-        try_all(front(file, size), tally);
+    let answers = try_all(part(file, 0, f.size), earlier, f);
+    text(b"\n");
+    and(before, answers)
+}
+
+// The first bytes of a buffer, at every length from the least up to the greatest.
+pub fn lengths(file: &File, earlier: &[u16], f: Figures, before: Judged) -> Judged
+    requires { ⌜ (f .size ≤ 25200) × (f .room ≤ 4097) × (f .entries ≤ 24576) ⌝ }
+{
+    let mut counts = [0u64; 48];
+    let mut so_far = before;
+    let mut size = f.from;
+    while size <= f.size {
+        let answers = try_all(part(file, 0, size), earlier, f);
+        note(&mut counts, answers);
+        so_far = and(so_far, answers);
         size += 1;
     }
-    title(name);
-    all_counts(tally);
+    show_counts(&counts);
+    so_far
 }
 
-// Example D cut short and made longer.
-fn lengths_of_d(file: &mut Buffer, tally: &mut Tally) {
-    example_d(file);
-    lengths(b"D, first 0 to 23 bytes", file, 0, 23, tally);
-    lengths(b"D, first 24 to 50 bytes", file, 24, 50, tally);
-    lengths(b"D, all 51 bytes", file, 51, 51, tally);
-    lengths(
-        b"D, made longer to 52 up to 25,115 bytes",
-        file,
-        52,
-        25115,
-        tally,
-    );
+// The three calls with the byte at a place changed to a value; the old one is put back afterwards.
+fn with_value(
+    file: &mut File,
+    at: usize,
+    value: usize,
+    old: usize,
+    earlier: &[u16],
+    f: Figures,
+) -> Answers
+    requires { ⌜ (f .size ≤ 25200) × (f .room ≤ 4097) × (f .entries ≤ 24576) ⌝ }
+{
+    put_byte(file, at, value);
+    let answers = try_all(part(file, 0, f.size), earlier, f);
+    put_byte(file, at, old);
+    answers
 }
 
-// The same with headers that are wrong at every length.
-fn lengths_of_others(file: &mut Buffer, tally: &mut Tally) {
-    set16(file, TOTAL_SIZE, 60);
-    lengths(b"D with total length 60, 0 to 72 bytes", file, 0, 72, tally);
-    set16(file, EDGE_COUNT, 8193);
-    lengths(b"D with M 8193 as well, 0 to 72 bytes", file, 0, 72, tally);
-    set16(file, STATE_COUNT, 4097);
-    lengths(b"D with N 4097 as well, 0 to 72 bytes", file, 0, 72, tally);
-}
-
-// Example D with the byte at one place changed to a value, unless it has that value already.
-fn with_value(at: usize, value: usize, tally: &mut Tally) {
-    let mut file = [0u8; 51];
-    example_d(&mut file);
-    if byte_at(&file, at) as usize == value {
-        return;
+// Every one of the first bytes of a buffer changed to every other value.
+pub fn changes(file: &mut File, earlier: &[u16], f: Figures, before: Judged) -> Judged
+    requires { ⌜ (f .size ≤ 25200) × (f .room ≤ 4097) × (f .entries ≤ 24576) ⌝ }
+{
+    let mut counts = [0u64; 48];
+    let mut so_far = before;
+    let mut turn = 0;
+    while turn < 256 * f.size {
+        let old = byte_at(file, turn / 256) as usize;
+        if old != turn % 256 {
+            let answers = with_value(file, turn / 256, turn % 256, old, earlier, f);
+            note(&mut counts, answers);
+            so_far = and(so_far, answers);
+        }
+        turn += 1;
     }
-    set8(&mut file, at, value);
-    try_all(&file, tally);
-}
-
-// Example D with the byte at one place changed to every other value.
-fn other_values(at: usize, tally: &mut Tally) {
-    let mut value = 0;
-    while value < 256 {
-        with_value(at, value, tally);
-        value += 1;
-    }
-}
-
-// Every byte of example D changed to every other value.
-fn bytes_of_d(tally: &mut Tally) {
-    restart(tally);
-    let mut at = 0;
-    while at < D_SIZE {
-        other_values(at, tally);
-        at += 1;
-    }
-    title(b"D, one byte changed, all 51 times 255 ways");
-    all_counts(tally);
-}
-
-// All of them.
-pub fn sweep_cases(tally: &mut Tally) {
-    let mut file = [0u8; 25115];
-    lengths_of_d(&mut file, tally);
-    lengths_of_others(&mut file, tally);
-    bytes_of_d(tally);
+    show_counts(&counts);
+    so_far
 }

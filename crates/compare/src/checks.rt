@@ -1,21 +1,6 @@
 // The calls on one model: steps from many records, searches with every allowance, and next after right and wrong lists.
 ghost use Prim.Native.Nat.{_≤_};
 use crate::calls;
-use crate::calls::NEXT_NO_MORE;
-use crate::calls::SEARCH_EMPTY;
-use crate::calls::Seen;
-use crate::calls::brings_list;
-use crate::calls::first_of;
-use crate::calls::kind_of;
-use crate::exhaustive::Truth;
-use crate::expected;
-use crate::lists::Earlier;
-use crate::lists::near;
-use crate::lists::random_list;
-use crate::lists::seed_of;
-use crate::lists::tables_for;
-use crate::models::Model;
-use crate::models::drawn;
 use crate::tally::DIFFERENCES;
 use crate::tally::ENTRIES;
 use crate::tally::LISTS;
@@ -25,6 +10,20 @@ use crate::tally::STEPS;
 use crate::tally::add;
 use crate::tally::add_if;
 use crate::tally::compare;
+use exhaustive::Earlier;
+use exhaustive::Model;
+use exhaustive::Seen;
+use exhaustive::Truth;
+use exhaustive::drawn;
+use exhaustive::near;
+use exhaustive::random_list;
+use exhaustive::seed_of;
+use exhaustive::tables_for;
+use harness::NEXT_NO_MORE;
+use harness::SEARCH_EMPTY;
+use harness::brings_list;
+use harness::first_of;
+use harness::kind_of;
 
 // A working table's length for so many states: one entry too short, or with up to five entries more than needed.
 fn room(states: usize, short: bool, more: usize) -> usize
@@ -69,14 +68,19 @@ fn best_for(own: u64, which: usize) -> u64
 // One step; the seventh is the one with a working table that is too short.
 fn check_step(t: Truth, file: &[u8], done: u16, which: usize, tally: &mut [u64]) {
     let short = which == 6;
-    let best = best_for(expected::round_at(t, done as usize), which);
+    let best = best_for(exhaustive::round_at(t, done as usize), which);
     let seen = calls::step(file, done, best, room(t.states, short, which));
-    compare(tally, STEPS, seen, expected::of_step(t, done, best, short));
+    compare(
+        tally,
+        STEPS,
+        seen,
+        exhaustive::of_step(t, done, best, short),
+    );
 }
 
 // Steps from every count up to one more than the candidates, and from 65,535.
 pub fn check_steps(t: Truth, file: &[u8], tally: &mut [u64]) {
-    let end = expected::rounds(t) + 2;
+    let end = exhaustive::rounds(t) + 2;
     let mut turn = 0;
     while turn < 7 * (end + 1) {
         check_step(t, file, count_for(turn / 7, end), turn % 7, tally);
@@ -115,14 +119,14 @@ fn check_search(
         tally,
         SEARCHES,
         seen,
-        expected::of_search(t, roll, allowance, entries, short),
+        exhaustive::of_search(t, roll, allowance, entries, short),
     );
     seen
 }
 
 // Searches with every allowance up to one more than the candidates, and with 65,535.
 pub fn check_searches(t: Truth, roll: &[u64], file: &[u8], tally: &mut [u64]) {
-    let end = expected::rounds(t) + 2;
+    let end = exhaustive::rounds(t) + 2;
     let mut turn = 0;
     while turn < 5 * (end + 1) {
         check_search(t, roll, file, count_for(turn / 5, end), turn % 5, tally);
@@ -154,7 +158,7 @@ fn check_next(
         tally,
         NEXTS,
         seen,
-        expected::of_next(t, roll, e.list, e.entries, entries, short),
+        exhaustive::of_next(t, roll, e.list, e.entries, entries, short),
     );
     seen
 }
@@ -253,7 +257,7 @@ pub fn check_sequence(t: Truth, roll: &[u64], file: &[u8], tally: &mut [u64]) {
             ended(t.lists, s.code, got, tally);
             return;
         }
-        received(copy_of(s), expected::list_at(roll, got), tally);
+        received(copy_of(s), exhaustive::list_at(roll, got), tally);
         s = check_next(t, roll, file, copy_of(s), 0, tally);
         got += 1;
     }

@@ -2,19 +2,13 @@
 // many pseudo-random ones of four to seven, and prints how many answers of each kind were compared.
 mod calls;
 mod checks;
-mod digits;
-mod exhaustive;
-mod expected;
-mod files;
-mod lists;
-mod models;
 mod report;
 mod tables;
 mod tally;
 
 ghost use Prim.Native.Nat.{_<_, _≤_};
+use exhaustive::Model;
 use exhaustive::Truth;
-use models::Model;
 use tally::DIFFERENCES;
 use tally::LENGTHS;
 use tally::MODELS;
@@ -51,7 +45,7 @@ fn compare_model(m: Model, states: usize, tally: &mut [u64])
 {
     let mut file = [0u8; 169];
     let mut roll = [0u64; ROLL];
-    let length = files::write(&mut file, m, states);
+    let length = exhaustive::write(&mut file, m, states);
     let t = exhaustive::explore(m, &mut roll);
     counted(states, t, tally);
     compare_file(m, t, &roll, &file[..length], tally);
@@ -62,10 +56,10 @@ fn compare_states(states: usize, tally: &mut [u64])
     requires { ⌜ 0 < states ⌝ }
     requires { ⌜ states ≤ 7 ⌝ }
 {
-    let end = models::how_many(states);
+    let end = exhaustive::how_many(states);
     let mut number = 0;
     while number < end {
-        compare_model(models::numbered(states, number), states, tally);
+        compare_model(exhaustive::numbered(states, number), states, tally);
         number += 1;
     }
 }

@@ -1,22 +1,7 @@
-// The tables that are lent to the calls: whether they hold what they must, and lists in them.
+// Lists in the tables that are lent to the calls.
 ghost use Prim.Native.Nat.{_<_};
-use crate::digits::and;
-use crate::digits::digit;
-
-// What the entries of a table hold before a call; no state has this number.
-pub const PAINT: u16 = 1000;
-
-// 0 if all entries from a place on have a value, else 1.
-pub fn unlike(table: &[u16], from: usize, value: u16) -> u64 {
-    let mut i = from;
-    while i < table.len() {
-        if table[i] != value {
-            return 1;
-        }
-        i += 1;
-    }
-    0
-}
+use exhaustive::and;
+use exhaustive::digit;
 
 // The digit that stands for an entry: its number, or 14 for what is no small number, or 15 for 65,535.
 fn digit_of(entry: usize) -> usize {

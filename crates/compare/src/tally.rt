@@ -1,8 +1,7 @@
 // The counts that are printed, and the comparison that counts differences.
-use crate::calls::Seen;
-use crate::calls::first_of;
-use crate::calls::is_refusal;
-use crate::calls::kind_of;
+use exhaustive::Seen;
+use harness::kind_of;
+use harness::refusal_of;
 
 // Places in the tally, in the order in which they are printed: models by their number of states, models by the least
 // length, models with several lists, steps, searches and nexts with the kinds of their answers after each, refusals with
@@ -14,6 +13,8 @@ pub const LENGTHS: usize = 7;
 pub const SEVERAL: usize = 15;
 
 pub const STEPS: usize = 16;
+
+const KINDS: usize = 17;
 
 pub const SEARCHES: usize = 20;
 
@@ -46,14 +47,6 @@ pub fn add_if(tally: &mut [u64], at: usize, holds: bool) {
     }
 }
 
-// The count at a place.
-pub fn count(tally: &[u64], at: usize) -> u64 {
-    if at < tally.len() {
-        return tally[at];
-    }
-    0
-}
-
 // Whether two answers are the same.
 fn same(a: Seen, b: Seen) -> bool {
     a.code == b.code && a.list == b.list
@@ -62,8 +55,9 @@ fn same(a: Seen, b: Seen) -> bool {
 // Counts a call's answer, and a difference if it is not the one that it must be.
 pub fn compare(tally: &mut [u64], calls: usize, seen: Seen, expected: Seen) {
     let code = seen.code;
+    let refusal = refusal_of(code);
     add(tally, calls, 1);
-    add(tally, kind_of(code) as usize, 1);
-    add_if(tally, REFUSED + first_of(code) % 4, is_refusal(code));
+    add(tally, KINDS + kind_of(code) as usize, 1);
+    add_if(tally, REFUSED + refusal % 4, refusal != 0);
     add_if(tally, DIFFERENCES, !same(seen, expected));
 }

@@ -1,11 +1,16 @@
 // Prints the calls of a script: each with its answer, and with the list that it brings.
 ghost use Prim.Native.Nat.{_+_, _≤_, _<_};
 ghost use lib.ListN.{length};
-use libc::STDOUT_FILENO;
+use harness::NINES;
+use harness::ZEROS;
+use harness::entries;
+use harness::entry;
+use harness::fill;
+use harness::holds;
+use harness::say;
+use harness::text;
 use player::play;
 use script::command_size;
-use table::get;
-use table::put;
 
 // The kinds of answer in a log; what is below them is the number of a refusal.
 const KINDS_FROM: usize = 100;
@@ -16,61 +21,10 @@ const FOUND: usize = 102;
 
 const EMPTY: usize = 103;
 
-// Prints some text.
-pub fn text(words: &[u8]) {
-    io::write_all(STDOUT_FILENO, words);
-}
-
-// Prints a space and a number.
-fn number(value: usize) {
-    text(b" ");
-    io::print_decimal(STDOUT_FILENO, value as u64);
-}
-
 // Prints a line of its own.
 pub fn title(words: &[u8]) {
     text(words);
     text(b"\n");
-}
-
-// The entry at a place, 0 behind the end.
-fn entry(table: &[u16], at: usize) -> usize
-    ensures { λ r. ⌜ r < 65536 ⌝ }
-{
-    if at < table.len() {
-        return get(table, at);
-    }
-    0
-}
-
-// Fills a table with nines, so that it shows what is written.
-fn dirty(table: &mut [u16]) {
-    let mut i = 0;
-    while i < table.len() {
-        put(table, i, 9);
-        i += 1;
-    }
-}
-
-// Prints the entries of a table from one place up to another.
-fn entries(table: &[u16], from: usize, to: usize) {
-    let mut i = from;
-    while i < to {
-        number(entry(table, i));
-        i += 1;
-    }
-}
-
-// All entries of a table are zero.
-fn all_zero(table: &[u16]) -> bool {
-    let mut i = 0;
-    while i < table.len() {
-        if get(table, i) != 0 {
-            return false;
-        }
-        i += 1;
-    }
-    true
 }
 
 // How many numbers the command at a place of a script has, 0 if the script is over there.
@@ -87,13 +41,10 @@ fn show_command(script: &[u16], at: usize, size: usize)
 {
     let action = entry(script, at);
     if action == 0 {
-        text(b"search");
-        number(entry(script, at + 1));
-        return;
+        return say(b"search #", 0, &[entry(script, at + 1) as u64]);
     }
     if action == 1 {
-        text(b"next with the copy");
-        return;
+        return text(b"next with the copy");
     }
     text(b"next with");
     entries(script, at + 2, at + size);
@@ -101,33 +52,30 @@ fn show_command(script: &[u16], at: usize, size: usize)
 
 // Prints the figures of a search that was stopped: the rounds done, and the best length.
 fn show_stopped(done: usize, has_best: usize, best: usize) {
-    text(b": stopped");
-    number(done);
     if has_best == 0 {
-        text(b" none");
-        return;
+        return say(b": stopped # none", 0, &[done as u64]);
     }
-    number(best);
+    say(b": stopped # #", 0, &[done as u64, best as u64]);
 }
 
 // Prints the figures of "found", where a search has one more than a next, and the list in the answer table.
 fn show_found(log: &[u16], place: usize, action: usize, answer: &[u16])
     requires { ⌜ place + 4 ≤ length (now log) ⌝ }
 {
-    let l = entry(log, place + 1);
     text(b": found");
-    entries(log, place + 1, place + 3);
     if action == 0 {
-        number(entry(log, place + 3));
+        entries(log, place + 1, place + 4);
+    } else {
+        entries(log, place + 1, place + 3);
     }
     text(b", list");
-    entries(answer, 0, l + 1);
+    entries(answer, 0, entry(log, place + 1) + 1);
 }
 
 // Prints one word and a figure.
 fn show_figure(word: &[u8], figure: usize) {
     text(word);
-    number(figure);
+    say(b" #", 0, &[figure as u64]);
 }
 
 // Prints the answer whose four numbers stand at a place of the log.
@@ -164,17 +112,16 @@ fn show_call(script: &[u16], at: usize, size: usize, log: &[u16], place: usize, 
 
 // Plays a script with room for some calls, in tables full of nines.
 fn replay(file: &[u8], script: &[u16], answer: &mut [u16], work: &mut [u16], log: &mut [u16]) {
-    dirty(answer);
-    dirty(work);
-    dirty(log);
+    fill(answer, NINES);
+    fill(work, NINES);
+    fill(log, NINES);
     play(file, script, answer, work, log);
 }
 
 // Prints whether the working table is all zero, and ends the line.
 fn show_work(work: &[u16]) {
-    if all_zero(work) {
-        text(b", working table all zero\n");
-        return;
+    if holds(work, 0, ZEROS) {
+        return text(b", working table all zero\n");
     }
     text(b", working table not all zero\n");
 }

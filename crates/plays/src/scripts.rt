@@ -1,17 +1,23 @@
 // The scripts, and the files that they are played on.
+ghost use Prim.Native.Nat.{_≤_};
 use crate::report::show;
 use crate::report::show_rest;
 use crate::report::title;
+use harness::example_d;
+use harness::part;
 
-// Plays a script on example D: 0→1, 0→2, 1→3, 2→3, 3→1, 3→2, 4→4, marks 3 and 4.
+// Plays a script on the first bytes of example D, of which there are 51.
+fn show_part(size: usize, script: &[u16], answer: &mut [u16], work: &mut [u16], log: &mut [u16])
+    requires { ⌜ size ≤ 51 ⌝ }
+{
+    let mut file = [0u8; 51];
+    example_d(&mut file);
+    show(part(&file, 0, size), script, answer, work, log);
+}
+
+// Plays a script on example D.
 fn show_d(script: &[u16], answer: &mut [u16], work: &mut [u16], log: &mut [u16]) {
-    show(
-        b"\x05\x00\x07\x00\x00\x00\x00\x00\x18\x00\x00\x00\x24\x00\x00\x00\x32\x00\x00\x00\x33\x00\x00\x00\x00\x00\x02\x00\x03\x00\x04\x00\x06\x00\x07\x00\x01\x00\x02\x00\x03\x00\x03\x00\x01\x00\x02\x00\x04\x00\x18",
-        script,
-        answer,
-        work,
-        log,
-    );
+    show_part(51, script, answer, work, log);
 }
 
 // Plays a script on the file with nine lists: 0→1, 2, 3; each of 1, 2, 3→4, 5, 6; each of 4, 5, 6→1, 2, 3; marks 4, 5, 6.
@@ -149,13 +155,7 @@ fn unknown(answer: &mut [u16], work: &mut [u16], log: &mut [u16]) {
 // A file that is refused: the working table is untouched.
 fn broken_file(answer: &mut [u16], work: &mut [u16], log: &mut [u16]) {
     title(b"D without its last byte");
-    show(
-        b"\x05\x00\x07\x00\x00\x00\x00\x00\x18\x00\x00\x00\x24\x00\x00\x00\x32\x00\x00\x00\x33\x00\x00\x00\x00\x00\x02\x00\x03\x00\x04\x00\x06\x00\x07\x00\x01\x00\x02\x00\x03\x00\x03\x00\x01\x00\x02\x00\x04\x00",
-        &[0, 65535, 1, 0],
-        answer,
-        work,
-        log,
-    );
+    show_part(50, &[0, 65535, 1, 0], answer, work, log);
 }
 
 // The scripts on the examples D and H.

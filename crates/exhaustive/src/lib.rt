@@ -1,0 +1,31 @@
+// A search written apart, which shares nothing with the finder but the bytes of the file: small models as sets in one
+// number, their files, all their accepting paths, found by following every path without repeated states, and what the
+// calls must answer.
+mod digits;
+mod expected;
+mod files;
+mod lists;
+mod models;
+mod search;
+
+pub use digits::and;
+pub use digits::digit;
+pub use expected::Seen;
+pub use expected::list_at;
+pub use expected::of_next;
+pub use expected::of_search;
+pub use expected::of_step;
+pub use expected::round_at;
+pub use expected::rounds;
+pub use files::write;
+pub use lists::Earlier;
+pub use lists::near;
+pub use lists::random_list;
+pub use lists::seed_of;
+pub use lists::tables_for;
+pub use models::Model;
+pub use models::drawn;
+pub use models::how_many;
+pub use models::numbered;
+pub use search::Truth;
+pub use search::explore;

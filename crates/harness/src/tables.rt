@@ -1,0 +1,53 @@
+// Fills tables with something before a call, and looks whether they hold it.
+ghost use Prim.Native.Nat.{_<_};
+use table::get;
+use table::put;
+
+// What a table can be filled with: zeros, nines, or numbers that are never 0 and not the same everywhere.
+pub const ZEROS: usize = 0;
+
+pub const NINES: usize = 1;
+
+pub const VARIED: usize = 2;
+
+// What stands at a place of a table with such a filling.
+fn value_at(filling: usize, at: usize) -> usize
+    ensures { λ r. ⌜ r < 65536 ⌝ }
+{
+    match filling {
+        0 => 0,
+        1 => 9,
+        _ => at % 60000 + 7,
+    }
+}
+
+// Fills a table.
+pub fn fill(table: &mut [u16], filling: usize) {
+    let mut i = 0;
+    while i < table.len() {
+        put(table, i, value_at(filling, i));
+        i += 1;
+    }
+}
+
+// Whether a table holds its filling from a place on.
+pub fn holds(table: &[u16], from: usize, filling: usize) -> bool {
+    let mut i = from;
+    while i < table.len() {
+        if get(table, i) != value_at(filling, i) {
+            return false;
+        }
+        i += 1;
+    }
+    true
+}
+
+// The entry at a place, 0 behind the end.
+pub fn entry(table: &[u16], at: usize) -> usize
+    ensures { λ r. ⌜ r < 65536 ⌝ }
+{
+    if at < table.len() {
+        return get(table, at);
+    }
+    0
+}

@@ -1,0 +1,71 @@
+// The answers of the finder, each as one number.
+use finder::NextAnswer;
+use finder::SearchAnswer;
+use finder::StepAnswer;
+use harness::NEXT_FOUND;
+use harness::NEXT_NO_MORE;
+use harness::NEXT_REFUSED;
+use harness::NO_LENGTH;
+use harness::SEARCH_EMPTY;
+use harness::SEARCH_FOUND;
+use harness::SEARCH_REFUSED;
+use harness::SEARCH_STOPPED;
+use harness::STEP_ADVANCED;
+use harness::STEP_FINISHED;
+use harness::STEP_REFUSED;
+use harness::code_of;
+use lasso::Best;
+use lasso::RoundRecord;
+use lasso::Transitions;
+
+// The figure of a best length.
+fn figure(best: Best) -> u64 {
+    match best {
+        Best::None => NO_LENGTH,
+        Best::Length(l) => l.0 as u64,
+    }
+}
+
+// The best length with a figure.
+pub fn best_of(value: u64) -> Best {
+    if value < 65536 {
+        return Best::Length(Transitions(value as u16));
+    }
+    Best::None
+}
+
+// An answer that holds a record.
+fn of_record(kind: u64, so_far: RoundRecord) -> u64 {
+    let best = so_far.best;
+    code_of(kind, so_far.done as u64, figure(best), 0)
+}
+
+// What a step answered.
+pub fn of_step(given: StepAnswer) -> u64 {
+    match given {
+        StepAnswer::Refused(n) => code_of(STEP_REFUSED, n as u64, 0, 0),
+        StepAnswer::Finished(r) => of_record(STEP_FINISHED, r),
+        StepAnswer::Advanced(r) => of_record(STEP_ADVANCED, r),
+    }
+}
+
+// What a search answered.
+pub fn of_search(given: SearchAnswer) -> u64 {
+    match given {
+        SearchAnswer::Refused(n) => code_of(SEARCH_REFUSED, n as u64, 0, 0),
+        SearchAnswer::Stopped(r) => of_record(SEARCH_STOPPED, r),
+        SearchAnswer::Found(l, k, rounds) => {
+            code_of(SEARCH_FOUND, l.0 as u64, k as u64, rounds as u64)
+        }
+        SearchAnswer::Empty(rounds) => code_of(SEARCH_EMPTY, rounds as u64, 0, 0),
+    }
+}
+
+// What next answered.
+pub fn of_next(given: NextAnswer) -> u64 {
+    match given {
+        NextAnswer::Refused(n) => code_of(NEXT_REFUSED, n as u64, 0, 0),
+        NextAnswer::Found(l, k) => code_of(NEXT_FOUND, l.0 as u64, k as u64, 0),
+        NextAnswer::NoMore => code_of(NEXT_NO_MORE, 0, 0, 0),
+    }
+}

@@ -1,0 +1,51 @@
+// The look at the tables after a call, which were filled with varied numbers before it.
+ghost use Prim.Native.Nat.{_≤_};
+use harness::VARIED;
+use harness::ZEROS;
+use harness::holds;
+use harness::refusal_of;
+use harness::with_wrong;
+use harness::written;
+
+// 0 if a table holds its filling from a place on, else 1.
+fn unlike(table: &[u16], from: usize, filling: usize) -> u64
+    ensures { λ r. ⌜ r ≤ 1 ⌝ }
+{
+    if holds(table, from, filling) {
+        return 0;
+    }
+    1
+}
+
+// 0 if the answer table is untouched from the place on where the list that was written ends, else 1.
+pub fn wrong_answer(table: &[u16], written: usize) -> u64
+    ensures { λ r. ⌜ r ≤ 1 ⌝ }
+{
+    unlike(table, written, VARIED)
+}
+
+// What the working table must hold: it is untouched after a refusal by 1 to 12, and zero after every other answer.
+fn left_after(refusal: usize) -> usize {
+    match refusal {
+        1..=12 => VARIED,
+        _ => ZEROS,
+    }
+}
+
+// 0 if the working table holds what it must after a refusal with a number, or 0 for another answer; else 1.
+pub fn wrong_work(work: &[u16], refusal: usize) -> u64
+    ensures { λ r. ⌜ r ≤ 1 ⌝ }
+{
+    unlike(work, 0, left_after(refusal))
+}
+
+// The number of an answer with what was seen of the working table.
+pub fn seen_work(code: u64, work: &[u16]) -> u64 {
+    with_wrong(code, wrong_work(work, refusal_of(code)))
+}
+
+// The number of an answer with what was seen of the answer table and of the working table.
+pub fn seen(code: u64, table: &[u16], work: &[u16]) -> u64 {
+    let wrong = wrong_answer(table, written(code));
+    with_wrong(code, wrong + wrong_work(work, refusal_of(code)))
+}
