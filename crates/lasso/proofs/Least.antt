@@ -1,7 +1,7 @@
 -- Laws of the least number with a property, if there is one; and that `seek`, `lesser`, `sum` and `leastOf` give least
 -- numbers.
 use Prim.Native.Nat.{ℕ, zero, suc, _+_, _≤_, _<_, min}
-use mathlib.Core.Path.{_≡_, refl, ap}
+use mathlib.Core.Path.{_≡_, refl, ap, subst}
 use mathlib.Core.Logic.{_⊎_, inl, inr}
 use mathlib.Core.Bool.{Bool, not}
 use mathlib.Core.List.{List, [], _∷_, _++_, List·Memᴰ, List·Memᴰ·head, List·Memᴰ·tail, List·Memᴰ·not-nil, List·Memᴰ·cases-cons}
@@ -85,8 +85,8 @@ lesser-least P Q none (some b) p q = (inr (q .0), λ n h. elim h [ inl x ↦ abs
 lesser-least P Q (some a) none p q = (inl (p .0), λ n h. elim h [ inl x ↦ p .1 n x | inr y ↦ absurd (q n y) ])
 lesser-least P Q (some a) (some b) p q = (
   elim (lt-or-ge a b) [
-    | inl l ↦ let e : min a b ≡ a = omega arith in rw e (inl (p .0))
-    | inr g ↦ let e : min a b ≡ b = omega arith in rw e (inr (q .0))
+    | inl l ↦ let e : a ≡ min a b = omega arith in subst (λ (x : ℕ). P x ⊎ Q x) e (inl (p .0))
+    | inr g ↦ let e : b ≡ min a b = omega arith in subst (λ (x : ℕ). P x ⊎ Q x) e (inr (q .0))
   ],
   λ n h. elim h [ inl x ↦ omega (arith, p .1 n x) | inr y ↦ omega (arith, q .1 n y) ],
 )
