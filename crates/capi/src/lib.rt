@@ -5,7 +5,8 @@ ghost use mathlib.Core.Path.{_≡_};
 ghost use Rattle.lasso.specs.Values.{recordOf};
 ghost use Rattle.answers.specs.Kinds.{recordGiven, figuresIn};
 ghost use Rattle.gate.specs.Gate.{asking};
-ghost use Rattle.capi.specs.Interface.{stepCall, searchCall, nextCall, answerAfterSearch, answerAfterNext, workAfterCall};
+ghost use Rattle.capi.specs.Interface.{stepCall, searchCall, nextCall};
+ghost use Rattle.capi.specs.Interface.{answerAfterSearch, answerAfterNext, workAfterCall};
 use answers::report_next;
 use answers::report_search;
 use answers::report_step;
@@ -75,7 +76,8 @@ pub extern "C" fn fahkelo_search(
 ) -> u16
     ensures value { λ r. ⌜ r ≡ searchCall (now (file .entry)) (asking allowance)
         (now (answer .entry)) (now (work .entry)) (now (out .entry)) .kind ⌝ }
-    ensures out { λ _. ⌜ now (out .exit) ≡ figuresIn (now (out .entry)) (searchCall (now (file .entry)) (asking allowance)
+    ensures out { λ _. ⌜ now (out .exit) ≡ figuresIn (now (out .entry))
+        (searchCall (now (file .entry)) (asking allowance)
         (now (answer .entry)) (now (work .entry)) (now (out .entry))) ⌝ }
     ensures answer { λ _. ⌜ now (answer .exit) ≡ answerAfterSearch (now (file .entry)) (asking allowance)
         (now (answer .entry)) (now (work .entry)) (now (out .entry)) ⌝ }

@@ -25,8 +25,8 @@ use starts::prepare;
 use table::get;
 use table::put;
 
-// What the rounds come to: stopped with the record, or all done, with the length of the shortest accepting paths, if there
-// is one, and the number of rounds.
+// What the rounds come to: stopped with the record, or all done, with the length of the shortest accepting paths, if
+// there is one, and the number of rounds.
 pub enum Begun {
     Stopped(RoundRecord),
     Empty(u16),
@@ -71,7 +71,8 @@ pub fn to_first(file: &[u8], h: Header, length: Transitions, work: &mut [u16])
 fn load(list: &[u16], work: &mut [u16])
     requires { ⌜ 1 ≤ lib.ListN.length (now list) ⌝ }
     requires { ⌜ edges (now list) ≤ lib.ListN.length (now work) ⌝ }
-    ensures { λ _. ⌜ now (work .exit) ≡ drop 1 (now (list .entry)) ++ drop (edges (now (list .entry))) (now (work .entry)) ⌝ }
+    ensures { λ _. ⌜ now (work .exit)
+        ≡ drop 1 (now (list .entry)) ++ drop (edges (now (list .entry))) (now (work .entry)) ⌝ }
 {
     let mut j = 1;
     while j < list.len() {

@@ -22,7 +22,7 @@ use Rattle.model.specs.Rules.{firstBroken, Accepted}
 use Rattle.finder.specs.Outcomes.{Outcome, refused, answered, outcome, Followed, noMore}
 use Rattle.gate.specs.Gate.{commonRules}
 use Rattle.finder.specs.Tables.{noRoom, written}
-use Rattle.finder.specs.Search.{lengthDue, unlessRefused}
+use Rattle.finder.specs.Search.{lengthDue, listReasons, unlessRefused}
 use Rattle.finder.specs.Next.{notShortest, followed, dueReasons, nextReasons, nextOutcome, nextList, nextAnswer}
 use Rattle.gate.proofs.GateLaws.{broken-append, clear-append, common-clear}
 use Rattle.finder.proofs.SearchLaws.{never-too-long}
@@ -64,6 +64,12 @@ module _ (g : Graph) (wf : WellFormed g) (l : ℕ) (least : leastLength g ≡ so
           let exact : T (eqb (edges xs) l) = eq→eqb (edges xs) l long in
           let h : T (lassoOf g xs l) = search join in
           rw e at h
+
+-- 13 decides: if the earlier list is no shortest accepting path, the reasons behind it do not count
+pub thirteen-decides : (f earlier : List ℕ) → T (notShortest (graphOf f) earlier) → (due : Option (List ℕ)) (answer : ℕ)
+    → firstBroken (dueReasons f earlier due answer) ≡ some 13
+thirteen-decides f earlier t due answer =
+    ap (λ (b : Bool). someIf b 13 (firstBroken (listReasons f due answer))) (T-true (notShortest (graphOf f) earlier) t)
 
 -- the outcome of "next", and the list that it writes
 pub record NextIs (f earlier : List ℕ) (answer work : ℕ) (o : Outcome Followed) (due : Option (List ℕ)) : Type 0 where

@@ -35,7 +35,8 @@ fn next_list(
     requires { ⌜ RoundsReady (now file) h (now work) ⌝ }
     requires { ⌜ leastLength (graphIn (now file) h) ≡ some (length .0) ⌝ }
     ensures outcome { λ r. ⌜ nextOutcomeOf r
-        ≡ nextOutcome (now (file .entry)) (now (earlier .entry)) (lib.ListN.length (now (answer .entry)))
+        ≡ nextOutcome (now (file .entry)) (now (earlier .entry))
+        (lib.ListN.length (now (answer .entry)))
         (lib.ListN.length (now (work .entry))) ⌝ }
     ensures answer { λ _. ⌜ now (answer .exit)
         ≡ nextAnswer (now (file .entry)) (now (earlier .entry)) (now (answer .entry))
@@ -72,8 +73,12 @@ pub fn next_of_model(
 ) -> NextAnswer
     requires { ⌜ Valid (now file) h ⌝ }
     requires { ⌜ 6 * h .states ≤ lib.ListN.length (now work) ⌝ }
-    ensures outcome { λ r. ⌜ nextOutcomeOf r ≡ nextOutcome (now (file .entry)) (now (earlier .entry)) (lib.ListN.length (now (answer .entry))) (lib.ListN.length (now (work .entry))) ⌝ }
-    ensures answer { λ _. ⌜ now (answer .exit) ≡ nextAnswer (now (file .entry)) (now (earlier .entry)) (now (answer .entry)) (lib.ListN.length (now (work .entry))) ⌝ }
+    ensures outcome { λ r. ⌜ nextOutcomeOf r
+        ≡ nextOutcome (now (file .entry)) (now (earlier .entry))
+        (lib.ListN.length (now (answer .entry))) (lib.ListN.length (now (work .entry))) ⌝ }
+    ensures answer { λ _. ⌜ now (answer .exit)
+        ≡ nextAnswer (now (file .entry)) (now (earlier .entry)) (now (answer .entry))
+        (lib.ListN.length (now (work .entry))) ⌝ }
     ensures kept { λ _. ⌜ lib.ListN.length (now (work .exit)) ≡ lib.ListN.length (now (work .entry)) ⌝ }
 {
     let begun = begin(file, h, ALL_ROUNDS, work);

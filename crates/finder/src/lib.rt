@@ -48,7 +48,8 @@ pub enum NextAnswer {
 
 // The record after one more round, for any record at all.
 pub fn step(file: &[u8], so_far: RoundRecord, work: &mut [u16]) -> StepAnswer
-    ensures outcome { λ r. ⌜ stepOutcomeOf r ≡ stepOutcome (now (file .entry)) (recordOf «so_far») (length (now (work .entry))) ⌝ }
+    ensures outcome { λ r. ⌜ stepOutcomeOf r
+        ≡ stepOutcome (now (file .entry)) (recordOf «so_far») (length (now (work .entry))) ⌝ }
     ensures work { λ r. ⌜ now (work .exit) ≡ workOf (now (file .entry)) (now (work .entry)) ⌝ }
 {
     let checked = admit(file, work);
@@ -64,8 +65,10 @@ pub fn step(file: &[u8], so_far: RoundRecord, work: &mut [u16]) -> StepAnswer
 
 // The first of the shortest accepting paths, written to the answer table.
 pub fn search(file: &[u8], ask: Ask, answer: &mut [u16], work: &mut [u16]) -> SearchAnswer
-    ensures outcome { λ r. ⌜ searchOutcomeOf r ≡ searchOutcome (now (file .entry)) ask (length (now (answer .entry))) (length (now (work .entry))) ⌝ }
-    ensures answer { λ r. ⌜ now (answer .exit) ≡ searchAnswer (now (file .entry)) ask (now (answer .entry)) (length (now (work .entry))) ⌝ }
+    ensures outcome { λ r. ⌜ searchOutcomeOf r
+        ≡ searchOutcome (now (file .entry)) ask (length (now (answer .entry))) (length (now (work .entry))) ⌝ }
+    ensures answer { λ r. ⌜ now (answer .exit)
+        ≡ searchAnswer (now (file .entry)) ask (now (answer .entry)) (length (now (work .entry))) ⌝ }
     ensures work { λ r. ⌜ now (work .exit) ≡ workOf (now (file .entry)) (now (work .entry)) ⌝ }
 {
     let checked = admit(file, work);
@@ -81,8 +84,11 @@ pub fn search(file: &[u8], ask: Ask, answer: &mut [u16], work: &mut [u16]) -> Se
 
 // The shortest accepting path that follows an earlier one, written to the answer table.
 pub fn next(file: &[u8], earlier: &[u16], answer: &mut [u16], work: &mut [u16]) -> NextAnswer
-    ensures outcome { λ r. ⌜ nextOutcomeOf r ≡ nextOutcome (now (file .entry)) (now (earlier .entry)) (length (now (answer .entry))) (length (now (work .entry))) ⌝ }
-    ensures answer { λ r. ⌜ now (answer .exit) ≡ nextAnswer (now (file .entry)) (now (earlier .entry)) (now (answer .entry)) (length (now (work .entry))) ⌝ }
+    ensures outcome { λ r. ⌜ nextOutcomeOf r
+        ≡ nextOutcome (now (file .entry)) (now (earlier .entry)) (length (now (answer .entry)))
+        (length (now (work .entry))) ⌝ }
+    ensures answer { λ r. ⌜ now (answer .exit)
+        ≡ nextAnswer (now (file .entry)) (now (earlier .entry)) (now (answer .entry)) (length (now (work .entry))) ⌝ }
     ensures work { λ r. ⌜ now (work .exit) ≡ workOf (now (file .entry)) (now (work .entry)) ⌝ }
 {
     let checked = admit(file, work);

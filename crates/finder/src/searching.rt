@@ -34,8 +34,13 @@ fn first_list(
     requires { ⌜ RoundsReady (now file) h (now work) ⌝ }
     requires { ⌜ leastLength (graphIn (now file) h) ≡ some (length .0) ⌝ }
     requires { ⌜ rounds ≡ lib.ListN.length (candidates (graphIn (now file) h)) ⌝ }
-    ensures outcome { λ r. ⌜ ((ask : Ask) → rounds ≤ ask .allowance → searchOutcomeOf r ≡ searchOutcome (now (file .entry)) ask (lib.ListN.length (now (answer .entry))) (lib.ListN.length (now (work .entry)))) ⌝ }
-    ensures answer { λ _. ⌜ ((ask : Ask) → rounds ≤ ask .allowance → now (answer .exit) ≡ searchAnswer (now (file .entry)) ask (now (answer .entry)) (lib.ListN.length (now (work .entry)))) ⌝ }
+    ensures outcome { λ r. ⌜ ((ask : Ask) → rounds ≤ ask .allowance
+        → searchOutcomeOf r
+        ≡ searchOutcome (now (file .entry)) ask
+        (lib.ListN.length (now (answer .entry))) (lib.ListN.length (now (work .entry)))) ⌝ }
+    ensures answer { λ _. ⌜ ((ask : Ask) → rounds ≤ ask .allowance
+        → now (answer .exit)
+        ≡ searchAnswer (now (file .entry)) ask (now (answer .entry)) (lib.ListN.length (now (work .entry)))) ⌝ }
     ensures kept { λ _. ⌜ lib.ListN.length (now (work .exit)) ≡ lib.ListN.length (now (work .entry)) ⌝ }
 {
     if 4096 < length.0 {
@@ -62,8 +67,10 @@ pub fn search_model(
 ) -> SearchAnswer
     requires { ⌜ Valid (now file) h ⌝ }
     requires { ⌜ 6 * h .states ≤ length (now work) ⌝ }
-    ensures outcome { λ r. ⌜ searchOutcomeOf r ≡ searchOutcome (now (file .entry)) ask (length (now (answer .entry))) (length (now (work .entry))) ⌝ }
-    ensures answer { λ _. ⌜ now (answer .exit) ≡ searchAnswer (now (file .entry)) ask (now (answer .entry)) (length (now (work .entry))) ⌝ }
+    ensures outcome { λ r. ⌜ searchOutcomeOf r
+        ≡ searchOutcome (now (file .entry)) ask (length (now (answer .entry))) (length (now (work .entry))) ⌝ }
+    ensures answer { λ _. ⌜ now (answer .exit)
+        ≡ searchAnswer (now (file .entry)) ask (now (answer .entry)) (length (now (work .entry))) ⌝ }
     ensures kept { λ _. ⌜ length (now (work .exit)) ≡ length (now (work .entry)) ⌝ }
 {
     let begun = begin(file, h, ask.allowance, work);

@@ -17,7 +17,8 @@ use rounds::start_distances;
 pub fn step_model(file: &[u8], h: Header, so_far: RoundRecord, work: &mut [u16]) -> StepAnswer
     requires { ⌜ Valid (now file) h ⌝ }
     requires { ⌜ 6 * h .states ≤ length (now work) ⌝ }
-    ensures outcome { λ r. ⌜ stepOutcomeOf r ≡ stepOutcome (now (file .entry)) (recordOf «so_far») (length (now (work .entry))) ⌝ }
+    ensures outcome { λ r. ⌜ stepOutcomeOf r
+        ≡ stepOutcome (now (file .entry)) (recordOf «so_far») (length (now (work .entry))) ⌝ }
     ensures kept { λ _. ⌜ length (now (work .exit)) ≡ length (now (work .entry)) ⌝ }
 {
     start_distances(file, h, work);

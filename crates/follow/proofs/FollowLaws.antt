@@ -17,7 +17,7 @@ use Rattle.lasso.proofs.Least.{isLeast-le, isLeast-has}
 use Rattle.lasso.proofs.Walk.{Walk, walk-append, walk-length, walk-end-state, seg}
 use Rattle.lasso.proofs.Distance.{dist-le, dist-walk}
 use Rattle.lasso.proofs.Lasso.{walk-ends}
-use Rattle.lasso.proofs.PlaceByPlace.{Extends}
+use Rattle.lasso.specs.Extends.{Extends}
 use Rattle.lasso.proofs.Extend.{Ahead, MarkAhead, Passed, CompletesWithin, joined-passed, extends-least-iff}
 use Rattle.frontier.specs.Regions.{entry, entryOf}
 use Rattle.walks.specs.Through.{viaMark, loopLength}

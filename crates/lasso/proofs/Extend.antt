@@ -16,7 +16,7 @@ use Rattle.lasso.proofs.Tests.{lt-or-ge, parts, join}
 use Rattle.lasso.proofs.Walk.{Run, Walk, run-append, run-path, run-last, seg}
 use Rattle.lasso.proofs.Lasso.{Lasso, lassob→lasso, lasso→lassob, walk-ends, run-end}
 use Rattle.lasso.proofs.RollLaws.{leastLength-le}
-use Rattle.lasso.proofs.PlaceByPlace.{Extends}
+use Rattle.lasso.specs.Extends.{Extends}
 
 -- The loop start is ahead: from t a walk to a state s, from there one to a marked state and back, with at least one edge.
 pub record Ahead (g : Graph) (l : ℕ) (q : List ℕ) (t : ℕ) : Type 0 where

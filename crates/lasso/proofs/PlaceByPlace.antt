@@ -13,6 +13,7 @@ use lib.Dec.{T}
 use Rattle.lasso.specs.Graph.{Graph, WellFormed, edges, lassob}
 use Rattle.lasso.specs.Roll.{leastLength, roll}
 use Rattle.lasso.specs.Following.{following}
+use Rattle.lasso.specs.Extends.{Extends}
 use Rattle.lasso.proofs.Tests.{eq-or-apart, lt-or-ge}
 use Rattle.lasso.proofs.OrderLaws.{Before, before-head, before-tail, before-cases, head-least, following-least, following-none}
 use Rattle.lasso.proofs.RollLaws.{roll-strict, roll-length, roll-lasso, lasso-in-roll, lasso-length}
@@ -72,10 +73,6 @@ between-places xs ys zs j same a d =
                 ]
           ]
     ]
-
--- some lasso of l edges begins with p
-abbrev pub Extends : Graph → ℕ → List ℕ → Type 0
-Extends g l p = (us : List ℕ) × T (lassob g (p ++ us)) × (edges (p ++ us) ≡ l)
 
 -- a lasso of l edges extends each of its beginnings
 pub lasso-extends : (g : Graph) (l : ℕ) (zs : List ℕ) → T (lassob g zs) → edges zs ≡ l → (j : ℕ) → j < length zs → Extends g l (take j zs ++ getD zs j 0 ∷ [])

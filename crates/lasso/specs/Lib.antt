@@ -6,6 +6,7 @@ pub mod Graph
 pub mod Order
 pub mod Roll
 pub mod Following
+pub mod Extends
 pub mod Distance
 pub mod Rounds
 pub mod Values

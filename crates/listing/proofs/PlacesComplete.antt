@@ -9,7 +9,7 @@ use lib.Seq.{take-append-le, take-at, getD-at, take-set-le, length-take-le}
 use lib.Dec.{T}
 use Rattle.lasso.specs.Graph.{Graph, edges, lassob}
 use Rattle.lasso.proofs.Tests.{lt-or-ge}
-use Rattle.lasso.proofs.PlaceByPlace.{Extends}
+use Rattle.lasso.specs.Extends.{Extends}
 use Rattle.model.specs.declared.Header.{Header}
 use Rattle.model.specs.Model.{graphIn}
 use Rattle.model.proofs.Laws.{Sizes, valid-sizes}

@@ -12,7 +12,8 @@ use Rattle.lasso.specs.Graph.{Graph, edgeb, pathb, edges, lassob}
 use Rattle.lasso.specs.Roll.{leastLength, ofLength}
 use Rattle.lasso.proofs.Tests.{fst, both, parts}
 use Rattle.lasso.proofs.Walk.{next, done, run-append, run-path, path-run, path-tail}
-use Rattle.lasso.proofs.PlaceByPlace.{Extends, lasso-extends}
+use Rattle.lasso.specs.Extends.{Extends}
+use Rattle.lasso.proofs.PlaceByPlace.{lasso-extends}
 use Rattle.lasso.proofs.RollLaws.{nonEmpty-some, leastLength-occurs, Occurs, roll-of, roll-lasso, lasso-length}
 use Rattle.lasso.proofs.Least.{isLeast-has}
 

@@ -11,7 +11,7 @@ use lib.ListN.{length, getD, take}
 use lib.Dec.{T, ltb, ltb→lt}
 use Rattle.lasso.specs.Graph.{Graph, ascendingb, edgeb}
 use Rattle.lasso.proofs.Tests.{fst, snd, lt-or-ge, memb-at}
-use Rattle.lasso.proofs.PlaceByPlace.{Extends}
+use Rattle.lasso.specs.Extends.{Extends}
 use Rattle.model.specs.declared.Header.{Header}
 use Rattle.model.specs.Model.{graphIn}
 use Rattle.model.proofs.Laws.{valid-well-formed}

@@ -13,7 +13,8 @@ use Rattle.lasso.specs.Graph.{pathb}
 use Rattle.lasso.specs.Roll.{roll}
 use Rattle.lasso.specs.Following.{following}
 use Rattle.lasso.proofs.Tests.{lt-or-ge}
-use Rattle.lasso.proofs.PlaceByPlace.{Extends, first-of-roll, next-of-roll, last-of-roll}
+use Rattle.lasso.specs.Extends.{Extends}
+use Rattle.lasso.proofs.PlaceByPlace.{first-of-roll, next-of-roll, last-of-roll}
 use Rattle.lasso.proofs.RollLaws.{roll-lasso}
 use Rattle.model.specs.declared.Header.{Header}
 use Rattle.model.specs.Model.{graphIn}

@@ -11,7 +11,7 @@ use lib.Dec.{T}
 use Rattle.lasso.specs.Graph.{WellFormed, edgeb, pathb}
 use Rattle.lasso.proofs.Tests.{at-memb}
 use Rattle.lasso.proofs.Walk.{path-states}
-use Rattle.lasso.proofs.PlaceByPlace.{Extends}
+use Rattle.lasso.specs.Extends.{Extends}
 use Rattle.model.specs.declared.Header.{Header}
 use Rattle.model.specs.Model.{graphIn}
 use Rattle.model.proofs.Laws.{Sizes, valid-sizes, valid-well-formed}

@@ -4,7 +4,7 @@ ghost use Prim.Native.Nat.{_*_, _≤_, _<_};
 ghost use lib.Dec.{T};
 ghost use Rattle.lasso.specs.Graph.{pathb};
 ghost use Rattle.lasso.specs.Roll.{roll};
-ghost use Rattle.lasso.proofs.PlaceByPlace.{Extends};
+ghost use Rattle.lasso.specs.Extends.{Extends};
 ghost use Rattle.model.specs.Model.{graphIn};
 ghost use Rattle.table.specs.Changes.{SameOutside};
 ghost use Rattle.follow.specs.Follow.{upTo, Prepared};

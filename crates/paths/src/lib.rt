@@ -19,7 +19,9 @@ use table::get;
 pub fn is_path(file: &[u8], h: Header, list: &[u16]) -> bool
     requires { ⌜ Valid (now file) h ⌝ }
     requires { ⌜ 1 ≤ length (now list) ⌝ }
-    ensures { λ r. ⌜ r ≡ (eqb (getD (now (list .entry)) 0 0) (h .start) && pathb (graphIn (now (file .entry)) h) (now (list .entry))) ⌝ }
+    ensures { λ r. ⌜ r
+        ≡ (eqb (getD (now (list .entry)) 0 0) (h .start)
+        && pathb (graphIn (now (file .entry)) h) (now (list .entry))) ⌝ }
 {
     if get(list, 0) != h.start {
         return false;
@@ -41,7 +43,8 @@ pub fn closes(file: &[u8], h: Header, list: &[u16]) -> bool
     requires { ⌜ Valid (now file) h ⌝ }
     requires { ⌜ 1 ≤ length (now list) ⌝ }
     requires { ⌜ (getD (now list) 0 0 ≡ h .start) × T (pathb (graphIn (now file) h) (now list)) ⌝ }
-    ensures { λ r. ⌜ r ≡ anyb (loopsb (graphIn (now (file .entry)) h) (now (list .entry))) (below (edges (now (list .entry)))) ⌝ }
+    ensures { λ r. ⌜ r
+        ≡ anyb (loopsb (graphIn (now (file .entry)) h) (now (list .entry))) (below (edges (now (list .entry)))) ⌝ }
 {
     let end = list.len() - 1;
     let last = get(list, end);
@@ -65,7 +68,9 @@ pub fn closes(file: &[u8], h: Header, list: &[u16]) -> bool
 // The list is a lasso of the given length.
 pub fn is_lasso(file: &[u8], h: Header, list: &[u16], length: Transitions) -> bool
     requires { ⌜ Valid (now file) h ⌝ }
-    ensures { λ r. ⌜ r ≡ (lassob (graphIn (now (file .entry)) h) (now (list .entry)) && eqb (edges (now (list .entry))) (length .0)) ⌝ }
+    ensures { λ r. ⌜ r
+        ≡ (lassob (graphIn (now (file .entry)) h) (now (list .entry))
+        && eqb (edges (now (list .entry))) (length .0)) ⌝ }
 {
     let entries = length.entries();
     let given = Entries(list.len());

@@ -9,12 +9,11 @@ use mathlib.Core.List.{List, [], _∷_, _++_, map, head?, List·Memᴰ, List·Me
 use mathlib.Core.Option.{Option, some, none}
 use lib.ListN.{length, take, getElem?}
 use lib.Dec.{T}
-use Rattle.lasso.specs.Lists.{pick, someIf}
+use Rattle.lasso.specs.Lists.{pick}
 use Rattle.lasso.specs.Graph.{Graph, edges}
-use Rattle.lasso.specs.Roll.{leastLength, roll}
+use Rattle.lasso.specs.Roll.{roll}
 use Rattle.lasso.specs.Rounds.{Record, candidates, afterRounds}
 use Rattle.lasso.specs.Following.{following}
-use Rattle.lasso.proofs.Tests.{T-true}
 use Rattle.lasso.proofs.Sorted.{Sorted}
 use Rattle.lasso.proofs.OrderLaws.{Before}
 use Rattle.lasso.proofs.RollLaws.{roll-strict}
@@ -23,13 +22,14 @@ use Rattle.model.specs.Rules.{firstBroken}
 use Rattle.finder.specs.Outcomes.{outcome, stopped}
 use Rattle.gate.specs.declared.Ask.{Ask}
 use Rattle.gate.specs.Gate.{commonRules, workOf}
-use Rattle.finder.specs.Tables.{tooLong, noRoom, written}
-use Rattle.finder.specs.Search.{stopsb, firstOf, lengthDue, unlessRefused, searchReasons}
+use Rattle.finder.specs.Tables.{written}
+use Rattle.finder.specs.Search.{stopsb, firstOf, unlessRefused, searchReasons}
+use Rattle.finder.proofs.NextLaws.{thirteen-decides}
 use Rattle.finder.specs.Next.{notShortest, dueReasons, followed}
 use Rattle.gate.proofs.GateLaws.{broken-append, clear-append}
 use Rattle.sequence.specs.Calls.{Call, search, next, ofSearch, ofNext, Result, finderAt, foundLength, copyOf, received}
 use Rattle.sequence.specs.Book.{listAt, page, afterSearch, afterNext, unlessRefusedℕ, bookResults, bookEnd}
-use Rattle.sequence.specs.Claim.{lastReceived, Lent, Proper, collect, listsReceived, Condition3Holds}
+use Rattle.sequence.specs.Claim.{lastReceived, Lent, Proper, addReceived, listsReceived, Condition3Holds}
 use Rattle.sequence.proofs.Places.{listAt-getElem, getElem-lt, getElem-mem, take-getElem, following-getElem, roll-entries, copy-written}
 
 -- the copy last received when h lists were: none, or the list at place h − 1
@@ -46,7 +46,7 @@ record Stands (rs : List (List ℕ)) (copy : Option (List ℕ)) (lists : List (L
 
 -- where it stands after a call that brought the list given, or none
 abbrev After : List (List ℕ) → Option (List ℕ) → List (List ℕ) → Call → Option (List ℕ) → ℕ → Type 0
-After rs copy lists c list h = Stands rs (lastReceived list copy) (collect c list lists) h
+After rs copy lists c list h = Stands rs (lastReceived list copy) (addReceived c list lists) h
 
 -- what the lists of the roll are: one entry more than edges
 abbrev Entries : List (List ℕ) → Type 0
@@ -124,8 +124,7 @@ not-shortest-refused f earlier t answer work = go (firstBroken (commonRules f wo
       13,
       λ due.
           clear-append (commonRules f work) (dueReasons f earlier due answer) e
-          ∙ ap (λ (b : Bool). someIf b 13 (someIf (tooLong (leastLength (graphOf f))) 14 (someIf (noRoom (lengthDue due) answer) 15 none)))
-          (T-true (notShortest (graphOf f) earlier) t),
+          ∙ thirteen-decides f earlier t due answer,
     )
 
 -- then it makes no difference which list is due

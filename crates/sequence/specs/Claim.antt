@@ -29,15 +29,15 @@ Proper f copy [] = Unit {0}
 Proper f copy (c ∷ cs) = Lent f copy c × Proper f (lastReceived (received (finderAt f c)) copy) cs
 
 -- the lists received from the last search that answered "found" onward: such a search begins anew, a next adds its list
-abbrev pub collect : Call → Option (List ℕ) → List (List ℕ) → List (List ℕ)
-collect c none lists = lists
-collect (search ask a w) (some xs) lists = xs ∷ []
-collect (next earlier a w) (some xs) lists = lists ++ xs ∷ []
+abbrev pub addReceived : Call → Option (List ℕ) → List (List ℕ) → List (List ℕ)
+addReceived c none lists = lists
+addReceived (search ask a w) (some xs) lists = xs ∷ []
+addReceived (next earlier a w) (some xs) lists = lists ++ xs ∷ []
 
 -- the lists received in a sequence of calls, after those received before
 abbrev pub listsReceived : List ℕ → List (List ℕ) → List Call → List (List ℕ)
 listsReceived f lists [] = lists
-listsReceived f lists (c ∷ cs) = listsReceived f (collect c (received (finderAt f c)) lists) cs
+listsReceived f lists (c ∷ cs) = listsReceived f (addReceived c (received (finderAt f c)) lists) cs
 
 -- condition 3 for a sequence at whose start no list has been received: the answers and both tables after each call are the
 -- book's, and at the end the lists received from the last search that answered "found" onward are the first h of the roll

@@ -5,7 +5,7 @@ use mathlib.Core.Path.{_≡_, _∙_, ap}
 use mathlib.Core.List.{List, [], _∷_, _++_}
 use native.Mathlib.Omega.{arith}
 use lib.ListN.{length, getD}
-use Rattle.lasso.proofs.PlaceByPlace.{Extends}
+use Rattle.lasso.specs.Extends.{Extends}
 use Rattle.model.specs.Model.{graphIn, stepsOf}
 use Rattle.table.proofs.Laws.{sameOutside-trans}
 use Rattle.follow.specs.Follow.{Decides, upTo}

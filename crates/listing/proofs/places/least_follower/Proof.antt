@@ -6,7 +6,7 @@ use mathlib.Core.Logic.{⊎-elim}
 use mathlib.Core.List.{List, [], _∷_, _++_}
 use native.Mathlib.Omega.{arith}
 use lib.ListN.{length, getD}
-use Rattle.lasso.proofs.PlaceByPlace.{Extends}
+use Rattle.lasso.specs.Extends.{Extends}
 use Rattle.model.specs.Model.{graphIn}
 use Rattle.table.proofs.Laws.{sameOutside-refl, sameOutside-trans}
 use Rattle.follow.specs.Follow.{Decides, upTo}
