@@ -9,7 +9,7 @@ from typing import NamedTuple, Optional
 
 from modelfile import MAX_BYTES, fail, read_input
 
-ROOT = os.path.dirname(os.path.dirname(os.path.abspath(__file__)))
+ROOT = os.path.dirname(os.path.dirname(os.path.dirname(os.path.abspath(__file__))))
 PROGRAM = os.path.join(ROOT, "target/bin/desk_sheet")
 CARD = os.path.join(ROOT, "docs/REFUSALS.md")
 

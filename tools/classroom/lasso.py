@@ -4,8 +4,8 @@
 import math
 from typing import NamedTuple
 
-import svgshapes as shapes
-from svgshapes import Spot
+from classroom import shapes
+from classroom.shapes import Spot
 
 
 class Fold(NamedTuple):
@@ -51,10 +51,11 @@ class Limits(NamedTuple):
     ends: int  # the states shown at each end of what is folded
 
 
-LARGE = Limits(690, 12, 18, 4)
-LARGE_WORDS = Limits(690, 10, 12, 3)
-SMALL = Limits(400, 8, 10, 3)
-SMALL_WORDS = Limits(400, 6, 7, 2)
+def limits_for(short, small):
+    """The limits of a picture: states with short labels need less room, and a small picture has less."""
+    if small:
+        return Limits(400, 8, 10, 3) if short else Limits(400, 6, 7, 2)
+    return Limits(690, 12, 18, 4) if short else Limits(690, 10, 12, 3)
 
 
 def places_to_keep(states, edges, look):
@@ -99,7 +100,7 @@ def shown_items(run, look, limits):
 
 def item_radius(item, radius):
     """The radius of a state, or of a fold."""
-    return max(radius, 30) if isinstance(item, Fold) else radius
+    return max(radius, 34) if isinstance(item, Fold) else radius
 
 
 def ring_of(loop, radius):
@@ -108,7 +109,7 @@ def ring_of(loop, radius):
     sizes = [2 * item_radius(item, radius) + gap for item in loop]
     if len(loop) == 1:
         return 1.3 * radius, [math.pi]
-    ring = max(sum(sizes) / (2 * math.pi), max(sizes) / (2 * math.sin(math.pi / len(loop))), 1.7 * radius)
+    ring = max(sum(sizes) / (2 * math.pi), max(sizes) / (2 * math.sin(math.pi / len(loop))), 2 * radius)
     turns, turn = [], math.pi
     for place, size in enumerate(sizes):
         turns.append(turn)
@@ -149,10 +150,9 @@ def places_of(stem, loop, radius, wide):
     ]
     step = 2 * max([radius, *(item_radius(item, radius) for item in stem)]) + 30
     columns = max(1, int((wide - 2 * ring - 2 * radius - 30) // step))
-    columns = min(columns, max(1, len(stem)))
-    line = stem_spots(stem, radius, columns, step, (-step, 0))
-    rows = -(-len(stem) // columns)
-    return Places(line, spots, turns, ring, centre, rows > 0 and rows % 2 == 0)
+    rows = 1 if len(stem) <= 1.3 * columns else -(-len(stem) // columns)
+    line = stem_spots(stem, radius, max(1, -(-len(stem) // rows)), step, (-step, 0))
+    return Places(line, spots, turns, ring, centre, rows % 2 == 0)
 
 
 def box_of(places):
@@ -175,16 +175,15 @@ def box_of(places):
 # The picture.
 
 
-def fold_lines(item):
+def fold_words(item):
     """The words in a fold."""
-    lines = [f"{item.count:,}", "states"]
-    return lines + [f"{item.marked:,} marked"] if item.marked else lines
+    return f"{item.count:,} states" + (f", {item.marked:,} marked" if item.marked else "")
 
 
 def draw_item(item, spot, look):
     """A state or a fold."""
     if isinstance(item, Fold):
-        return shapes.fold(spot, fold_lines(item), item.kind)
+        return shapes.fold(spot, fold_words(item), item.kind)
     return shapes.state(spot, look.labels[item], item in look.marks, look.of_state(item))
 
 
@@ -196,7 +195,7 @@ def edge_kind(one, other, look):
     return look.of_edge((one, other))
 
 
-def draw_lasso(run, look, limits, words, scale=1):
+def draw_lasso(run, look, limits, words, size):
     """The picture of a run."""
     stem, loop = shown_items(run, look, limits)
     items = stem + loop
@@ -214,4 +213,4 @@ def draw_lasso(run, look, limits, words, scale=1):
         ends = places.loop[place], places.loop[after]
         parts.append(shapes.around(places.centre, places.ring, ends, turns, kind))
     parts += [draw_item(item, spot, look) for item, spot in zip(items, spots)]
-    return shapes.picture(box_of(places), parts, words, scale)
+    return shapes.picture(box_of(places), parts, words, size)

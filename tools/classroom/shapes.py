@@ -7,7 +7,8 @@ from html import escape
 from typing import NamedTuple
 
 SHORT = 20  # the radius of a state that shows a number
-RADII = [SHORT, 28, 32, 36, 40]  # the radii tried for longer words
+RADII = [SHORT, 28, 32, 36, 42]  # the radii tried for longer words
+RIM = 6  # what the rim of a state takes from its radius
 SMALLEST = 10  # the smallest size of letters
 HEAD = 10  # the length of an arrow's head
 
@@ -18,6 +19,14 @@ class Spot(NamedTuple):
     x: float
     y: float
     radius: float
+
+
+class Size(NamedTuple):
+    """How much a picture is made larger, and how wide and how high it may then be, in points of the screen."""
+
+    scale: float
+    wide: int
+    high: int
 
 
 # Words.
@@ -63,7 +72,7 @@ def fill(words, rooms, size):
 
 def fill_whole(label, radius, smallest):
     """The largest size, and the lines, with which the words go whole into a circle; None if they do not."""
-    inside = radius - 5
+    inside = radius - RIM
     for size in [16, 15, 14, 13, 12, 11, 10][: 17 - smallest]:
         for count in range(1, 6):
             lines = fill(label.split(), line_rooms(count, size, inside), size)
@@ -74,7 +83,7 @@ def fill_whole(label, radius, smallest):
 
 def fill_broken(label, radius):
     """Lines of the smallest letters, with words broken, and with three dots if the rest does not go in."""
-    rooms = [room for room in line_rooms(5, SMALLEST, radius - 5)]
+    rooms = [room for room in line_rooms(5, SMALLEST, radius - RIM)]
     lines, rest = [], label
     for place, room in enumerate(rooms):
         room -= width("-", SMALLEST)
@@ -127,12 +136,12 @@ def state(spot, label, marked, kind):
     )
 
 
-def fold(spot, lines, kind):
-    """A box that stands for states left out."""
-    half, high = spot.radius, 8 + 7 * len(lines)
+def fold(spot, words, kind):
+    """A dashed circle that stands for states left out."""
+    size, lines = fill_whole(words, spot.radius, SMALLEST) or fill_broken(words, spot.radius)
     return (
-        f'<g class="fold {kind}"><rect x="{spot.x - half:.1f}" y="{spot.y - high:.1f}" '
-        f'width="{2 * half:.1f}" height="{2 * high}" rx="8"/>{text_lines(spot.x, spot.y, 12, lines)}</g>'
+        f'<g class="fold {kind}"><circle cx="{spot.x:.1f}" cy="{spot.y:.1f}" r="{spot.radius}"/>'
+        f"{text_lines(spot.x, spot.y, min(size, 13), lines)}</g>"
     )
 
 
@@ -187,10 +196,11 @@ def start_arrow(spot, from_above, kind):
     return straight(outside, spot, kind) + word
 
 
-def picture(box, parts, words, scale=1):
+def picture(box, parts, words, size):
     """A whole picture: the box is left, top, right, bottom; the words say what it shows."""
     left, top, right, bottom = box
     wide, high = right - left, bottom - top
+    scale = min(size.scale, size.wide / wide, size.high / high)
     return (
         f'<svg xmlns="http://www.w3.org/2000/svg" role="img" aria-label="{escape(words)}" '
         f'viewBox="{left:.1f} {top:.1f} {wide:.1f} {high:.1f}" '
