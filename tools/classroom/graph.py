@@ -164,11 +164,14 @@ def column_spots(model, runs, radius):
     """The spot of each state in columns from left to right."""
     columns = columns_of(model)
     near = neighbours(model, [state for column in columns for state in column], runs)
+    row_step = 2 * radius + 44
+    # The columns stand so far apart that the steepest arrow passes beside the states.
+    room, high = radius + 10, row_step * (max(map(len, columns)) - 1)
+    step = max(2 * radius + 66, room * high / math.sqrt(row_step * row_step - room * room))
     spots = {}
     for place, column in enumerate(sorted_columns(columns, near)):
         for row, state in enumerate(column):
-            down = (row - (len(column) - 1) / 2) * (2 * radius + 44)
-            spots[state] = Spot(place * (2 * radius + 66), down, radius)
+            spots[state] = Spot(place * step, (row - (len(column) - 1) / 2) * row_step, radius)
     return spots
 
 

@@ -8,10 +8,13 @@ from classroom import shapes
 from classroom.shapes import Spot
 
 
+GAP = 30  # the room between two states
+
+
 class Fold(NamedTuple):
     """States left out of the middle of a stem or a loop, how many of them are marked, and how it is drawn."""
 
-    count: int
+    states: list
     marked: int
     kind: str
 
@@ -36,10 +39,11 @@ class Look(NamedTuple):
         return "pale" if edge in self.first.edges() else "strong"
 
     def of_fold(self, states):
-        """Plain; or pale if the first run passes all of the states, and strong if not."""
+        """Plain; or pale if the first run goes along all of these states, and strong if not."""
         if not self.first:
             return "plain"
-        return "pale" if set(states) <= set(self.first.states()) else "strong"
+        same = set(states) <= set(self.first.states())
+        return "pale" if same and set(zip(states, states[1:])) <= set(self.first.edges()) else "strong"
 
 
 class Limits(NamedTuple):
@@ -81,7 +85,7 @@ def folded(states, edges, most, ends, look):
             hidden.append(state)
             continue
         if hidden:
-            items.append(Fold(len(hidden), len(look.marks.intersection(hidden)), look.of_fold(hidden)))
+            items.append(Fold(hidden, len(look.marks.intersection(hidden)), look.of_fold(hidden)))
             hidden = []
         items.append(state)
     return items
@@ -105,8 +109,7 @@ def item_radius(item, radius):
 
 def ring_of(loop, radius):
     """The radius of the ring, and the angle of each item on it; the entry is at the left."""
-    gap = 26
-    sizes = [2 * item_radius(item, radius) + gap for item in loop]
+    sizes = [2 * item_radius(item, radius) + GAP for item in loop]
     if len(loop) == 1:
         return 1.3 * radius, [math.pi]
     ring = max(sum(sizes) / (2 * math.pi), max(sizes) / (2 * math.sin(math.pi / len(loop))), 2 * radius)
@@ -118,14 +121,14 @@ def ring_of(loop, radius):
     return ring, turns
 
 
-def stem_spots(stem, radius, columns, step, end):
-    """The spots of the stem: rows that go to and fro, the last one to the right, up to the end point."""
+def stem_spots(stem, radius, columns, step):
+    """The spots of the stem: rows that go to and fro, the last one to the right, up to the entry at (0, 0)."""
     spots = []
     for back in range(len(stem)):
         row, place = divmod(back, columns)
         column = place if row % 2 == 0 else columns - 1 - place
         item = stem[len(stem) - 1 - back]
-        spots.append(Spot(end[0] - column * step, end[1] - row * (2 * radius + 34), item_radius(item, radius)))
+        spots.append(Spot(-(column + 1) * step, -row * step, item_radius(item, radius)))
     return spots[::-1]
 
 
@@ -148,10 +151,10 @@ def places_of(stem, loop, radius, wide):
         Spot(centre[0] + ring * math.cos(turn), centre[1] + ring * math.sin(turn), item_radius(item, radius))
         for item, turn in zip(loop, turns)
     ]
-    step = 2 * max([radius, *(item_radius(item, radius) for item in stem)]) + 30
-    columns = max(1, int((wide - 2 * ring - 2 * radius - 30) // step))
+    step = 2 * max([radius, *(item_radius(item, radius) for item in stem)]) + GAP
+    columns = max(1, int((wide - 2 * ring - 2 * radius - GAP) // step))
     rows = 1 if len(stem) <= 1.3 * columns else -(-len(stem) // columns)
-    line = stem_spots(stem, radius, max(1, -(-len(stem) // rows)), step, (-step, 0))
+    line = stem_spots(stem, radius, max(1, -(-len(stem) // rows)), step)
     return Places(line, spots, turns, ring, centre, rows % 2 == 0)
 
 
@@ -177,7 +180,7 @@ def box_of(places):
 
 def fold_words(item):
     """The words in a fold."""
-    return f"{item.count:,} states" + (f", {item.marked:,} marked" if item.marked else "")
+    return f"{len(item.states):,} states" + (f", {item.marked:,} marked" if item.marked else "")
 
 
 def draw_item(item, spot, look):
@@ -188,11 +191,10 @@ def draw_item(item, spot, look):
 
 
 def edge_kind(one, other, look):
-    """How the arrow between two items is drawn; next to a fold it is strong if one of the two is."""
-    kinds = [item.kind if isinstance(item, Fold) else look.of_state(item) for item in (one, other)]
-    if isinstance(one, Fold) or isinstance(other, Fold):
-        return "strong" if "strong" in kinds else kinds[0]
-    return look.of_edge((one, other))
+    """How the arrow between two items is drawn; a fold has an arrow to its first state and one from its last."""
+    source = one.states[-1] if isinstance(one, Fold) else one
+    target = other.states[0] if isinstance(other, Fold) else other
+    return look.of_edge((source, target))
 
 
 def draw_lasso(run, look, limits, words, size):

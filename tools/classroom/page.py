@@ -11,7 +11,7 @@ from classroom.shapes import Size
 from classroom.style import styles
 from classroom.words import Words, count_of, labels_of, plain, sentence
 
-LARGE = Size(1.8, 680, 560)
+LARGE = Size(1.7, 680, 560)
 SMALL = Size(0.9, 400, 420)
 MODEL = Size(1.25, 680, 680)
 
@@ -149,7 +149,8 @@ def body(lesson):
     states = graph.reached(lesson.model)
     small = graph.is_small(lesson.model, states)
     runs = [told(lesson, number) for number in range(1, len(lesson.sheet.runs) + 1)]
-    inside = f"<section><h2>The first shortest run</h2>{card(1, runs[0], small)}</section>" if runs else ""
+    heading = "The first shortest run" if runs[1:] else "The shortest run"
+    inside = f"<section><h2>{heading}</h2>{card(1, runs[0], small)}</section>" if runs else ""
     inside += other_runs(runs, small) if runs[1:] else ""
     inside += model_section(lesson, runs, states) if small else model_size(lesson.model, states)
     return facts(lesson, states) + legend(inside) + inside

@@ -72,7 +72,10 @@ PRINT = """
 @media print {
   body { max-width: none; padding: 0; font-size: 10.5pt; print-color-adjust: exact; }
   .screen { display: none; }
-  h2 { margin-top: 6mm; padding-top: 3mm; }
+  h1 { font-size: 20pt; }
+  h2 { font-size: 13pt; margin: 4mm 0 2.5mm; padding-top: 3mm; }
+  .first { font-size: 12pt; }
+  .card { padding: 3mm; }
   figure, .card, .model { break-inside: avoid; }
   h1, h2, .before { break-after: avoid; }
   .others { display: block; }

@@ -37,7 +37,7 @@ class Words(NamedTuple):
 
     def item(self, item):
         """A state, or states left out."""
-        return f"… {count_of(item.count, 'state')} left out …" if isinstance(item, Fold) else self.state(item)
+        return f"… {count_of(len(item.states), 'state')} left out …" if isinstance(item, Fold) else self.state(item)
 
     def items(self, items):
         """States and folds, with commas."""
