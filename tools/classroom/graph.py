@@ -9,7 +9,9 @@ from classroom import shapes
 from classroom.shapes import HEAD, Spot
 
 MOST_STATES = 40
-MOST_EDGES = 100
+MOST_INSIDE = 22  # with more states on a circle, words that are longer than a number stand outside
+DOT = 11  # the radius of a state whose words stand outside
+LONGEST = 170  # the longest words outside
 
 
 def reached(model):
@@ -26,7 +28,8 @@ def reached(model):
 
 def is_small(model, states):
     """Whether a picture of the part with these states can be read."""
-    return len(states) <= MOST_STATES and sum(len(model.rows[state]) for state in states) <= MOST_EDGES
+    edges = sum(len(model.rows[state]) for state in states)
+    return len(states) <= MOST_STATES and edges <= 40 + 1.5 * len(states)
 
 
 # The order on the circle.
@@ -123,7 +126,7 @@ def circle_spots(model, runs, radius):
     """The spot of each state on a circle; the initial one is at the left."""
     order = circle_order(model, runs)
     count = len(order)
-    step = 2 * radius + (56 if count < 10 else 30 if count < 20 else 16)
+    step = 2 * radius + (56 if count < 10 else 30 if count < 20 else 16 if radius > DOT else 20)
     ring = max(2.2 * radius, step / (2 * math.sin(math.pi / count))) if count > 1 else 0
     spots = {}
     for place, state in enumerate(order):
@@ -201,8 +204,10 @@ def faults(model, spots):
     return count
 
 
-def best_spots(model, runs, radius):
-    """The spots in columns if these can be read and have no more faults than the circle, otherwise the circle."""
+def best_spots(model, runs, radius, count):
+    """The spots, and whether they are on a circle: if columns cannot be read or have more faults."""
+    if radius > shapes.SHORT and count > MOST_INSIDE:
+        return circle_spots(model, runs, DOT), True
     on_circle, in_columns = circle_spots(model, runs, radius), column_spots(model, runs, radius)
     wide = max(spot.x for spot in in_columns.values())
     high = 2 * max(spot.y for spot in in_columns.values())
@@ -296,9 +301,13 @@ def own_loop(spot, out, kind):
 class Map:
     """Where the states stand and how the edges go."""
 
-    def __init__(self, model, runs, radius):
-        self.spots, on_circle = best_spots(model, runs, radius)
+    def __init__(self, model, labels, runs):
+        states = reached(model)
+        self.labels, self.marks = labels, model.marks
+        radius = shapes.radius_for({labels[state] for state in states})
+        self.spots, on_circle = best_spots(model, runs, radius, len(states))
         self.start = self.spots[model.start]
+        self.words_outside = self.start.radius == DOT
         self.bends, self.outs = {}, {}
         for state, spot in self.spots.items():
             others = {other for other in self.spots if other != state}
@@ -315,7 +324,8 @@ class Map:
         if len(self.spots) == 1:
             return 0
         if on_circle:
-            return math.atan2(spot.y, spot.x) + (0.9 if spot == self.start else 0)
+            inward = math.pi if self.words_outside else 0
+            return math.atan2(spot.y, spot.x) + inward + (0.9 if spot == self.start and not inward else 0)
         return math.pi / 2 if spot.y > 1 else -math.pi / 2
 
     def edge(self, edge, kind):
@@ -325,13 +335,28 @@ class Map:
             return own_loop(self.spots[source], self.outs[source], kind)
         return curve(self.spots[source], self.bends[edge], self.spots[target], kind)
 
+    def state(self, state, kind):
+        """A state, drawn."""
+        spot, label, marked = self.spots[state], self.labels[state], state in self.marks
+        if not self.words_outside:
+            return shapes.state(spot, label, marked, kind)
+        return shapes.state(spot, "", marked, kind) + shapes.words_outside(spot, self.away(spot), label, LONGEST, kind)
+
+    def away(self, spot):
+        """How far from the middle the words outside begin; those of the start stand behind its arrow."""
+        return math.hypot(spot.x, spot.y) + DOT + (52 if spot == self.start else 7)
+
     def box(self):
-        """The box around all states and arrows, with room for the start arrow."""
+        """The box around all states, arrows and words, with room for the start arrow."""
         rounds = list(self.spots.values()) + [loop_ring(self.spots[state], out) for state, out in self.outs.items()]
         points = [(spot.x + a * spot.radius, spot.y + b * spot.radius) for spot in rounds for a in (-1, 1) for b in (-1, 1)]
         for (source, target), bend in self.bends.items():
             points += curve_points(self.spots[source], bend, self.spots[target])
         points.append((self.start.x - self.start.radius - 46, self.start.y))
+        for state, spot in self.spots.items() if self.words_outside else []:
+            far = self.away(spot) + 1.15 * min(LONGEST, shapes.width(self.labels[state], shapes.OUTSIDE))
+            turn = math.atan2(spot.y, spot.x)
+            points += [(far * math.cos(turn + more), far * math.sin(turn + more)) for more in (-0.03, 0.03)]
         across, down = [point[0] for point in points], [point[1] for point in points]
         return min(across) - 6, min(down) - 6, max(across) + 6, max(down) + 6
 
@@ -341,17 +366,14 @@ class Map:
 
 def draw_model(model, labels, runs, words, size):
     """The picture, with a group for each run that the page shows or hides; the first is shown."""
-    states = reached(model)
-    place = Map(model, runs, shapes.radius_for({labels[state] for state in states}))
-
-    def drawn(some, kind):
-        return [shapes.state(place.spots[state], labels[state], state in model.marks, kind) for state in some]
-
+    drawn = Map(model, labels, runs)
+    states = list(drawn.spots)
     kind = "pale" if runs else "plain"
-    parts = [shapes.start_arrow(place.start, False, kind)]
-    parts += [place.edge((state, target), kind) for state in states for target in model.rows[state]]
-    parts += drawn(states, kind)
+    parts = [shapes.start_arrow(drawn.start, False, kind)]
+    parts += [drawn.edge((state, target), kind) for state in states for target in model.rows[state]]
+    parts += [drawn.state(state, kind) for state in states]
     for number, run in enumerate(runs, 1):
-        inside = [place.edge(edge, "strong") for edge in run.edges()] + drawn(run.states(), "strong")
+        inside = [drawn.edge(edge, "strong") for edge in run.edges()]
+        inside += [drawn.state(state, "strong") for state in run.states()]
         parts.append(f'<g class="choice run-{number}">{"".join(inside)}</g>')
-    return shapes.picture(place.box(), parts, words, size)
+    return shapes.picture(drawn.box(), parts, words, size)

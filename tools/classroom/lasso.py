@@ -55,11 +55,12 @@ class Limits(NamedTuple):
     ends: int  # the states shown at each end of what is folded
 
 
-def limits_for(short, small):
-    """The limits of a picture: states with short labels need less room, and a small picture has less."""
-    if small:
-        return Limits(400, 8, 10, 3) if short else Limits(400, 6, 7, 2)
-    return Limits(690, 12, 18, 4) if short else Limits(690, 10, 12, 3)
+LARGE = Limits(690, 12, 18, 4)
+LARGE_WORDS = Limits(690, 10, 12, 3)
+SMALL = Limits(400, 8, 10, 2)
+SMALL_WORDS = Limits(400, 6, 7, 2)
+WIDE = Limits(690, 8, 10, 2)
+WIDE_WORDS = Limits(690, 6, 7, 2)
 
 
 def places_to_keep(states, edges, look):
@@ -197,13 +198,23 @@ def edge_kind(one, other, look):
     return look.of_edge((source, target))
 
 
+def size_of(run, look, limits):
+    """How wide and how high the picture of a run is."""
+    left, top, right, bottom = box_of(laid_out(run, look, limits)[1])
+    return right - left, bottom - top
+
+
+def laid_out(run, look, limits):
+    """The items that are shown, and where they stand."""
+    stem, loop = shown_items(run, look, limits)
+    radius = shapes.radius_for({look.labels[item] for item in stem + loop if not isinstance(item, Fold)})
+    return (stem, loop), places_of(stem, loop, radius, limits.wide)
+
+
 def draw_lasso(run, look, limits, words, size):
     """The picture of a run."""
-    stem, loop = shown_items(run, look, limits)
-    items = stem + loop
-    radius = shapes.radius_for({look.labels[item] for item in items if not isinstance(item, Fold)})
-    places = places_of(stem, loop, radius, limits.wide)
-    spots = places.stem + places.loop
+    (stem, loop), places = laid_out(run, look, limits)
+    items, spots = stem + loop, places.stem + places.loop
     parts = [shapes.start_arrow(spots[0], places.from_above, "pale" if look.first else "plain")]
     for place in range(len(stem)):
         kind = edge_kind(items[place], items[place + 1], look)

@@ -11,8 +11,9 @@ from classroom.shapes import Size
 from classroom.style import styles
 from classroom.words import Words, count_of, labels_of, plain, sentence
 
-LARGE = Size(1.7, 680, 560)
-SMALL = Size(0.9, 400, 420)
+LARGE = Size(1.6, 680, 560)
+SMALL = Size(0.9, 400, 360)
+WIDE = Size(0.9, 680, 400)
 MODEL = Size(1.25, 680, 680)
 
 
@@ -30,30 +31,36 @@ class Lesson(NamedTuple):
 
 
 class Told(NamedTuple):
-    """A run as it is told on the page: its picture and its sentence."""
+    """A run as it is told on the page: its picture, its sentence, and how its frame is."""
 
     svg: str
     text: str
+    kind: str
 
 
 def told(lesson, number):
-    """The picture and the sentence of a run; all but the first are small and compared with the first."""
+    """A run; all but the first are small, unless they are too large for that, and compared with the first."""
     run, first = lesson.sheet.runs[number - 1], lesson.sheet.runs[0]
     labels, marks = labels_of(lesson), lesson.model.marks
     look = Look(labels, marks, first if number > 1 else None)
     short = all(len(labels[state]) <= 4 for state in run.states())
-    limits = lasso.limits_for(short, number > 1)
+    kind, limits, size = "first", lasso.LARGE if short else lasso.LARGE_WORDS, LARGE
+    if number > 1:
+        kind, limits, size = "small", lasso.SMALL if short else lasso.SMALL_WORDS, SMALL
+        wide, high = lasso.size_of(run, look, limits)
+        if 0.75 * wide > size.wide or 0.75 * high > size.high:
+            kind, limits, size = "wide", lasso.WIDE if short else lasso.WIDE_WORDS, WIDE
     text = sentence(run, lasso.shown_items(run, look, limits), marks, Words(labels, lesson.names))
-    svg = lasso.draw_lasso(run, look, limits, f"Run {number}: {plain(text)}", SMALL if number > 1 else LARGE)
-    return Told(svg, text)
+    return Told(lasso.draw_lasso(run, look, limits, f"Run {number}: {plain(text)}", size), text, kind)
 
 
 def card(number, run, linked):
     """A run in its frame, which is a link that shows the run on the model if that is drawn."""
     says = f'<b>Run {number}</b><span class="says">{run.text}</span>'
     inside = f"<figure>{run.svg}<figcaption>{says}</figcaption></figure>"
-    kind = "card" if number > 1 else "card first"
-    return f'<a class="{kind}" href="#show-{number}">{inside}</a>' if linked else f'<div class="{kind}">{inside}</div>'
+    if linked:
+        return f'<a class="card {run.kind}" href="#show-{number}">{inside}</a>'
+    return f'<div class="card {run.kind}">{inside}</div>'
 
 
 def other_runs(runs, linked):
@@ -75,7 +82,7 @@ def model_section(lesson, runs, states):
     links = " ".join(f'<a href="#show-{number}">{number}</a>' for number in numbers)
     choose = f'<p class="screen soft">A click on a run shows it here. Run {links}</p>' if runs[1:] else ""
     said = "".join(
-        f'<p class="choice run-{number}"><b>Drawn strong: run {number}.</b> {run.text}</p>'
+        f'<p class="choice run-{number}"><b>Drawn strong: run {number}.</b><span class="screen">{run.text}</span></p>'
         for number, run in zip(numbers, runs)
     )
     outside = len(lesson.model.rows) - len(states)
@@ -106,7 +113,7 @@ def facts(lesson, states):
     start = Words(labels_of(lesson), lesson.names).state(lesson.model.start)
     lines = [
         f"The model has {count_of(sheet.states, 'state')} and {count_of(sheet.edges, 'edge')} and starts at {start}. "
-        f"It can reach {count_of(len(states), 'state')}; marked among these: {sheet.rounds:,}."
+        f"Within reach: {count_of(len(states), 'state')}, {sheet.rounds:,} marked."
     ]
     length = f"A shortest run has {count_of(sheet.length, 'transition')} before it repeats."
     if not count:

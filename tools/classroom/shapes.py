@@ -10,6 +10,7 @@ SHORT = 20  # the radius of a state that shows a number
 RADII = [SHORT, 28, 32, 36, 42]  # the radii tried for longer words
 RIM = 6  # what the rim of a state takes from its radius
 SMALLEST = 10  # the smallest size of letters
+OUTSIDE = 12  # the size of words beside a state
 HEAD = 10  # the length of an arrow's head
 
 
@@ -126,13 +127,28 @@ def text_lines(x, y, size, lines):
 
 def state(spot, label, marked, kind):
     """A state: its words in a circle, which is double if it is marked. The kind is plain, pale or strong."""
-    size, lines = fill_whole(label, spot.radius, SMALLEST) or fill_broken(label, spot.radius)
     at = f'cx="{spot.x:.1f}" cy="{spot.y:.1f}"'
     inner = f'<circle {at} r="{spot.radius - 4}"/>' if marked else ""
-    words = text_lines(spot.x, spot.y, size, lines)
+    words = ""
+    if label:
+        size, lines = fill_whole(label, spot.radius, SMALLEST) or fill_broken(label, spot.radius)
+        words = f"<title>{escape(label)}</title>{text_lines(spot.x, spot.y, size, lines)}"
+    return f'<g class="state {kind}"><circle {at} r="{spot.radius}"/>{inner}{words}</g>'
+
+
+def words_outside(spot, away, label, most, kind):
+    """Words on a line from the middle of a circle, outside it; they are cut if they are too long."""
+    shown = label
+    while width(shown, OUTSIDE) > most:
+        shown = shown[:-2].rstrip() + "…"
+    turn = math.degrees(math.atan2(spot.y, spot.x))
+    left = abs(turn) > 90.001
+    place = f'x="{-away if left else away:.1f}" y="{0.35 * OUTSIDE:.1f}" font-size="{OUTSIDE}"'
+    side = "ends" if left else "begins"
+    turned = turn + 180 if left else turn
     return (
-        f'<g class="state {kind}"><title>{escape(label)}{", marked" if marked else ""}</title>'
-        f'<circle {at} r="{spot.radius}"/>{inner}{words}</g>'
+        f'<g class="outside {kind}"><title>{escape(label)}</title>'
+        f'<text class="{side}" transform="rotate({turned:.1f})" {place}>{escape(shown)}</text></g>'
     )
 
 

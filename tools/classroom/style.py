@@ -11,7 +11,7 @@ PAPER = {"ink": "#000000", "paper": "#ffffff", "pale": "#a6a6a6", "soft": "#5555
 COLOURS = """
 body {{ background: {paper}; color: {ink}; }}
 .state circle, .fold circle {{ fill: {paper}; stroke: {ink}; }}
-.state text, .fold text {{ fill: {ink}; }}
+.state text, .fold text, .outside text {{ fill: {ink}; }}
 .line {{ stroke: {ink}; }}
 .head {{ fill: {ink}; }}
 .note {{ fill: {soft}; }}
@@ -31,6 +31,8 @@ SHAPES = """
 svg { font-family: "Helvetica Neue", Helvetica, Arial, "DejaVu Sans", sans-serif; }
 svg text { text-anchor: middle; }
 svg .note { text-anchor: start; font-style: italic; }
+svg .begins { text-anchor: start; }
+svg .ends { text-anchor: end; }
 .state circle, .line { stroke-width: 1.8; }
 .line { fill: none; }
 .fold circle { stroke-width: 1.4; stroke-dasharray: 5 4; }
@@ -55,6 +57,7 @@ svg { display: block; margin: 0 auto; max-width: 100%; height: auto; }
 .first { font-size: 1.15rem; }
 .others { display: grid; grid-template-columns: 1fr 1fr; gap: 1rem; }
 .others .card { display: flex; flex-direction: column; }
+.others .wide { grid-column: 1 / -1; }
 .others figure { display: flex; flex-direction: column; justify-content: space-between; flex: 1; }
 .choice { display: none; }
 .choice.run-1 { display: inline; }
@@ -81,6 +84,7 @@ PRINT = """
   .others { display: block; }
   .others .card { display: inline-block; vertical-align: top; width: calc(50% - 2.5mm); margin: 0 0 4mm; }
   .others .card:nth-child(odd) { margin-right: 4mm; }
+  .others .wide { display: block; width: auto; margin-right: 0; }
   .first svg { max-height: 150mm; }
   .model svg { max-height: 175mm; }
   .others svg { max-height: 150mm; }
