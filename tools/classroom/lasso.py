@@ -47,20 +47,17 @@ class Look(NamedTuple):
 
 
 class Limits(NamedTuple):
-    """How wide a picture may be before its stem goes on in a second row, and what is shown before it is folded."""
+    """How many states of a stem and of a loop are shown whole, and how many at each end if there are more."""
 
-    wide: int
     stem: int
     loop: int
-    ends: int  # the states shown at each end of what is folded
+    ends: int
 
 
-LARGE = Limits(690, 12, 18, 4)
-LARGE_WORDS = Limits(690, 10, 12, 3)
-SMALL = Limits(400, 8, 10, 2)
-SMALL_WORDS = Limits(400, 6, 7, 2)
-WIDE = Limits(690, 8, 10, 2)
-WIDE_WORDS = Limits(690, 6, 7, 2)
+LARGE = Limits(12, 18, 4)
+LARGE_WORDS = Limits(10, 12, 3)
+SMALL = Limits(8, 10, 2)
+SMALL_WORDS = Limits(6, 7, 2)
 
 
 def places_to_keep(states, edges, look):
@@ -144,8 +141,8 @@ class Places(NamedTuple):
     from_above: bool
 
 
-def places_of(stem, loop, radius, wide):
-    """Where all items stand: the entry of the ring is at (0, 0), the stem left of it."""
+def places_of(stem, loop, radius, rows):
+    """Where all items stand, the stem in so many rows: the entry of the ring is at (0, 0), the stem left of it."""
     ring, turns = ring_of(loop, radius)
     centre = ring, 0
     spots = [
@@ -153,10 +150,16 @@ def places_of(stem, loop, radius, wide):
         for item, turn in zip(loop, turns)
     ]
     step = 2 * max([radius, *(item_radius(item, radius) for item in stem)]) + GAP
-    columns = max(1, int((wide - 2 * ring - 2 * radius - GAP) // step))
-    rows = 1 if len(stem) <= 1.3 * columns else -(-len(stem) // columns)
-    line = stem_spots(stem, radius, max(1, -(-len(stem) // rows)), step)
-    return Places(line, spots, turns, ring, centre, rows % 2 == 0)
+    columns = max(1, -(-len(stem) // rows))
+    line = stem_spots(stem, radius, columns, step)
+    return Places(line, spots, turns, ring, centre, -(-len(stem) // columns) % 2 == 0 and bool(stem))
+
+
+def best_places(stem, loop, radius, size):
+    """The places with the fewest rows of the stem that do not make the picture much smaller than others would."""
+    tried = [places_of(stem, loop, radius, rows) for rows in range(1, max(2, len(stem) + 1))]
+    scales = [shapes.scale_of(box_of(places), size) for places in tried]
+    return next(places for places, scale in zip(tried, scales) if scale >= 0.8 * max(scales))
 
 
 def box_of(places):
@@ -198,22 +201,21 @@ def edge_kind(one, other, look):
     return look.of_edge((source, target))
 
 
-def size_of(run, look, limits):
-    """How wide and how high the picture of a run is."""
-    left, top, right, bottom = box_of(laid_out(run, look, limits)[1])
-    return right - left, bottom - top
-
-
-def laid_out(run, look, limits):
+def laid_out(run, look, limits, size):
     """The items that are shown, and where they stand."""
     stem, loop = shown_items(run, look, limits)
     radius = shapes.radius_for({look.labels[item] for item in stem + loop if not isinstance(item, Fold)})
-    return (stem, loop), places_of(stem, loop, radius, limits.wide)
+    return (stem, loop), best_places(stem, loop, radius, size)
+
+
+def lasso_scale(run, look, limits, size):
+    """How much smaller or larger the picture of a run is drawn."""
+    return shapes.scale_of(box_of(laid_out(run, look, limits, size)[1]), size)
 
 
 def draw_lasso(run, look, limits, words, size):
     """The picture of a run."""
-    (stem, loop), places = laid_out(run, look, limits)
+    (stem, loop), places = laid_out(run, look, limits, size)
     items, spots = stem + loop, places.stem + places.loop
     parts = [shapes.start_arrow(spots[0], places.from_above, "pale" if look.first else "plain")]
     for place in range(len(stem)):

@@ -14,6 +14,7 @@ from classroom.words import Words, count_of, labels_of, plain, sentence
 LARGE = Size(1.6, 680, 560)
 SMALL = Size(0.9, 400, 360)
 WIDE = Size(0.9, 680, 400)
+SMALLEST = 0.75  # a small picture that is drawn smaller than this gets the whole width
 MODEL = Size(1.25, 680, 680)
 
 
@@ -47,11 +48,15 @@ def told(lesson, number):
     kind, limits, size = "first", lasso.LARGE if short else lasso.LARGE_WORDS, LARGE
     if number > 1:
         kind, limits, size = "small", lasso.SMALL if short else lasso.SMALL_WORDS, SMALL
-        wide, high = lasso.size_of(run, look, limits)
-        if 0.75 * wide > size.wide or 0.75 * high > size.high:
-            kind, limits, size = "wide", lasso.WIDE if short else lasso.WIDE_WORDS, WIDE
+        if lasso.lasso_scale(run, look, limits, size) < SMALLEST:
+            kind, size = "wide", WIDE
     text = sentence(run, lasso.shown_items(run, look, limits), marks, Words(labels, lesson.names))
     return Told(lasso.draw_lasso(run, look, limits, f"Run {number}: {plain(text)}", size), text, kind)
+
+
+def all_told(lesson):
+    """All runs, in the order of the sheet."""
+    return [told(lesson, number) for number in range(1, len(lesson.sheet.runs) + 1)]
 
 
 def card(number, run, linked):
@@ -75,6 +80,11 @@ def other_runs(runs, linked):
 # The model.
 
 
+def model_picture(lesson):
+    """The part of the model that can be reached."""
+    return graph.draw_model(lesson.model, labels_of(lesson), lesson.sheet.runs, "The model", MODEL)
+
+
 def model_section(lesson, runs, states):
     """The model with the chosen run on it."""
     numbers = range(1, len(runs) + 1)
@@ -88,7 +98,7 @@ def model_section(lesson, runs, states):
     outside = len(lesson.model.rows) - len(states)
     if outside:
         said += f"<p>{count_of(outside, 'state')} cannot be reached and {'is' if outside == 1 else 'are'} not drawn.</p>"
-    svg = graph.draw_model(lesson.model, labels_of(lesson), lesson.sheet.runs, "The model", MODEL)
+    svg = model_picture(lesson)
     return (
         f'<section class="model"><h2>The model</h2>{anchors}{choose}'
         f"<figure>{svg}<figcaption>{said}</figcaption></figure></section>"
@@ -155,7 +165,7 @@ def body(lesson):
         return refused_body(lesson)
     states = graph.reached(lesson.model)
     small = graph.is_small(lesson.model, states)
-    runs = [told(lesson, number) for number in range(1, len(lesson.sheet.runs) + 1)]
+    runs = all_told(lesson)
     heading = "The first shortest run" if runs[1:] else "The shortest run"
     inside = f"<section><h2>{heading}</h2>{card(1, runs[0], small)}</section>" if runs else ""
     inside += other_runs(runs, small) if runs[1:] else ""

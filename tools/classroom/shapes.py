@@ -212,11 +212,17 @@ def start_arrow(spot, from_above, kind):
     return straight(outside, spot, kind) + word
 
 
+def scale_of(box, size):
+    """How much smaller or larger a picture is drawn; the box is left, top, right, bottom."""
+    left, top, right, bottom = box
+    return min(size.scale, size.wide / (right - left), size.high / (bottom - top))
+
+
 def picture(box, parts, words, size):
-    """A whole picture: the box is left, top, right, bottom; the words say what it shows."""
+    """A whole picture; the words say what it shows."""
     left, top, right, bottom = box
     wide, high = right - left, bottom - top
-    scale = min(size.scale, size.wide / wide, size.high / high)
+    scale = scale_of(box, size)
     return (
         f'<svg xmlns="http://www.w3.org/2000/svg" role="img" aria-label="{escape(words)}" '
         f'viewBox="{left:.1f} {top:.1f} {wide:.1f} {high:.1f}" '

@@ -13,6 +13,7 @@ body {{ background: {paper}; color: {ink}; }}
 .state circle, .fold circle {{ fill: {paper}; stroke: {ink}; }}
 .state text, .fold text, .outside text {{ fill: {ink}; }}
 .line {{ stroke: {ink}; }}
+.outside.strong text {{ stroke: {paper}; }}
 .head {{ fill: {ink}; }}
 .note {{ fill: {soft}; }}
 .pale circle, .pale .line {{ stroke: {pale}; }}
@@ -38,7 +39,8 @@ svg .ends { text-anchor: end; }
 .fold circle { stroke-width: 1.4; stroke-dasharray: 5 4; }
 .pale circle, .pale .line { stroke-width: 1.6; }
 .strong circle, .strong .line { stroke-width: 3; }
-.strong text { font-weight: 600; }
+.state.strong text, .fold.strong text { font-weight: 600; }
+.outside.strong text { paint-order: stroke; stroke-width: 3; }
 """
 
 LAYOUT = """
@@ -108,3 +110,9 @@ def styles(count):
     dark = f"@media screen and (prefers-color-scheme: dark) {{{COLOURS.format(**DARK)}}}"
     paper = f"@media print {{{COLOURS.format(**PAPER)}}}"
     return "\n".join([SHAPES, LAYOUT, choice_styles(count), colours, dark, paper, PRINT])
+
+
+def picture_styles():
+    """The styles of the pictures alone, on white."""
+    shown = ".choice { display: none; }\n.choice.run-1 { display: inline; }\n"
+    return SHAPES + COLOURS.format(**LIGHT) + shown + f".rule {{ stroke: {LIGHT['edge']}; }}\n"
