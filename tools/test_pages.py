@@ -231,7 +231,7 @@ def test_page_refusals(desk):
         card = dict(re.findall(r"^\| (\d+) \| (.*?) \|", file.read(), re.MULTILINE))
     damages = {2: "0 0", 3: "3 33", 4: "4 5", 5: "7 1", 6: "2 6", 8: "24 1", 9: "36 5", 10: "36 3", 11: "50 56"}
     files = {number: made(f"damage {words}", D_BYTES) for number, words in damages.items()}
-    files |= {1: b"", 7: D_BYTES + b"\0" * 30000, 14: D_BYTES}
+    files.update({1: b"", 7: D_BYTES + b"\0" * 30000, 14: D_BYTES})
     for number, data in files.items():
         desk.lay(data, f"refused {number}\n")
         text = text_of(tree_of(f"refused {number}", desk.draw()))

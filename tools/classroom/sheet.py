@@ -150,7 +150,7 @@ def text_lines(path):
     except UnicodeDecodeError as error:
         fail(f"{path} is no text: byte {error.start} cannot be read as UTF-8", 1)
     for number, line in enumerate(lines, 1):
-        bad = no_text(line.removesuffix("\r"))
+        bad = no_text(line[:-1] if line.endswith("\r") else line)
         if bad:
             fail(f"{path} is no text: line {number} holds the character {bad}", 1)
     return lines
