@@ -304,8 +304,9 @@ class Map:
     def __init__(self, model, labels, runs):
         states = reached(model)
         self.labels, self.marks = labels, model.marks
-        radius = shapes.radius_for({labels[state] for state in states})
-        self.spots, on_circle = best_spots(model, runs, radius, len(states))
+        letters = shapes.letters_for({labels[state] for state in states})
+        self.size = letters.size
+        self.spots, on_circle = best_spots(model, runs, letters.radius, len(states))
         self.start = self.spots[model.start]
         self.words_outside = self.start.radius == DOT
         self.bends, self.outs = {}, {}
@@ -339,7 +340,7 @@ class Map:
         """A state, drawn."""
         spot, label, marked = self.spots[state], self.labels[state], state in self.marks
         if not self.words_outside:
-            return shapes.state(spot, label, marked, kind)
+            return shapes.state(spot, label, marked, kind, self.size)
         return shapes.state(spot, "", marked, kind) + shapes.words_outside(spot, self.away(spot), label, LONGEST, kind)
 
     def away(self, spot):

@@ -187,11 +187,11 @@ def fold_words(item):
     return f"{len(item.states):,} states" + (f", {item.marked:,} marked" if item.marked else "")
 
 
-def draw_item(item, spot, look):
+def draw_item(item, spot, look, largest):
     """A state or a fold."""
     if isinstance(item, Fold):
         return shapes.fold(spot, fold_words(item), item.kind)
-    return shapes.state(spot, look.labels[item], item in look.marks, look.of_state(item))
+    return shapes.state(spot, look.labels[item], item in look.marks, look.of_state(item), largest)
 
 
 def edge_kind(one, other, look):
@@ -202,10 +202,10 @@ def edge_kind(one, other, look):
 
 
 def laid_out(run, look, limits, size):
-    """The items that are shown, and where they stand."""
+    """The items that are shown, where they stand, and the size of the letters."""
     stem, loop = shown_items(run, look, limits)
-    radius = shapes.radius_for({look.labels[item] for item in stem + loop if not isinstance(item, Fold)})
-    return (stem, loop), best_places(stem, loop, radius, size)
+    letters = shapes.letters_for({look.labels[item] for item in stem + loop if not isinstance(item, Fold)})
+    return (stem, loop), best_places(stem, loop, letters.radius, size), letters.size
 
 
 def lasso_scale(run, look, limits, size):
@@ -215,7 +215,7 @@ def lasso_scale(run, look, limits, size):
 
 def draw_lasso(run, look, limits, words, size):
     """The picture of a run."""
-    (stem, loop), places = laid_out(run, look, limits, size)
+    (stem, loop), places, largest = laid_out(run, look, limits, size)
     items, spots = stem + loop, places.stem + places.loop
     parts = [shapes.start_arrow(spots[0], places.from_above, "pale" if look.first else "plain")]
     for place in range(len(stem)):
@@ -227,5 +227,5 @@ def draw_lasso(run, look, limits, words, size):
         kind = edge_kind(loop[place], loop[after], look)
         ends = places.loop[place], places.loop[after]
         parts.append(shapes.around(places.centre, places.ring, ends, turns, kind))
-    parts += [draw_item(item, spot, look) for item, spot in zip(items, spots)]
+    parts += [draw_item(item, spot, look, largest) for item, spot in zip(items, spots)]
     return shapes.picture(box_of(places), parts, words, size)

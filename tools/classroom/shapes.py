@@ -9,7 +9,7 @@ from typing import NamedTuple
 SHORT = 20  # the radius of a state that shows a number
 RADII = [SHORT, 28, 32, 36, 42]  # the radii tried for longer words
 RIM = 6  # what the rim of a state takes from its radius
-SMALLEST = 10  # the smallest size of letters
+SMALLEST, LARGEST = 10, 16  # sizes of letters
 OUTSIDE = 12  # the size of words beside a state
 HEAD = 10  # the length of an arrow's head
 
@@ -20,6 +20,13 @@ class Spot(NamedTuple):
     x: float
     y: float
     radius: float
+
+
+class Letters(NamedTuple):
+    """What all states of a picture have in common: their radius, and the greatest size of their letters."""
+
+    radius: int
+    size: int
 
 
 class Size(NamedTuple):
@@ -71,12 +78,11 @@ def fill(words, rooms, size):
     return None if rest or "" in lines else lines
 
 
-def fill_whole(label, radius, smallest):
+def fill_whole(label, radius, smallest=SMALLEST, largest=LARGEST):
     """The largest size, and the lines, with which the words go whole into a circle; None if they do not."""
-    inside = radius - RIM
-    for size in [16, 15, 14, 13, 12, 11, 10][: 17 - smallest]:
+    for size in range(largest, smallest - 1, -1):
         for count in range(1, 6):
-            lines = fill(label.split(), line_rooms(count, size, inside), size)
+            lines = fill(label.split(), line_rooms(count, size, radius - RIM), size)
             if lines:
                 return size, lines
     return None
@@ -84,7 +90,7 @@ def fill_whole(label, radius, smallest):
 
 def fill_broken(label, radius):
     """Lines of the smallest letters, with words broken, and with three dots if the rest does not go in."""
-    rooms = [room for room in line_rooms(5, SMALLEST, radius - RIM)]
+    rooms = line_rooms(5, SMALLEST, radius - RIM)
     lines, rest = [], label
     for place, room in enumerate(rooms):
         room -= width("-", SMALLEST)
@@ -104,12 +110,11 @@ def fill_broken(label, radius):
     return SMALLEST, [line for line in lines if line]
 
 
-def radius_for(labels):
-    """The least radius with which all these labels go whole into their circles, or the greatest one."""
-    for radius in RADII:
-        if all(fill_whole(label, radius, 11) for label in labels):
-            return radius
-    return RADII[-1]
+def letters_for(labels):
+    """The least radius with which all labels go whole into their circles, or the greatest one, and their letters."""
+    radius = next((one for one in RADII if all(fill_whole(label, one, 11) for label in labels)), RADII[-1])
+    fitting = filter(None, [fill_whole(label, radius, 11) for label in labels])
+    return Letters(radius, min((size for size, _ in fitting), default=11))
 
 
 def text_lines(x, y, size, lines):
@@ -125,13 +130,13 @@ def text_lines(x, y, size, lines):
 # States and folds.
 
 
-def state(spot, label, marked, kind):
+def state(spot, label, marked, kind, largest=LARGEST):
     """A state: its words in a circle, which is double if it is marked. The kind is plain, pale or strong."""
     at = f'cx="{spot.x:.1f}" cy="{spot.y:.1f}"'
     inner = f'<circle {at} r="{spot.radius - 4}"/>' if marked else ""
     words = ""
     if label:
-        size, lines = fill_whole(label, spot.radius, SMALLEST) or fill_broken(label, spot.radius)
+        size, lines = fill_whole(label, spot.radius, largest=largest) or fill_broken(label, spot.radius)
         words = f"<title>{escape(label)}</title>{text_lines(spot.x, spot.y, size, lines)}"
     return f'<g class="state {kind}"><circle {at} r="{spot.radius}"/>{inner}{words}</g>'
 
@@ -154,10 +159,10 @@ def words_outside(spot, away, label, most, kind):
 
 def fold(spot, words, kind):
     """A dashed circle that stands for states left out."""
-    size, lines = fill_whole(words, spot.radius, SMALLEST) or fill_broken(words, spot.radius)
+    size, lines = fill_whole(words, spot.radius, largest=13) or fill_broken(words, spot.radius)
     return (
         f'<g class="fold {kind}"><circle cx="{spot.x:.1f}" cy="{spot.y:.1f}" r="{spot.radius}"/>'
-        f"{text_lines(spot.x, spot.y, min(size, 13), lines)}</g>"
+        f"{text_lines(spot.x, spot.y, size, lines)}</g>"
     )
 
 
