@@ -156,10 +156,10 @@ def places_of(stem, loop, radius, rows):
 
 
 def best_places(stem, loop, radius, size):
-    """The places with the fewest rows of the stem that do not make the picture much smaller than others would."""
+    """The places with the fewest rows of the stem that give a picture of a fine size, or about the largest one."""
     tried = [places_of(stem, loop, radius, rows) for rows in range(1, max(2, len(stem) + 1))]
     scales = [shapes.scale_of(box_of(places), size) for places in tried]
-    return next(places for places, scale in zip(tried, scales) if scale >= 0.8 * max(scales))
+    return next(places for places, scale in zip(tried, scales) if scale >= min(size.fine, 0.95 * max(scales)))
 
 
 def box_of(places):

@@ -12,9 +12,8 @@ from classroom.style import styles
 from classroom.words import Words, count_of, labels_of, plain, sentence
 
 LARGE = Size(1.6, 680, 560)
-SMALL = Size(0.9, 400, 360)
-WIDE = Size(0.9, 680, 400)
-SMALLEST = 0.75  # a small picture that is drawn smaller than this gets the whole width
+SMALL = Size(0.9, 400, 360, 0.75)
+WIDE = Size(0.9, 680, 400, 0.75)
 MODEL = Size(1.25, 680, 680)
 
 
@@ -48,7 +47,7 @@ def told(lesson, number):
     kind, limits, size = "first", lasso.LARGE if short else lasso.LARGE_WORDS, LARGE
     if number > 1:
         kind, limits, size = "small", lasso.SMALL if short else lasso.SMALL_WORDS, SMALL
-        if lasso.lasso_scale(run, look, limits, size) < SMALLEST:
+        if lasso.lasso_scale(run, look, limits, size) < size.fine:
             kind, size = "wide", WIDE
     text = sentence(run, lasso.shown_items(run, look, limits), marks, Words(labels, lesson.names))
     return Told(lasso.draw_lasso(run, look, limits, f"Run {number}: {plain(text)}", size), text, kind)

@@ -30,11 +30,12 @@ class Letters(NamedTuple):
 
 
 class Size(NamedTuple):
-    """How much a picture is made larger, and how wide and how high it may then be, in points of the screen."""
+    """How much a picture is made larger, how wide and high it may then be in points of the screen, what is fine."""
 
     scale: float
     wide: int
     high: int
+    fine: float = 1
 
 
 # Words.
