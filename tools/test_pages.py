@@ -43,7 +43,8 @@ def ring_sheet(count, rounds=1):
 def long_sheet():
     """The sheet of the long model."""
     stem, loop = range(50), list(range(50, 100))
-    lines = [f"{' '.join(map(str, stem))} | {' '.join(map(str, states))}\n" for states in (loop, loop[:25] + [100] + loop[26:])]
+    loops = [loop, loop[:25] + [100] + loop[26:]]
+    lines = [f"{' '.join(map(str, stem))} | {' '.join(map(str, states))}\n" for states in loops]
     return f"model 101 102\nrounds 3\nshortest 100\n{''.join(lines)}end 2\n"
 
 
@@ -149,25 +150,29 @@ def count_class(part, name):
 def test_page_sentences(desk):
     """The sentences, which are the sheet's runs in words."""
     starts = {
-        "D": ["Starts at 0, then repeats 1, 3 for ever; marked: 3.", "Starts at 0, then repeats 2, 3 for ever; marked: 3."],
+        "D": [
+            "Starts at 0, then repeats 1, 3 for ever; marked: 3.",
+            "Starts at 0, then repeats 2, 3 for ever; marked: 3.",
+        ],
         "H": ["Starts at 0, goes to 5, then repeats 6 for ever; marked: 6."],
         "ring 1": ["Starts at 0 and repeats 0 for ever; marked: 0."],
         "ring 2": ["Starts at 0 and repeats 0, 1 for ever; marked: 1."],
         "ring 12": ["Starts at 0 and repeats 0, 1, 2, 3, 4, 5, 6, 7, 8, 9, 10, 11 for ever; marked: 0, 11."],
         "ring 4096": [
-            "Starts at 0 and repeats 0, 1, 2, 3, … 4,088 states left out …, 4092, 4093, 4094, 4095 for ever; marked: 4095."
+            "Starts at 0 and repeats 0, 1, 2, 3, … 4,088 states left out …, "
+            "4092, 4093, 4094, 4095 for ever; marked: 4095."
         ],
         "ring 4096 marked in the middle": [
             "Starts at 0 and repeats 0, 1, 2, 3, … 1,996 states left out …, 2000, … 2,091 states left out …, "
             "4092, 4093, 4094, 4095 for ever; marked: 2000, 2001."
         ],
         "long": [
-            "Starts at 0, goes to 1, 2, 3, … 5 states left out …, 9, … 36 states left out …, 46, 47, 48, 49, then repeats "
-            "50, 51, 52, 53, … 26 states left out …, 80, … 15 states left out …, 96, 97, 98, 99 for ever; "
+            "Starts at 0, goes to 1, 2, 3, … 5 states left out …, 9, … 36 states left out …, 46, 47, 48, 49, "
+            "then repeats 50, 51, 52, 53, … 26 states left out …, 80, … 15 states left out …, 96, 97, 98, 99 for ever; "
             "marked: 80, 81, and before the loop: 9.",
             "Starts at 0, goes to 1, … 7 states left out …, 9, … 38 states left out …, 48, 49, then repeats "
-            "50, 51, … 22 states left out …, 74, 100, 76, … 3 states left out …, 80, … 17 states left out …, 98, 99 for ever; "
-            "marked: 80, 81, and before the loop: 9.",
+            "50, 51, … 22 states left out …, 74, 100, 76, … 3 states left out …, 80, … 17 states left out …, "
+            "98, 99 for ever; marked: 80, 81, and before the loop: 9.",
         ],
         "none": [],
     }
@@ -186,7 +191,8 @@ def test_page_pictures(desk):
     ]:
         desk.lay(*SHEETS[case])
         tree = tree_of(case, desk.draw())
-        found = len(list(tree.iter(f"{SVG}svg"))), len([one for one in tree.iter(f"{SVG}g") if "choice" in one.get("class")])
+        shown = [one for one in tree.iter(f"{SVG}g") if "choice" in one.get("class")]
+        found = len(list(tree.iter(f"{SVG}svg"))), len(shown)
         expect(f"the pictures of {case}", found == (pictures, choices), found)
         expect(f"the folds of {case}", count_class(tree, "fold") == folds, count_class(tree, "fold"))
     desk.lay(*SHEETS["D"])
@@ -198,7 +204,8 @@ def test_page_pictures(desk):
     # State 2 and the three edges differ from the first run; the states 0 and 3 and the start arrow are shared.
     found = count_class(second, "strong"), count_class(second, "pale")
     expect("what differs in the second run of D", found == (4, 3), found)
-    expect("the model of D leaves out state 4", {"0", "1", "2", "3"} == {text_of(one) for one in model.iter(f"{SVG}text")} - {"start"})
+    words = {text_of(one) for one in model.iter(f"{SVG}text")}
+    expect("the model of D leaves out state 4", words == {"start", "0", "1", "2", "3"}, words)
     links = [one.get("href") for one in tree.iter(f"{HTML}a")]
     expect("a click on each run", links[:2] == ["#show-1", "#show-2"], links)
     places = [one.get("id") for one in tree.iter(f"{HTML}span") if one.get("id")]
@@ -247,9 +254,10 @@ def test_page_refusals(desk):
 def test_page_names(desk):
     """Names stand in pictures and sentences; what looks like HTML in them is shown."""
     desk.lay(*SHEETS["D"])
-    names = desk.write("names", "\ufeff# D\r\n0 open <script>alert('x')</script> & \"so\"\r\n\n  3\tstore the   file again\n4 wait\n2 wait")
+    opened = "open <script>alert('x')</script> & \"so\""
+    names = desk.write("names", f"\ufeff# D\r\n0 {opened}\r\n\n  3\tstore the   file again\n4 wait\n2 wait")
     tree = tree_of("names", desk.draw("--names", names))
-    begin = "Starts at “open <script>alert('x')</script> & \"so\"”"
+    begin = f"Starts at “{opened}”"
     expected = [
         f"{begin}, then repeats 1, “store the file again” for ever; marked: “store the file again”.",
         f"{begin}, then repeats “wait (2)”, “store the file again” for ever; marked: “store the file again”.",
@@ -364,8 +372,9 @@ def test_dot(desk):
     names = desk.write("names", '0 a "quoted" \\N name & <b>\n3 store')
     text = desk.draw("--dot", "--names", names)
     for line in [
-        '0 [label="a \\"quoted\\" \\\\N name &amp; <b>", penwidth=3];', '3 [label="store", shape=doublecircle, penwidth=3];',
-        '4 [label="4", shape=doublecircle];', "0 -> 1 [penwidth=3];", "3 -> 1 [penwidth=3];", "3 -> 2 [color=gray50];", "start -> 0;",
+        '0 [label="a \\"quoted\\" \\\\N name &amp; <b>", penwidth=3];',
+        '3 [label="store", shape=doublecircle, penwidth=3];', '4 [label="4", shape=doublecircle];',
+        "start -> 0;", "0 -> 1 [penwidth=3];", "3 -> 1 [penwidth=3];", "3 -> 2 [color=gray50];",
     ]:
         expect(f"Graphviz text has {line}", f"  {line}\n" in text, text)
     program = shutil.which("dot")
@@ -404,7 +413,7 @@ def test_svg(desk):
 def test_program(desk):
     """The desk sheet program, where it is built, prints the sheets used here, and its pages are the same."""
     if not os.path.exists(PROGRAM):
-        print("skipped: target/bin/desk_sheet is not built (rt check desk_sheet builds it), so only a stand-in was drawn from")
+        print("skipped: target/bin/desk_sheet is not built (rt check desk_sheet builds it); a stand-in was drawn from")
         return
     for case, (data, sheet) in SHEETS.items():
         done = subprocess.run([PROGRAM], input=data, capture_output=True, timeout=60)
@@ -430,7 +439,8 @@ def test_look(desk):
     # A page in which the click shows nothing, and one that writes to the console.
     with open(desk.path("page.html"), encoding="utf-8") as file:
         text = file.read()
-    for case, bad in [("a click", text.replace("#show-2:target", "#other")), ("a console", text.replace("</body>", "<script>1</script></body>"))]:
+    without_click, with_script = text.replace("#show-2:target", "#other"), text.replace("</h1>", "</h1><script>1</script>")
+    for case, bad in [("a click", without_click), ("a console", with_script)]:
         got = run(["look-at-page", desk.write("bad.html", bad)])
         expect(f"look-at-page finds {case}", got[0] == 1 and b"problems" in got[1], got)
 

@@ -150,7 +150,8 @@ def refused_body(lesson):
     said = [(f"Refused {lesson.sheet.refused}", code_words(reason)), ("What to do", code_words(remedy))]
     said += [("In this file", escape(here))] if here else []
     entries = "".join(f"<dt>{term}</dt><dd>{words}</dd>" for term, words in said)
-    return f'<p>The file breaks a rule of the model file, so there is no run to draw.</p><dl class="card refused">{entries}</dl>'
+    first = "<p>The file breaks a rule of the model file, so there is no run to draw.</p>"
+    return f'{first}<dl class="card refused">{entries}</dl>'
 
 
 def code_words(text):

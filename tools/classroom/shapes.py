@@ -94,7 +94,7 @@ def fill_broken(label, radius):
     rooms = line_rooms(5, SMALLEST, radius - RIM)
     lines, rest = [], label
     for place, room in enumerate(rooms):
-        room -= width("-", SMALLEST)
+        room = 0.92 * room - width("-", SMALLEST)
         count = 0
         while count < len(rest) and width(rest[: count + 1], SMALLEST) <= room:
             count += 1
