@@ -26,6 +26,7 @@ class Refused(Exception):
     def __init__(self, number, words):
         super().__init__(f"refused {number}: {words}")
         self.number = number
+        self.words = words
 
 
 def layout(states, edges):
@@ -123,16 +124,16 @@ def fail(message, code=2):
     sys.exit(code)
 
 
-def read_input(path):
-    """The bytes of the file named, or of standard input."""
+def read_input(path, code=2):
+    """The bytes of the file named, or of standard input; the script ends with the code if they cannot be read."""
     try:
         with open(path or 0, "rb", closefd=bool(path)) as source:
             return source.read()
     except OSError as error:
-        fail(f"cannot read {path or 'standard input'}: {error.strerror}")
+        fail(f"cannot read {path or 'standard input'}: {error.strerror}", code)
 
 
-def write_output(data, path=None, binary=True):
+def write_output(data, path=None, binary=True, code=2):
     """Writes to the file named, or to standard output; no binary goes to a terminal."""
     if binary and not path and os.isatty(1):
         fail("standard output is a terminal: send it to a file or a program, or use -o FILE")
@@ -142,4 +143,4 @@ def write_output(data, path=None, binary=True):
     except BrokenPipeError:
         sys.exit(1)
     except OSError as error:
-        fail(f"cannot write {path or 'standard output'}: {error.strerror}")
+        fail(f"cannot write {path or 'standard output'}: {error.strerror}", code)
