@@ -28,6 +28,10 @@ use Rattle.desk.proofs.SizeLaws.{only-the-file-refuses}
 abbrev seven : List Reason
 seven = record { number = 7; holds = true } ∷ []
 
+-- 6, by the total length that the file's own numbers give
+abbrev badOwn : List ℕ → Bool
+badOwn f = badOffsets (totalOf (states f) (edgeCount f)) f
+
 -- the reasons 1 to 6
 abbrev firstSix : List ℕ → List Reason
 firstSix f = take 6 (rules f)
@@ -41,7 +45,7 @@ longer f more e =
     let given = from2 .1 .1 .1 .1 .0 in
     elim (badLength f) as (λ b. badLength f ≡ b → b ≡ true) [
       | true ↦ λ q. refl
-      | false ↦ λ q. absurd (omega (arith, n, m, length-kept f given (rw q tt)))
+      | false ↦ λ q. absurd (omega (arith, n, m, length-kept (totalOf (states f) (edgeCount f)) f given (rw q tt)))
     ] refl
 
 -- the first reason of such a file is one of 1 to 6, or 7
@@ -102,23 +106,23 @@ module _ (k : ℕ) (f : List ℕ) where
       let b4 : badInitial (take k f) ≡ badInitial f =
       ap (λ (x : ℕ). not (ltb x (states (take k f)))) (word-take 4 (omega arith)) ∙ ap (λ (x : ℕ). not (ltb (initial f) x)) n in
       let b5 : badReserved (take k f) ≡ badReserved f = ap (λ (x : ℕ). not (eqb x 0)) (word-take 6 (omega arith)) in
-      let b6 : badOffsets (take k f) ≡ badOffsets f =
+      let b6 : badOwn (take k f) ≡ badOwn f =
       ap (λ (x : ℕ). offsetsBad x (edgeCount (take k f)) (long (take k f) 8) (long (take k f) 12) (long (take k f) 16) (long (take k f) 20)) n
       ∙ ap (λ (x : ℕ). offsetsBad (states f) x (long (take k f) 8) (long (take k f) 12) (long (take k f) 16) (long (take k f) 20)) m
       ∙ ap (λ (x : ℕ). offsetsBad (states f) (edgeCount f) x (long (take k f) 12) (long (take k f) 16) (long (take k f) 20)) rows
       ∙ ap (λ (x : ℕ). offsetsBad (states f) (edgeCount f) (long f 8) x (long (take k f) 16) (long (take k f) 20)) edges
       ∙ ap (λ (x : ℕ). offsetsBad (states f) (edgeCount f) (long f 8) (long f 12) x (long (take k f) 20)) marks
       ∙ ap (λ (x : ℕ). offsetsBad (states f) (edgeCount f) (long f 8) (long f 12) (long f 16) x) total in
-      ap (λ (b : Bool). six b (badStates (take k f)) (badEdges (take k f)) (badInitial (take k f)) (badReserved (take k f)) (badOffsets (take k f))) short
-      ∙ ap (λ (b : Bool). six (shortFile f) b (badEdges (take k f)) (badInitial (take k f)) (badReserved (take k f)) (badOffsets (take k f))) b2
-      ∙ ap (λ (b : Bool). six (shortFile f) (badStates f) b (badInitial (take k f)) (badReserved (take k f)) (badOffsets (take k f))) b3
-      ∙ ap (λ (b : Bool). six (shortFile f) (badStates f) (badEdges f) b (badReserved (take k f)) (badOffsets (take k f))) b4
-      ∙ ap (λ (b : Bool). six (shortFile f) (badStates f) (badEdges f) (badInitial f) b (badOffsets (take k f))) b5
+      ap (λ (b : Bool). six b (badStates (take k f)) (badEdges (take k f)) (badInitial (take k f)) (badReserved (take k f)) (badOwn (take k f))) short
+      ∙ ap (λ (b : Bool). six (shortFile f) b (badEdges (take k f)) (badInitial (take k f)) (badReserved (take k f)) (badOwn (take k f))) b2
+      ∙ ap (λ (b : Bool). six (shortFile f) (badStates f) b (badInitial (take k f)) (badReserved (take k f)) (badOwn (take k f))) b3
+      ∙ ap (λ (b : Bool). six (shortFile f) (badStates f) (badEdges f) b (badReserved (take k f)) (badOwn (take k f))) b4
+      ∙ ap (λ (b : Bool). six (shortFile f) (badStates f) (badEdges f) (badInitial f) b (badOwn (take k f))) b5
       ∙ ap (λ (b : Bool). six (shortFile f) (badStates f) (badEdges f) (badInitial f) (badReserved f) b) b6
 
 -- the number that refuses a file longer than every file
 long-number : (f : List ℕ) → (n : ℕ) × (firstBroken (firstSix f ++ seven) ≡ some n)
-long-number f = six-some (shortFile f) (badStates f) (badEdges f) (badInitial f) (badReserved f) (badOffsets f)
+long-number f = six-some (shortFile f) (badStates f) (badEdges f) (badInitial f) (badReserved f) (badOwn f)
 
 -- the text of a refused input
 refused-text : (f : List ℕ) (n : ℕ) → firstBroken (rules f) ≡ some n → inputText f ≡ textOf (some n) []

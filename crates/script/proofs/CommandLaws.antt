@@ -9,6 +9,7 @@ use lib.ListN.{length, take, drop, length-drop}
 use lib.Seq.{take-all}
 use lib.Dec.{eqb, ltb}
 use Rattle.lasso.specs.Lists.{pick}
+use Rattle.gate.specs.Gate.{asking}
 use Rattle.sequence.specs.Calls.{search, next}
 use Rattle.script.specs.Commands.{action, argument, commandLength, overb, sizeOf, lentList, callOf}
 
@@ -106,12 +107,12 @@ module _ (s : List ℕ) where
 
   module _ (copy a w : List ℕ) where
     -- a search
-    pub call-search : action s ≡ 0 → search (argument s) a w ≡ callOf s copy a w
-    call-search e = sym (ap (λ (b : Bool). pick b (search (argument s) a w) (next (lentList s copy) a w)) (eq-eqb (action s) 0 e))
+    pub call-search : action s ≡ 0 → search (asking (argument s)) a w ≡ callOf s copy a w
+    call-search e = sym (ap (λ (b : Bool). pick b (search (asking (argument s)) a w) (next (lentList s copy) a w)) (eq-eqb (action s) 0 e))
 
     -- a next with the list that the command lends
     call-next : (action s ≡ 0 → ⊥) → next (lentList s copy) a w ≡ callOf s copy a w
-    call-next d = sym (ap (λ (b : Bool). pick b (search (argument s) a w) (next (lentList s copy) a w)) (ne-eqb (action s) 0 d))
+    call-next d = sym (ap (λ (b : Bool). pick b (search (asking (argument s)) a w) (next (lentList s copy) a w)) (ne-eqb (action s) 0 d))
 
     -- a next with the copy
     pub call-copy : (action s ≡ 0 → ⊥) → action s ≡ 1 → next copy a w ≡ callOf s copy a w
@@ -131,8 +132,8 @@ module _ (s copy a w : List ℕ) {x : ℕ} (at-action : x ≡ action s) where
 
   module _ {y : ℕ} (at-argument : y ≡ argument s) where
     -- a search
-    pub called-search : x ≡ 0 → search y a w ≡ callOf s copy a w
-    called-search e = ap (λ (n : ℕ). search n a w) at-argument ∙ call-search s copy a w (sym at-action ∙ e)
+    pub called-search : x ≡ 0 → search (asking y) a w ≡ callOf s copy a w
+    called-search e = ap (λ (n : ℕ). search (asking n) a w) at-argument ∙ call-search s copy a w (sym at-action ∙ e)
 
     -- a next with the entries behind
     pub called-list : (x ≡ 0 → ⊥) → (x ≡ 1 → ⊥) → next (take (y + 2 - 2) (drop 2 s)) a w ≡ callOf s copy a w
