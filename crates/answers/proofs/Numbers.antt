@@ -7,7 +7,7 @@ use native.Mathlib.Omega.{arith}
 use lib.Dec.{T, leb, leb→le}
 use Rattle.lasso.specs.Lists.{someIf}
 use Rattle.lasso.proofs.Tests.{fst, snd}
-use Rattle.model.specs.Rules.{Reason, firstBroken}
+use Rattle.format.specs.Rules.{Reason, firstBroken}
 use Rattle.finder.specs.Outcomes.{Outcome, refused, answered, outcome}
 use Rattle.answers.specs.NothingLost.{Numbered}
 

@@ -12,7 +12,7 @@ use Rattle.lasso.specs.Lists.{pick}
 use Rattle.lasso.specs.Roll.{roll}
 use Rattle.lasso.specs.Following.{following}
 use Rattle.model.specs.Model.{graphOf}
-use Rattle.model.specs.Rules.{firstBroken}
+use Rattle.format.specs.Rules.{firstBroken}
 use Rattle.finder.specs.Outcomes.{Outcome, refused, answered, outcome}
 use Rattle.finder.specs.Tables.{written}
 use Rattle.finder.specs.Step.{stepOutcome}

@@ -13,11 +13,12 @@ use lib.Seq.{getD-take, length-take-le, take-all}
 use lib.Dec.{eqb, ltb, nltb→le}
 use Rattle.lasso.specs.Lists.{someIf}
 use Rattle.lasso.proofs.Tests.{lt-or-ge}
-use Rattle.model.specs.Bytes.{word, long}
-use Rattle.model.specs.Layout.{states, edgeCount, initial, rowsAt, edgesAt, marksAt, totalOf}
-use Rattle.model.specs.Rules.{Reason, rules, firstBroken, shortFile, badStates, badEdges, badInitial, badReserved, badOffsets, badLength}
-use Rattle.model.proofs.Reasons.{none-clear}
-use Rattle.model.proofs.Kept.{states-kept, length-kept}
+use Rattle.format.specs.Bytes.{word, long}
+use Rattle.format.specs.Layout.{states}
+use Rattle.format.specs.Layout.{edgeCount, initial, rowsAt, edgesAt, marksAt, totalOf}
+use Rattle.format.specs.Rules.{Reason, rules, firstBroken, shortFile, badStates, badEdges, badInitial, badReserved, badOffsets, badLength}
+use Rattle.format.proofs.Reasons.{none-clear}
+use Rattle.format.proofs.Kept.{states-kept, length-kept}
 use Rattle.gate.proofs.GateLaws.{clear-append, broken-append}
 use Rattle.sheet.specs.Sheet.{textOf}
 use Rattle.desk.specs.Desk.{inputBytes, inputText}

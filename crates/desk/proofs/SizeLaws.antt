@@ -8,9 +8,9 @@ use Rattle.lasso.specs.Graph.{Graph}
 use Rattle.lasso.specs.Roll.{leastLength}
 use Rattle.lasso.proofs.RollLaws.{leastLength-range}
 use Rattle.text.specs.Decimal.{decimal}
-use Rattle.model.specs.Layout.{states}
+use Rattle.format.specs.Layout.{states}
 use Rattle.model.specs.Model.{graphOf}
-use Rattle.model.specs.Rules.{rules, firstBroken, Accepted}
+use Rattle.format.specs.Rules.{rules, firstBroken, Accepted}
 use Rattle.model.proofs.Laws.{accepted-facts}
 use Rattle.gate.specs.Gate.{commonRules}
 use Rattle.finder.specs.Search.{searched, firstDue, listReasons}

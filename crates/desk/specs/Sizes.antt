@@ -5,7 +5,7 @@ use mathlib.Core.List.{List, []}
 use mathlib.Core.Option.{some}
 use lib.ListN.{take}
 use Rattle.text.specs.Figure.{figure}
-use Rattle.model.specs.Rules.{rules, firstBroken}
+use Rattle.format.specs.Rules.{rules, firstBroken}
 use Rattle.sheet.specs.Words.{refusedWord}
 use Rattle.desk.specs.Desk.{inputBytes, inputRefusal, inputText}
 

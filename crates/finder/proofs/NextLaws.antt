@@ -17,8 +17,8 @@ use Rattle.lasso.proofs.Tests.{parts, join, T-true, T-false, eq→eqb, anyb-som
 use Rattle.lasso.proofs.OrderLaws.{sameb→eq, sameb-refl}
 use Rattle.lasso.proofs.RollLaws.{roll-empty, roll-lasso, lasso-in-roll}
 use Rattle.model.specs.Model.{graphOf}
-use Rattle.model.specs.Layout.{states}
-use Rattle.model.specs.Rules.{firstBroken, Accepted}
+use Rattle.format.specs.Layout.{states}
+use Rattle.format.specs.Rules.{firstBroken, Accepted}
 use Rattle.finder.specs.Outcomes.{Outcome, refused, answered, outcome, Followed, noMore}
 use Rattle.gate.specs.Gate.{commonRules}
 use Rattle.finder.specs.Tables.{noRoom, written}

@@ -15,8 +15,8 @@ use Rattle.lasso.specs.Rounds.{Record, candidates, afterRounds}
 use Rattle.lasso.proofs.RollLaws.{leastLength-range, roll-empty, roll-length}
 use Rattle.gate.specs.declared.Ask.{Ask}
 use Rattle.model.specs.Model.{graphOf}
-use Rattle.model.specs.Layout.{states}
-use Rattle.model.specs.Rules.{firstBroken, Accepted}
+use Rattle.format.specs.Layout.{states}
+use Rattle.format.specs.Rules.{firstBroken, Accepted}
 use Rattle.model.proofs.Laws.{accepted-facts}
 use Rattle.finder.specs.Outcomes.{Outcome, refused, answered, outcome, Searched, stopped, empty}
 use Rattle.gate.specs.Gate.{commonRules}

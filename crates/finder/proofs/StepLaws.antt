@@ -11,7 +11,7 @@ use Rattle.lasso.specs.Graph.{Graph}
 use Rattle.lasso.specs.Rounds.{Record, candidates, afterRound}
 pub use Rattle.lasso.proofs.RoundLaws.{candidates-length-le}
 use Rattle.model.specs.Model.{graphOf}
-use Rattle.model.specs.Rules.{firstBroken}
+use Rattle.format.specs.Rules.{firstBroken}
 use Rattle.finder.specs.Outcomes.{refused, answered, outcome, Stepped, finished, advanced}
 use Rattle.gate.specs.Gate.{commonRules}
 use Rattle.finder.specs.Step.{stepped, stepOutcome}

@@ -4,6 +4,3 @@ pub mod Tables
 pub mod Step
 pub mod Search
 pub mod Next
-pub mod Reasons
-pub mod Condition1
-pub mod Condition2

@@ -9,7 +9,7 @@ use Rattle.lasso.specs.Graph.{Graph, edges, loopStart}
 use Rattle.lasso.specs.Roll.{roll}
 use Rattle.lasso.specs.Following.{sameb, following}
 use Rattle.model.specs.Model.{graphOf}
-use Rattle.model.specs.Rules.{Reason, firstBroken}
+use Rattle.format.specs.Rules.{Reason, firstBroken}
 use Rattle.finder.specs.Outcomes.{Outcome, outcome, Followed, noMore}
 use Rattle.gate.specs.Gate.{commonRules}
 use Rattle.finder.specs.Tables.{written}

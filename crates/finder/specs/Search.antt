@@ -11,7 +11,7 @@ use Rattle.lasso.specs.Roll.{leastLength, roll}
 use Rattle.lasso.specs.Rounds.{candidates, afterRounds}
 use Rattle.gate.specs.declared.Ask.{Ask}
 use Rattle.model.specs.Model.{graphOf}
-use Rattle.model.specs.Rules.{Reason, firstBroken}
+use Rattle.format.specs.Rules.{Reason, firstBroken}
 use Rattle.finder.specs.Outcomes.{Outcome, outcome, Searched, stopped, empty}
 use Rattle.gate.specs.Gate.{commonRules}
 use Rattle.finder.specs.Tables.{tooLong, noRoom, written}

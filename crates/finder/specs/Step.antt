@@ -5,7 +5,7 @@ use Rattle.lasso.specs.Lists.{pick}
 use Rattle.lasso.specs.Graph.{Graph}
 use Rattle.lasso.specs.Rounds.{Record, finishedb, afterRound}
 use Rattle.model.specs.Model.{graphOf}
-use Rattle.model.specs.Rules.{firstBroken}
+use Rattle.format.specs.Rules.{firstBroken}
 use Rattle.finder.specs.Outcomes.{Outcome, outcome, Stepped, finished, advanced}
 use Rattle.gate.specs.Gate.{commonRules}
 

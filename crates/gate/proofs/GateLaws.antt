@@ -12,8 +12,8 @@ use lib.ListN.{length, replicate}
 use lib.Dec.{ltb}
 use Rattle.lasso.proofs.Tests.{lt-or-ge}
 use Rattle.lasso.specs.Lists.{someIf}
-use Rattle.model.specs.Layout.{states}
-use Rattle.model.specs.Rules.{Reason, firstBroken, rules, Accepted}
+use Rattle.format.specs.Layout.{states}
+use Rattle.format.specs.Rules.{Reason, firstBroken, rules, Accepted}
 use Rattle.model.specs.declared.Header.{Header}
 use Rattle.model.specs.declared.Checked.{Checked}
 use Rattle.model.specs.declared.Checked.the-variants.{Refused, Accept}

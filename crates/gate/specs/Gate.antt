@@ -6,8 +6,8 @@ use mathlib.Core.List.{List, [], _∷_, _++_}
 use mathlib.Core.Option.{Option, some, none}
 use lib.ListN.{length, replicate}
 use lib.Dec.{ltb}
-use Rattle.model.specs.Layout.{states}
-use Rattle.model.specs.Rules.{Reason, firstBroken, rules}
+use Rattle.format.specs.Layout.{states}
+use Rattle.format.specs.Rules.{Reason, firstBroken, rules}
 use Rattle.model.specs.Values.{answerOf, Valid}
 use Rattle.gate.specs.declared.Ask.{Ask}
 use Rattle.model.specs.declared.Header.{Header}

@@ -11,14 +11,14 @@ use lib.Dec.{T, ltb, ltb→lt, nltb→le}
 use Rattle.lasso.specs.Lists.{memb, upFrom}
 use Rattle.lasso.specs.Graph.{WellFormed, edgeb, ascendingb}
 use Rattle.lasso.proofs.Tests.{lt-or-ge, memb-mem, upFrom-range}
-use Rattle.model.specs.Bytes.{words}
-use Rattle.model.specs.Layout.{states, edgeCount, initial, markBytes, totalOf, rowEntry, target, rowTargets, markBit}
-use Rattle.model.specs.Rules.{rules, Accepted}
+use Rattle.format.specs.Bytes.{words}
+use Rattle.format.specs.Layout.{states, edgeCount, initial, markBytes, totalOf, rowEntry, target, rowTargets, markBit}
+use Rattle.format.specs.Rules.{rules, Accepted}
 use Rattle.model.specs.Model.{graphIn, graphOf, stepsOf, listIf}
 use Rattle.model.specs.declared.Header.{Header}
 use Rattle.model.specs.Values.{Valid, headerOf}
-use Rattle.model.proofs.Reasons.{none-clear, not-not}
-use Rattle.model.proofs.Kept.{states-kept, length-kept, row-first-kept, rows-ascend-kept, row-last-kept, targets-kept, order-kept, spare-kept, row-end-within}
+use Rattle.format.proofs.Reasons.{none-clear, not-not}
+use Rattle.format.proofs.Kept.{states-kept, length-kept, row-first-kept, rows-ascend-kept, row-last-kept, targets-kept, order-kept, spare-kept, row-end-within}
 
 -- what acceptance gives of a file's fields and tables
 pub record Facts (f : List ℕ) : Type 0 where

@@ -1,7 +1,5 @@
 -- The laws of the model file.
-pub mod Words
-pub mod Range
+pub mod Steps
 pub mod Member
-pub mod Reasons
-pub mod Kept
+pub mod Answers
 pub mod Laws

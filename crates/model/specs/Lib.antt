@@ -1,6 +1,3 @@
--- What a reader has to believe about the model file: its fields, the numbered reasons to refuse it, the graph it holds.
-pub mod Bytes
-pub mod Layout
-pub mod Rules
+-- What a reader has to believe about an accepted file: the graph it holds, its header, the answer of its check.
 pub mod Model
 pub mod Values

@@ -5,8 +5,8 @@ use mathlib.Core.List.{List, []}
 use lib.Dec.{ltb}
 use Rattle.lasso.specs.Graph.{Graph}
 use Rattle.model.specs.declared.Header.{Header}
-use Rattle.model.specs.Bytes.{words}
-use Rattle.model.specs.Layout.{rowTargets, markBit}
+use Rattle.format.specs.Bytes.{words}
+use Rattle.format.specs.Layout.{rowTargets, markBit}
 use Rattle.model.specs.Values.{headerOf}
 
 -- the list if the test was passed, else the empty one

@@ -6,8 +6,8 @@ use mathlib.Core.Option.{Option, some, none}
 use Rattle.model.specs.declared.Header.{Header}
 use Rattle.model.specs.declared.Checked.{Checked}
 use Rattle.model.specs.declared.Checked.the-variants.{Refused, Accept}
-use Rattle.model.specs.Layout.{states, edgeCount, initial, totalOf}
-use Rattle.model.specs.Rules.{firstBroken, rulesWith, Accepted}
+use Rattle.format.specs.Layout.{states, edgeCount, initial, totalOf}
+use Rattle.format.specs.Rules.{firstBroken, rulesWith, Accepted}
 
 -- the header fields that the code keeps
 abbrev pub headerOf : List ℕ → Header

@@ -5,25 +5,20 @@ ghost use Prim.Native.Nat.{_≤_, _<_};
 ghost use lib.ListN.{length, getD};
 ghost use Rattle.lasso.specs.Graph.{edgeb};
 ghost use Rattle.model.specs.Model.{graphIn, stepsOf};
-ghost use Rattle.model.specs.Layout.{totalOf};
-ghost use Rattle.model.specs.Rules.{KeptTo};
+ghost use Rattle.format.specs.Layout.{totalOf};
+ghost use Rattle.format.specs.Rules.{KeptTo};
 ghost use Rattle.model.specs.Values.{Valid, headerOf, checkWith, checkOf};
-
-mod bytes;
-mod layout;
-mod tables;
-
-use bytes::bit;
-use bytes::long;
-use bytes::word;
-use layout::marks_at;
-use layout::total_of;
-use tables::offsets_broken;
-use tables::order_broken;
-use tables::row;
-use tables::rows_broken;
-use tables::spare_set;
-use tables::targets_broken;
+use format::bit;
+use format::long;
+use format::marks_at;
+use format::offsets_broken;
+use format::order_broken;
+use format::row;
+use format::rows_broken;
+use format::spare_set;
+use format::targets_broken;
+use format::total_of;
+use format::word;
 
 // The fields of an accepted file that its readers need.
 pub struct Header {

@@ -14,7 +14,7 @@ use Rattle.lasso.specs.Lists.{pick}
 use Rattle.lasso.specs.Graph.{Graph}
 use Rattle.lasso.proofs.Tests.{fst, snd, T-false, eq-or-apart}
 use Rattle.model.specs.Model.{graphOf}
-use Rattle.model.specs.Rules.{Accepted}
+use Rattle.format.specs.Rules.{Accepted}
 use Rattle.finder.specs.Next.{notShortest}
 use Rattle.finder.proofs.NextLaws.{notShortest-apart}
 use Rattle.sequence.specs.Calls.{Call, next, Result, finderAt, received}

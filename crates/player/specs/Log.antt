@@ -5,7 +5,7 @@ use mathlib.Core.List.{List, [], _∷_, _++_}
 use mathlib.Core.Option.{none}
 use lib.ListN.{length, drop}
 use Rattle.lasso.specs.Lists.{collect}
-use Rattle.model.specs.Rules.{Accepted}
+use Rattle.format.specs.Rules.{Accepted}
 use Rattle.sequence.specs.Calls.{Result}
 use Rattle.sequence.specs.Book.{bookResults}
 use Rattle.sequence.specs.Claim.{Proper}

@@ -17,7 +17,7 @@ use Rattle.lasso.specs.declared.Transitions.{Transitions}
 use Rattle.lasso.specs.Following.{sameb, following}
 use Rattle.lasso.proofs.RollLaws.{roll-empty, roll-lasso}
 use Rattle.model.specs.Model.{graphOf}
-use Rattle.model.specs.Rules.{Reason, firstBroken}
+use Rattle.format.specs.Rules.{Reason, firstBroken}
 use Rattle.finder.specs.Outcomes.{answered, outcome, stopped, searchOutcomeOf, nextOutcomeOf}
 use Rattle.finder.specs.declared.SearchAnswer.{SearchAnswer}
 use Rattle.finder.specs.declared.SearchAnswer.the-variants as SearchAnswers

@@ -7,7 +7,7 @@ use lib.Dec.{eqb}
 use Rattle.lasso.specs.Lists.{pick}
 use Rattle.lasso.specs.Roll.{roll}
 use Rattle.model.specs.Model.{graphOf}
-use Rattle.model.specs.Rules.{firstBroken}
+use Rattle.format.specs.Rules.{firstBroken}
 use Rattle.finder.specs.Outcomes.{outcome, Searched, stopped, empty}
 use Rattle.gate.specs.Gate.{commonRules, workOf}
 use Rattle.finder.specs.Tables.{written}

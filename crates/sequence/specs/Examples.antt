@@ -6,7 +6,8 @@ use mathlib.Core.Option.{some, none}
 use lib.ListN.{length, replicate}
 use lib.Dec.{eqb}
 use Rattle.lasso.specs.Lists.{pick, below}
-use Rattle.model.specs.Layout.{states, rowsAt, edgesAt, marksAt, markBytes, totalOf}
+use Rattle.format.specs.Layout.{states}
+use Rattle.format.specs.Layout.{rowsAt, edgesAt, marksAt, markBytes, totalOf}
 use Rattle.gate.specs.declared.Ask.{Ask}
 use Rattle.finder.specs.Outcomes.{Outcome, refused, answered, Searched, stopped, empty, Followed, noMore}
 use Rattle.sequence.specs.Calls.{Call, search, next, Answer, ofSearch, ofNext, Result, finderAt}

@@ -12,9 +12,10 @@ use Rattle.lasso.specs.Graph.{edges}
 use Rattle.lasso.specs.Roll.{leastLength, roll}
 use Rattle.lasso.specs.Rounds.{candidates}
 use Rattle.lasso.proofs.RollLaws.{roll-empty}
-use Rattle.model.specs.Layout.{states, edgeCount}
+use Rattle.format.specs.Layout.{states}
+use Rattle.format.specs.Layout.{edgeCount}
 use Rattle.model.specs.Model.{graphOf}
-use Rattle.model.specs.Rules.{Accepted, firstBroken}
+use Rattle.format.specs.Rules.{Accepted, firstBroken}
 use Rattle.model.specs.declared.Header.{Header}
 use Rattle.model.specs.Values.{Valid}
 use Rattle.model.proofs.Laws.{accepted-facts, header-numbers}

@@ -9,9 +9,10 @@ use Rattle.lasso.specs.Lists.{pick, collect}
 use Rattle.lasso.specs.Graph.{edges}
 use Rattle.lasso.specs.Roll.{roll}
 use Rattle.lasso.specs.Rounds.{candidates}
-use Rattle.model.specs.Layout.{states, edgeCount}
+use Rattle.format.specs.Layout.{states}
+use Rattle.format.specs.Layout.{edgeCount}
 use Rattle.model.specs.Model.{graphOf}
-use Rattle.model.specs.Rules.{firstBroken}
+use Rattle.format.specs.Rules.{firstBroken}
 use Rattle.gate.specs.Gate.{workOf}
 use Rattle.gate.specs.declared.Ask.{Ask}
 use Rattle.gate.specs.Gate.{asking}

@@ -4,7 +4,7 @@ use mathlib.Core.Path.{_≡_, sym, _∙_}
 use mathlib.Core.Option.{some}
 use borrow.Author.Needs.{needs}
 use lib.ListN.{length}
-use Rattle.model.specs.Rules.{firstBroken}
+use Rattle.format.specs.Rules.{firstBroken}
 use Rattle.model.specs.declared.Checked.the-variants.{Refused, Accept}
 use Rattle.gate.specs.Gate.{commonRules, Passed}
 use Rattle.gate.proofs.GateLaws.{gate-says, work-refused, work-left}

@@ -8,10 +8,11 @@ use mathlib.Core.List.{List}
 use borrow.Author.Tests.{lt-ltb, le-ltb, eq-eqb, ne-eqb}
 use denote.Ref.{now}
 use lib.ListN.{length}
-use Rattle.model.specs.Layout.{states, edgeCount, initial, reserved, totalOf}
-use Rattle.model.specs.Rules.{shortFile, badStates, badEdges, badInitial, badReserved, KeptTo}
+use Rattle.format.specs.Layout.{states, edgeCount, initial, reserved, totalOf}
+use Rattle.format.specs.Rules.{shortFile, badStates, badEdges, badInitial, badReserved, KeptTo}
 use Rattle.model.specs.Values.{checkWith}
-use Rattle.model.proofs.Reasons.{passed, refused}
+use Rattle.format.proofs.Reasons.{passed}
+use Rattle.model.proofs.Answers.{refused}
 use borrow.Author.Needs.{needs}
 use Rattle.model.proofs.check.Statement.{statement}
 use Rattle.model.proofs.check.Tie as tie

@@ -9,11 +9,12 @@ use borrow.Author.Tests.{eq-eqb, ne-eqb}
 use denote.Ref.{now}
 use lib.ListN.{length}
 use Prim.Native.Nat.{ℕ, _≤_}
-use Rattle.model.specs.Bytes.{long}
-use Rattle.model.specs.Layout.{HasTables}
-use Rattle.model.specs.Rules.{badOffsets, badLength, badRows, badTargets, badOrder, badSpare, KeptTo}
-use Rattle.model.proofs.Reasons.{passed, refused, accepted, false-not}
-use Rattle.model.proofs.Kept.{length-kept}
+use Rattle.format.specs.Bytes.{long}
+use Rattle.format.specs.Layout.{HasTables}
+use Rattle.format.specs.Rules.{badOffsets, badLength, badRows, badTargets, badOrder, badSpare, KeptTo}
+use Rattle.format.proofs.Reasons.{passed, false-not}
+use Rattle.model.proofs.Answers.{refused, accepted}
+use Rattle.format.proofs.Kept.{length-kept}
 use Rattle.model.proofs.Laws.{header-numbers}
 use borrow.Author.Needs.{needs}
 use Rattle.model.proofs.check_tables.Statement.{statement}

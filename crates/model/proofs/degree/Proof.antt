@@ -1,7 +1,7 @@
 -- `degree` meets its contract: a part holds half as many numbers as bytes.
 use mathlib.Core.Path.{sym}
 use denote.Ref.{now}
-use Rattle.model.proofs.Words.{steps-length}
+use Rattle.model.proofs.Steps.{steps-length}
 use Rattle.model.proofs.degree.Statement.{statement}
 use Rattle.model.proofs.degree.Tie as tie
 

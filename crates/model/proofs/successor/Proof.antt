@@ -2,7 +2,7 @@
 use native.Mathlib.Omega.{arith}
 use mathlib.Core.Path.{sym, _∙_}
 use denote.Ref.{now}
-use Rattle.model.proofs.Words.{steps-length, steps-at}
+use Rattle.model.proofs.Steps.{steps-length, steps-at}
 use Rattle.model.proofs.successor.Statement.{statement}
 use Rattle.model.proofs.successor.Tie as tie
 

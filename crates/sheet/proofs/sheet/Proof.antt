@@ -5,7 +5,7 @@ use mathlib.Core.Option.{some}
 use native.Mathlib.Omega.{arith}
 use borrow.Author.Needs.{needs}
 use lib.ListN.{length}
-use Rattle.model.specs.Rules.{firstBroken}
+use Rattle.format.specs.Rules.{firstBroken}
 use Rattle.model.specs.declared.Checked.the-variants.{Refused, Accept}
 use Rattle.gate.specs.Gate.{commonRules, Passed}
 use Rattle.gate.proofs.GateLaws.{gate-says, work-left}

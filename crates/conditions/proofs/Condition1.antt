@@ -1,0 +1,110 @@
+-- Condition 1 holds: a step, a search and a next are refused with the first reason that holds, and leave the tables as the
+-- contract says.
+use Prim.Native.Nat.{ℕ}
+use mathlib.Core.Path.{_≡_, refl, sym, _∙_, ap}
+use mathlib.Core.List.{List, [], _++_}
+use mathlib.Core.Option.{Option, some, none}
+use native.Mathlib.Omega.{arith}
+use lib.ListN.{length, replicate}
+use lib.Dec.{T}
+use Rattle.lasso.specs.Graph.{ascendingb}
+use Rattle.lasso.specs.Following.{following}
+use Rattle.lasso.specs.Roll.{roll}
+use Rattle.gate.specs.declared.Ask.{Ask}
+use Rattle.model.specs.Model.{graphOf}
+use Rattle.format.specs.Rules.{Reason, firstBroken}
+use Rattle.finder.specs.Outcomes.{refused, answered, outcome}
+use Rattle.gate.specs.Gate.{commonRules, workAfter, workOf}
+use Rattle.finder.specs.Tables.{written}
+use Rattle.finder.specs.Step.{stepped}
+use Rattle.finder.specs.Search.{searched, firstDue, listReasons, searchReasons, unlessRefused}
+use Rattle.finder.specs.Next.{followed, dueReasons, nextReasons}
+use Rattle.conditions.specs.Reasons.{numbersOf}
+use Rattle.conditions.specs.Condition1.{stepNumbers, searchNumbers, nextNumbers, Refuses, AnswerKept, WorkLeft, Condition1Holds}
+use Rattle.gate.proofs.GateLaws.{clear-append, broken-append}
+use Rattle.conditions.proofs.FirstLaws.{none-clear, clear-none, broken-first, first-broken, betweenb, broken-between, refused-some, answered-none}
+
+-- a refusal is no answer
+refused-answered : {A : Type 0} {n : ℕ} {x : A} → refused n ≡ answered x → ⊥
+refused-answered e = let z : _≡_ {A = ℕ} 0 1 = cc in omega arith
+
+-- a call that is refused with the first of its reasons that holds, and answered otherwise
+refuses : {A : Type 0} (reasons : List Reason) (numbers : List ℕ) (x : A) → numbersOf reasons ≡ numbers → T (ascendingb numbers)
+    → Refuses reasons numbers (outcome (firstBroken reasons) x)
+refuses reasons numbers x are ascend = record {
+  numbers-are = are;
+  numbers-ascend = ascend;
+  refused-exactly = λ n. (
+    λ e. broken-first reasons n (refused-some (firstBroken reasons) x n e),
+    λ h. ap (λ (o : Option ℕ). outcome o x) (first-broken reasons n h),
+  );
+  answered-exactly = (
+    λ p. clear-none reasons (answered-none (firstBroken reasons) x (p .0) (p .1)),
+    λ h. (x, ap (λ (o : Option ℕ). outcome o x) (none-clear reasons h)),
+  );
+  not-both = λ n y e q. refused-answered (sym e ∙ q);
+}
+
+-- a refused call writes no list
+answer-kept : {A : Type 0} (o : Option ℕ) (x : A) (due : Option (List ℕ)) (a : List ℕ)
+    → AnswerKept (outcome o x) a (written (unlessRefused o due) a)
+answer-kept o x due a n e = ap (λ (p : Option ℕ). written (unlessRefused p due) a) (refused-some o x n e)
+
+-- the reasons 1 to 12 stand in front of those above 12: the first of the former decides about the working table
+first-decides : {A : Type 0} (w : List ℕ) (common : List Reason) → T (betweenb 1 12 (numbersOf common)) → (rest : List Reason)
+    → T (betweenb 13 15 (numbersOf rest)) → (x : A) (o : Option ℕ) → firstBroken common ≡ o
+    → WorkLeft (outcome (firstBroken (common ++ rest)) x) w (workAfter (firstBroken common) w)
+first-decides w common early rest late x none q =
+    let zero : workAfter (firstBroken common) w ≡ replicate (length w) 0 = ap (λ (o : Option ℕ). workAfter o w) q in
+    record {
+      untouched = λ n e small.
+          let found : firstBroken rest ≡ some n = sym (clear-append common rest q) ∙ refused-some (firstBroken (common ++ rest)) x n e in
+          absurd (omega (arith, broken-between 13 15 rest late n found));
+      zero-refused = λ n e big. zero;
+      zero-answered = λ y e. zero;
+    }
+first-decides w common early rest late x (some m) q =
+    let kept : workAfter (firstBroken common) w ≡ w = ap (λ (o : Option ℕ). workAfter o w) q in
+    let first : firstBroken (common ++ rest) ≡ some m = broken-append common rest m q in
+    record {
+      untouched = λ n e small. kept;
+      zero-refused = λ n e big.
+          let same : some m ≡ some n = sym first ∙ refused-some (firstBroken (common ++ rest)) x n e in
+          let m-is : m ≡ n = cc in
+          absurd (omega (arith, broken-between 1 12 common early m q));
+      zero-answered = λ y e.
+          let none-found : some m ≡ none = sym first ∙ answered-none (firstBroken (common ++ rest)) x y e in
+          let z : _≡_ {A = ℕ} 0 1 = cc in
+          absurd (omega arith);
+    }
+
+-- so it is with a call's own reasons behind the common ones
+work-left : {A : Type 0} (f w : List ℕ) (rest : List Reason) (x : A) → T (betweenb 13 15 (numbersOf rest))
+    → WorkLeft (outcome (firstBroken (commonRules f (length w) ++ rest)) x) w (workOf f w)
+work-left f w rest x late =
+    first-decides w (commonRules f (length w)) tt rest late x (firstBroken (commonRules f (length w))) refl
+
+-- condition 1
+pub condition-1 : Condition1Holds
+condition-1 = record {
+  step = λ f rec w. record {
+    refuses = refuses (commonRules f (length w)) stepNumbers (stepped (graphOf f) rec) refl tt;
+    work = work-left f w [] (stepped (graphOf f) rec) tt;
+  };
+  search = λ f ask a w.
+      let x = searched (graphOf f) ask in
+      let reasons = searchReasons f ask (length a) (length w) in
+      record {
+        refuses = refuses reasons searchNumbers x refl tt;
+        answer = answer-kept (firstBroken reasons) x (firstDue (graphOf f) ask) a;
+        work = work-left f w (listReasons f (firstDue (graphOf f) ask) (length a)) x tt;
+      };
+  next = λ f earlier a w.
+      let due = following earlier (roll (graphOf f)) in
+      let reasons = nextReasons f earlier (length a) (length w) in
+      record {
+        refuses = refuses reasons nextNumbers (followed due) refl tt;
+        answer = answer-kept (firstBroken reasons) (followed due) due a;
+        work = work-left f w (dueReasons f earlier due (length a)) (followed due) tt;
+      };
+}

@@ -1,0 +1,4 @@
+-- The proofs of conditions 1 and 2.
+pub mod FirstLaws
+pub mod Condition1
+pub mod Condition2

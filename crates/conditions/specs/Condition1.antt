@@ -1,0 +1,73 @@
+-- Condition 1: when a call is refused, with which number, and what becomes of the tables that were lent.
+use Prim.Native.Nat.{ℕ, _≤_, _<_}
+use mathlib.Core.Path.{_≡_}
+use mathlib.Core.Logic.{_↔_}
+use mathlib.Core.List.{List, [], _∷_, _++_}
+use lib.ListN.{length, replicate}
+use lib.Dec.{T}
+use Rattle.lasso.specs.Lists.{upFrom}
+use Rattle.lasso.specs.Graph.{ascendingb}
+use Rattle.lasso.specs.Rounds.{Record}
+use Rattle.gate.specs.declared.Ask.{Ask}
+use Rattle.format.specs.Rules.{Reason}
+use Rattle.finder.specs.Outcomes.{Outcome, refused, answered}
+use Rattle.gate.specs.Gate.{commonRules, workOf}
+use Rattle.finder.specs.Step.{stepOutcome}
+use Rattle.finder.specs.Search.{searchReasons, searchOutcome, searchAnswer}
+use Rattle.finder.specs.Next.{nextReasons, nextOutcome, nextAnswer}
+use Rattle.conditions.specs.Reasons.{numbersOf, NoneHolds, FirstHolds}
+
+-- the numbers of the reasons that each call applies: a step goes no further than 12, a search skips 13
+abbrev pub stepNumbers : List ℕ
+stepNumbers = upFrom 1 12
+
+abbrev pub searchNumbers : List ℕ
+searchNumbers = upFrom 1 12 ++ 14 ∷ 15 ∷ []
+
+abbrev pub nextNumbers : List ℕ
+nextNumbers = upFrom 1 15
+
+-- a call with these reasons: they have these numbers, which ascend, so that no two have the same; the call is refused with
+-- n exactly if reason n holds and none before it, answered exactly if no reason holds, and never both
+pub record Refuses {A : Type 0} (reasons : List Reason) (numbers : List ℕ) (o : Outcome A) : Type 0 where
+  pub numbers-are : numbersOf reasons ≡ numbers
+  pub numbers-ascend : T (ascendingb numbers)
+  pub refused-exactly : (n : ℕ) → (o ≡ refused n) ↔ FirstHolds reasons n
+  pub answered-exactly : ((x : A) × (o ≡ answered x)) ↔ NoneHolds reasons
+  pub not-both : (n : ℕ) (x : A) → o ≡ refused n → o ≡ answered x → ⊥
+
+-- the answer table after a refusal is the one lent
+abbrev pub AnswerKept : {A : Type 0} → Outcome A → List ℕ → List ℕ → Type 0
+AnswerKept o a a' = (n : ℕ) → o ≡ refused n → a' ≡ a
+
+-- the working table is untouched after 1 to 12; after every later number and after every answer all its entries are zero,
+-- however long it is
+pub record WorkLeft {A : Type 0} (o : Outcome A) (w w' : List ℕ) : Type 0 where
+  pub untouched : (n : ℕ) → o ≡ refused n → n ≤ 12 → w' ≡ w
+  pub zero-refused : (n : ℕ) → o ≡ refused n → 12 < n → w' ≡ replicate (length w) 0
+  pub zero-answered : (x : A) → o ≡ answered x → w' ≡ replicate (length w) 0
+
+-- a step, which is lent no answer table
+pub record StepCondition1 (f : List ℕ) (rec : Record) (w : List ℕ) : Type 0 where
+  pub refuses : Refuses (commonRules f (length w)) stepNumbers (stepOutcome f rec (length w))
+  pub work : WorkLeft (stepOutcome f rec (length w)) w (workOf f w)
+
+-- a search
+pub record SearchCondition1 (f : List ℕ) (ask : Ask) (a w : List ℕ) : Type 0 where
+  pub refuses : Refuses (searchReasons f ask (length a) (length w)) searchNumbers
+      (searchOutcome f ask (length a) (length w))
+  pub answer : AnswerKept (searchOutcome f ask (length a) (length w)) a (searchAnswer f ask a (length w))
+  pub work : WorkLeft (searchOutcome f ask (length a) (length w)) w (workOf f w)
+
+-- a next
+pub record NextCondition1 (f earlier a w : List ℕ) : Type 0 where
+  pub refuses : Refuses (nextReasons f earlier (length a) (length w)) nextNumbers
+      (nextOutcome f earlier (length a) (length w))
+  pub answer : AnswerKept (nextOutcome f earlier (length a) (length w)) a (nextAnswer f earlier a (length w))
+  pub work : WorkLeft (nextOutcome f earlier (length a) (length w)) w (workOf f w)
+
+-- condition 1: for every call, whatever is given and lent
+pub record Condition1Holds : Type 0 where
+  pub step : (f : List ℕ) (rec : Record) (w : List ℕ) → StepCondition1 f rec w
+  pub search : (f : List ℕ) (ask : Ask) (a w : List ℕ) → SearchCondition1 f ask a w
+  pub next : (f earlier a w : List ℕ) → NextCondition1 f earlier a w

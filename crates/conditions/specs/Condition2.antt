@@ -1,0 +1,112 @@
+-- Condition 2: what a search for which no reason holds answers and writes.
+use Prim.Native.Nat.{ℕ, _+_, _*_, _≤_, _<_}
+use mathlib.Core.Path.{_≡_}
+use mathlib.Core.Logic.{_↔_, _⊎_}
+use mathlib.Core.List.{List, _++_}
+use mathlib.Core.Option.{some}
+use lib.ListN.{length, drop}
+use lib.Dec.{T}
+use Rattle.lasso.specs.Graph.{Graph, edges, loopsb, acceptingb}
+use Rattle.lasso.specs.Order.{beforeb}
+use Rattle.lasso.specs.Roll.{leastLength}
+use Rattle.lasso.specs.Rounds.{Record, candidates, afterRounds}
+use Rattle.gate.specs.declared.Ask.{Ask}
+use Rattle.format.specs.Layout.{states}
+use Rattle.model.specs.Model.{graphOf}
+use Rattle.format.specs.Rules.{Accepted}
+use Rattle.finder.specs.Outcomes.{answered, Searched, stopped, empty}
+use Rattle.finder.specs.Search.{searchReasons, searchOutcome, searchAnswer}
+use Rattle.conditions.specs.Reasons.{NoneHolds}
+
+-- an accepting path exists
+abbrev pub SomePath : Graph → Type 0
+SomePath g = (ys : List ℕ) × T (acceptingb g ys)
+
+-- the first of the shortest accepting paths: no accepting path is shorter, and every other one of the same length comes
+-- after it in dictionary order
+pub record FirstShortest (g : Graph) (xs : List ℕ) : Type 0 where
+  pub accepting : T (acceptingb g xs)
+  pub shortest : (ys : List ℕ) → T (acceptingb g ys) → edges xs ≤ edges ys
+  pub first : (ys : List ℕ) → T (acceptingb g ys) → edges ys ≡ edges xs → (ys ≡ xs → ⊥) → T (beforeb xs ys)
+
+-- the answer is "found" (L, k, rounds)
+abbrev pub IsFound : List ℕ → Ask → List ℕ → ℕ → ℕ → ℕ → ℕ → Type 0
+IsFound f ask a work L k rounds = searchOutcome f ask (length a) work ≡ answered (Searched.found L k rounds)
+
+-- the answer is "empty" (rounds)
+abbrev pub IsEmpty : List ℕ → Ask → List ℕ → ℕ → ℕ → Type 0
+IsEmpty f ask a work rounds = searchOutcome f ask (length a) work ≡ answered (empty rounds)
+
+-- the answer is "stopped" with a record
+abbrev pub IsStopped : List ℕ → Ask → List ℕ → ℕ → Record → Type 0
+IsStopped f ask a work r = searchOutcome f ask (length a) work ≡ answered (stopped r)
+
+-- the answer is "found", with some figures
+abbrev pub Finds : List ℕ → Ask → List ℕ → ℕ → Type 0
+Finds f ask a work = (L : ℕ) × (k : ℕ) × (rounds : ℕ) × IsFound f ask a work L k rounds
+
+-- the answer is "empty", with some figure
+abbrev pub Empties : List ℕ → Ask → List ℕ → ℕ → Type 0
+Empties f ask a work = (rounds : ℕ) × IsEmpty f ask a work rounds
+
+-- what "found" (L, k, rounds) says: the first of the shortest accepting paths stands in entries 0 to L of the answer
+-- table, and what lies past them is as before; from k on, which is below L, it is a closed walk with a mark; and all
+-- rounds are done
+pub record FoundSays (f : List ℕ) (ask : Ask) (a : List ℕ) (work L k rounds : ℕ) : Type 0 where
+  pub list : List ℕ
+  pub first-shortest : FirstShortest (graphOf f) list
+  pub length-is : edges list ≡ L
+  pub entries-are : length list ≡ L + 1
+  pub fits : L + 1 ≤ length a
+  pub written : searchAnswer f ask a work ≡ list ++ drop (L + 1) a
+  pub loop-start-below : k < L
+  pub loops : T (loopsb (graphOf f) list k)
+  pub rounds-are : rounds ≡ length (candidates (graphOf f))
+
+-- what "empty" (rounds) says: nothing is written, and all rounds are done
+pub record EmptySays (f : List ℕ) (ask : Ask) (a : List ℕ) (work rounds : ℕ) : Type 0 where
+  pub unwritten : searchAnswer f ask a work ≡ a
+  pub rounds-are : rounds ≡ length (candidates (graphOf f))
+
+-- with an allowance not below the number of candidates: the answer is "found" or "empty" and not "stopped"; "found"
+-- exactly if an accepting path exists, "empty" exactly if none does
+pub record Searches (f : List ℕ) (ask : Ask) (a : List ℕ) (work : ℕ) : Type 0 where
+  pub answers : Finds f ask a work ⊎ Empties f ask a work
+  pub not-stopped : (r : Record) → IsStopped f ask a work r → ⊥
+  pub found-exactly : Finds f ask a work ↔ SomePath (graphOf f)
+  pub found-says : (L k rounds : ℕ) → IsFound f ask a work L k rounds → FoundSays f ask a work L k rounds
+  pub empty-exactly : Empties f ask a work ↔ (SomePath (graphOf f) → ⊥)
+  pub empty-says : (rounds : ℕ) → IsEmpty f ask a work rounds → EmptySays f ask a work rounds
+
+-- with a smaller allowance: "stopped" with the record after that many rounds, claiming neither "found" nor "empty", and
+-- nothing is written
+pub record Stops (f : List ℕ) (ask : Ask) (a : List ℕ) (work : ℕ) : Type 0 where
+  pub stopped-with : IsStopped f ask a work (afterRounds (graphOf f) (ask .allowance))
+  pub rounds-done : afterRounds (graphOf f) (ask .allowance) .done ≡ ask .allowance
+  pub not-found : Finds f ask a work → ⊥
+  pub not-empty : Empties f ask a work → ⊥
+  pub unwritten : searchAnswer f ask a work ≡ a
+
+-- a search: by whether the allowance suffices
+pub record Condition2 (f : List ℕ) (ask : Ask) (a : List ℕ) (work : ℕ) : Type 0 where
+  pub suffices : length (candidates (graphOf f)) ≤ ask .allowance → Searches f ask a work
+  pub short : ask .allowance < length (candidates (graphOf f)) → Stops f ask a work
+
+-- what it says that no reason of a search holds: the file breaks none of 1 to 11, the working table has 6 × N entries, and
+-- the answer table has L + 1 entries if a list is to be written
+pub record SearchPasses (f : List ℕ) (ask : Ask) (answer work : ℕ) : Type 0 where
+  pub accepted : Accepted f
+  pub room : 6 * states f ≤ work
+  pub fits : length (candidates (graphOf f)) ≤ ask .allowance → (l : ℕ) → leastLength (graphOf f) ≡ some l → l + 1 ≤ answer
+
+-- no reason of a search holds exactly if that is so
+abbrev pub SearchPassesExactly : Type 0
+SearchPassesExactly =
+    (f : List ℕ) (ask : Ask) (answer work : ℕ)
+    → NoneHolds (searchReasons f ask answer work) ↔ SearchPasses f ask answer work
+
+-- condition 2: for every search, whatever its file, allowance, answer table and working table, for which no reason holds
+abbrev pub Condition2Holds : Type 0
+Condition2Holds =
+    (f : List ℕ) (ask : Ask) (a : List ℕ) (work : ℕ) → NoneHolds (searchReasons f ask (length a) work)
+    → Condition2 f ask a work

@@ -1,0 +1,4 @@
+-- What conditions 1 and 2 say: when a call is refused, and what a search that is not refused says.
+pub mod Reasons
+pub mod Condition1
+pub mod Condition2

@@ -1,0 +1,65 @@
+-- What it says that no reason of a table holds, and how the first one that holds is found.
+use Prim.Native.Nat.{ℕ, _+_, _≤_, _<_}
+use mathlib.Core.Path.{_≡_, sym, ap, _∙_}
+use mathlib.Core.Bool.{Bool, true, false, _||_, not}
+use mathlib.Core.List.{List, [], _∷_}
+use mathlib.Core.Option.{Option, none, Option·some-ne-none}
+use native.Mathlib.Omega.{arith}
+use lib.Dec.{T, eqb, not-T, T-not}
+use Rattle.lasso.specs.Lists.{anyb, upFrom, below, someIf}
+use Rattle.lasso.proofs.Tests.{some-anyb, range-upFrom, eq→eqb}
+use Rattle.format.specs.Rules.{Reason, firstBroken, rulesWith}
+
+-- no reason of a table holds
+abbrev pub Clear : List Reason → Type 0
+Clear [] = Unit {0}
+Clear (r ∷ rs) = T (not (r .holds)) × Clear rs
+
+-- a skipped reason does not hold, and the table behind it decides
+skipped : (b : Bool) (n : ℕ) (o : Option ℕ) → someIf b n o ≡ none → T (not b) × (o ≡ none)
+skipped true n o e = absurd (Option·some-ne-none n e)
+skipped false n o e = (tt, e)
+
+-- a table without a first reason that holds is clear
+pub none-clear : (rs : List Reason) → firstBroken rs ≡ none → Clear rs
+none-clear [] e = tt
+none-clear (r ∷ rs) e =
+    let p : T (not (r .holds)) × (firstBroken rs ≡ none) = skipped (r .holds) (r .number) (firstBroken rs) e in
+    (p .0, none-clear rs (p .1))
+
+-- a reason that does not hold leaves the answer to the reasons behind it
+pub passed : (o : Option ℕ) (b : Bool) (n : ℕ) (rest : Option ℕ) → o ≡ someIf b n rest → b ≡ false → o ≡ rest
+passed o b n rest e q = e ∙ ap (λ (x : Bool). someIf x n rest) q
+
+-- the negation of a test that is false passes
+pub false-not : (b : Bool) → b ≡ false → T (not b)
+false-not b e = rw e tt
+
+-- the first part of a disjunction that fails fails
+pub neither-l : (a b : Bool) → T (not (a || b)) → T (not a)
+neither-l true b h = h
+neither-l false b h = tt
+
+-- the second part of a disjunction that fails fails
+pub neither-r : (a b : Bool) → T (not (a || b)) → T (not b)
+neither-r true b h = absurd h
+neither-r false b h = h
+
+-- a test whose negation fails passes
+pub not-not : (a : Bool) → T (not (not a)) → T a
+not-not true h = tt
+not-not false h = h
+
+pub ruleset kept = (neither-l, neither-r, not-not)
+
+-- numbers that are not tested equal differ
+pub neqb→ne : (a b : ℕ) → T (not (eqb a b)) → a ≡ b → ⊥
+neqb→ne a b h e = T-not (eqb a b) h (eq→eqb a b e)
+
+-- no number of a range passes a test that finds none
+pub none-passes : (p : ℕ → Bool) (a n : ℕ) → T (not (anyb p (upFrom a n))) → (i : ℕ) → a ≤ i → i < a + n → T (not (p i))
+none-passes p a n h i l m = not-T (p i) (λ t. T-not (anyb p (upFrom a n)) h (some-anyb p (range-upFrom a n i l m) t))
+
+-- no number below n passes a test that finds none
+pub none-below : (p : ℕ → Bool) (n : ℕ) → T (not (anyb p (below n))) → (i : ℕ) → i < n → T (not (p i))
+none-below p n h i l = none-passes p 0 n h i (omega arith) (omega arith)

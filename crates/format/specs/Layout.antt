@@ -1,0 +1,68 @@
+-- The model file: a header of 24 bytes, the row table, the edge table, the marks.
+use Prim.Native.Nat.{ℕ, _+_, _*_, _-_, _/_, _%_, _≤_}
+use mathlib.Core.Path.{_≡_}
+use mathlib.Core.Bool.{Bool}
+use mathlib.Core.List.{List, map}
+use lib.ListN.{length, getD}
+use Rattle.lasso.specs.Lists.{upFrom}
+use Rattle.format.specs.Bytes.{word, bitb}
+
+-- N, the number of states
+abbrev pub states : List ℕ → ℕ
+states f = word f 0
+
+-- M, the number of edges
+abbrev pub edgeCount : List ℕ → ℕ
+edgeCount f = word f 2
+
+-- i, the initial state
+abbrev pub initial : List ℕ → ℕ
+initial f = word f 4
+
+-- bytes 6–7
+abbrev pub reserved : List ℕ → ℕ
+reserved f = word f 6
+
+-- the offset of the row table, which has N + 1 numbers of 16 bits
+abbrev pub rowsAt : ℕ
+rowsAt = 24
+
+-- the offset of the edge table that N gives, which has M numbers of 16 bits
+abbrev pub edgesAt : ℕ → ℕ
+edgesAt n = rowsAt + 2 * (n + 1)
+
+-- the offset of the marks that N and M give
+abbrev pub marksAt : ℕ → ℕ → ℕ
+marksAt n m = edgesAt n + 2 * m
+
+-- the number of mark bytes: N / 8 rounded up
+abbrev pub markBytes : ℕ → ℕ
+markBytes n = (n + 7) / 8
+
+-- the total length that N and M give
+abbrev pub totalOf : ℕ → ℕ → ℕ
+totalOf n m = marksAt n m + markBytes n
+
+-- the row entry at a place of the row table
+abbrev pub rowEntry : List ℕ → ℕ → ℕ
+rowEntry f s = word f (rowsAt + 2 * s)
+
+-- the target at a place of the edge table
+abbrev pub target : List ℕ → ℕ → ℕ
+target f e = word f (edgesAt (states f) + 2 * e)
+
+-- the targets of row s: the places from entry s up to, not including, entry s + 1
+abbrev pub rowTargets : List ℕ → ℕ → List ℕ
+rowTargets f s = map (target f) (upFrom (rowEntry f s) (rowEntry f (s + 1) - rowEntry f s))
+
+-- the mark of s: bit s mod 8 of byte s div 8 of the marks
+abbrev pub markBit : List ℕ → ℕ → Bool
+markBit f s = bitb (getD f (marksAt (states f) (edgeCount f) + s / 8) 0) (s % 8)
+
+-- n and m are the file's numbers of states and edges, within the limits, and the file has room for their tables
+pub record HasTables (f : List ℕ) (n m : ℕ) : Type 0 where
+  pub states-are : n ≡ states f
+  pub edges-are : m ≡ edgeCount f
+  pub states-limit : n ≤ 4096
+  pub edges-limit : m ≤ 8192
+  pub room : totalOf n m ≤ length f

@@ -1,0 +1,100 @@
+-- The numbered reasons to refuse a file, 1 to 11, in checking order.
+use Prim.Native.Nat.{ℕ, _+_, _*_, _-_}
+use mathlib.Core.Path.{_≡_}
+use mathlib.Core.Bool.{Bool, _||_, not}
+use mathlib.Core.List.{List, [], _∷_}
+use mathlib.Core.Option.{Option, none}
+use lib.ListN.{length, drop}
+use lib.Dec.{eqb, ltb}
+use Rattle.lasso.specs.Lists.{anyb, upFrom, below, someIf}
+use Rattle.lasso.specs.Graph.{ascendingb}
+use Rattle.format.specs.Bytes.{long}
+use Rattle.format.specs.Layout.{states, edgeCount, initial, reserved, rowsAt, edgesAt, marksAt, markBytes, totalOf, rowEntry, target, rowTargets, markBit}
+
+-- a reason to refuse: its number, and whether it holds
+pub record Reason : Type 0 where
+  pub number : ℕ
+  pub holds : Bool
+
+-- the number of the first reason that holds, if one does
+abbrev pub firstBroken : List Reason → Option ℕ
+firstBroken [] = none
+firstBroken (r ∷ rs) = someIf (r .holds) (r .number) (firstBroken rs)
+
+-- 1. the file has fewer than 24 bytes
+abbrev pub shortFile : List ℕ → Bool
+shortFile f = ltb (length f) 24
+
+-- 2. N is 0 or above 4,096
+abbrev pub badStates : List ℕ → Bool
+badStates f = eqb (states f) 0 || ltb 4096 (states f)
+
+-- 3. M is above 8,192
+abbrev pub badEdges : List ℕ → Bool
+badEdges f = ltb 8192 (edgeCount f)
+
+-- 4. the initial state is not below N
+abbrev pub badInitial : List ℕ → Bool
+badInitial f = not (ltb (initial f) (states f))
+
+-- 5. bytes 6–7 are not zero
+abbrev pub badReserved : List ℕ → Bool
+badReserved f = not (eqb (reserved f) 0)
+
+-- 6. an offset differs from the one that N and M give, or the total length from the one of this kind of file
+abbrev pub badOffsets : ℕ → List ℕ → Bool
+badOffsets total f =
+    not (eqb (long f 8) rowsAt) ||
+    (not (eqb (long f 12) (edgesAt (states f))) ||
+    (not (eqb (long f 16) (marksAt (states f) (edgeCount f))) ||
+    not (eqb (long f 20) total)))
+
+-- 7. the file's own length differs from the total length
+abbrev pub badLength : List ℕ → Bool
+badLength f = not (eqb (length f) (long f 20))
+
+-- 8. the first row entry is not 0, an entry is less than the one before, or the last is not M
+abbrev pub badRows : List ℕ → Bool
+badRows f =
+    not (eqb (rowEntry f 0) 0) ||
+    (anyb (λ s. ltb (rowEntry f (s + 1)) (rowEntry f s)) (below (states f)) ||
+    not (eqb (rowEntry f (states f)) (edgeCount f)))
+
+-- 9. a target is not below N
+abbrev pub badTargets : List ℕ → Bool
+badTargets f = anyb (λ e. not (ltb (target f e) (states f))) (below (edgeCount f))
+
+-- 10. the targets in some row are not strictly ascending
+abbrev pub badOrder : List ℕ → Bool
+badOrder f = anyb (λ s. not (ascendingb (rowTargets f s))) (below (states f))
+
+-- 11. a spare bit of the marks is set
+abbrev pub badSpare : List ℕ → Bool
+badSpare f = anyb (markBit f) (upFrom (states f) (8 * markBytes (states f) - states f))
+
+-- the table of reasons for a kind of file, by the total length that this kind is to have
+abbrev pub rulesWith : ℕ → List ℕ → List Reason
+rulesWith total f =
+    record { number = 1; holds = shortFile f } ∷
+    record { number = 2; holds = badStates f } ∷
+    record { number = 3; holds = badEdges f } ∷
+    record { number = 4; holds = badInitial f } ∷
+    record { number = 5; holds = badReserved f } ∷
+    record { number = 6; holds = badOffsets total f } ∷
+    record { number = 7; holds = badLength f } ∷
+    record { number = 8; holds = badRows f } ∷
+    record { number = 9; holds = badTargets f } ∷
+    record { number = 10; holds = badOrder f } ∷
+    record { number = 11; holds = badSpare f } ∷ []
+
+-- the first k rules of a kind of file are kept: those behind them decide
+abbrev pub KeptTo : ℕ → ℕ → List ℕ → Type 0
+KeptTo k total f = firstBroken (rulesWith total f) ≡ firstBroken (drop k (rulesWith total f))
+
+-- the table of reasons that every call applies to its file: the total length is the one that N and M give
+abbrev pub rules : List ℕ → List Reason
+rules f = rulesWith (totalOf (states f) (edgeCount f)) f
+
+-- an accepted file: one that breaks none of 1 to 11
+abbrev pub Accepted : List ℕ → Type 0
+Accepted f = firstBroken (rules f) ≡ none

@@ -1,0 +1,136 @@
+// The rules 6 and 8 to 11, each as one test of a file whose numbers of states and edges were read, and the part of a
+// row.
+ghost use mathlib.Core.Path.{_≡_};
+ghost use mathlib.Core.Bool.{false};
+ghost use Prim.Native.Nat.{_+_, _*_, _≤_, _<_};
+ghost use lib.ListN.{length};
+ghost use Rattle.lasso.specs.Graph.{ascendingb};
+ghost use Rattle.format.specs.Bytes.{words};
+ghost use Rattle.format.specs.Layout.{states, edgeCount, edgesAt, rowEntry, rowTargets, HasTables};
+ghost use Rattle.format.specs.Rules.{badOffsets, badRows, badTargets, badOrder, badSpare};
+use crate::bytes::bit;
+use crate::bytes::entry;
+use crate::bytes::long;
+use crate::bytes::word;
+use crate::layout::edges_at;
+use crate::layout::mark_bytes;
+use crate::layout::marks_at;
+use crate::layout::row_entry;
+
+// The part of the file that holds the targets of row s, in a file of n states whose entries s and s + 1 are in order
+// and within the edge table.
+pub fn row(file: &[u8], n: usize, s: usize) -> &[u8]
+    requires { ⌜ (n ≡ states (now file)) × (n ≤ 4096) ⌝ }
+    requires { ⌜ s < n ⌝ }
+    requires { ⌜ rowEntry (now file) s ≤ rowEntry (now file) (s + 1) ⌝ }
+    requires { ⌜ edgesAt n + 2 * rowEntry (now file) (s + 1) ≤ length (now file) ⌝ }
+    ensures { λ r. ⌜ words (now r) ≡ rowTargets (now (file .entry)) s ⌝ }
+{
+    let base = edges_at(n);
+    let from = base + 2 * row_entry(file, s);
+    let to = base + 2 * row_entry(file, s + 1);
+    &file[from..to]
+}
+
+// Rule 6: an offset differs from the one that n states and m edges give, or the total length from the one given.
+pub fn offsets_broken(file: &[u8], n: usize, m: usize, total: usize) -> bool
+    requires { ⌜ 24 ≤ length (now file) ⌝ }
+    requires { ⌜ (n ≡ states (now file)) × (m ≡ edgeCount (now file)) ⌝ }
+    requires { ⌜ (n ≤ 4096) × (m ≤ 8192) ⌝ }
+    ensures { λ r. ⌜ r ≡ badOffsets total (now (file .entry)) ⌝ }
+{
+    let edges = edges_at(n);
+    let marks = marks_at(n, m);
+    if long(file, 8) != 24 {
+        return true;
+    }
+    if long(file, 12) != edges {
+        return true;
+    }
+    if long(file, 16) != marks {
+        return true;
+    }
+    long(file, 20) != total
+}
+
+// Rule 8: the first row entry is not 0, an entry is less than the one before, or the last is not m.
+pub fn rows_broken(file: &[u8], n: usize, m: usize) -> bool
+    requires { ⌜ HasTables (now file) n m ⌝ }
+    ensures { λ r. ⌜ r ≡ badRows (now (file .entry)) ⌝ }
+{
+    if row_entry(file, 0) != 0 {
+        return true;
+    }
+    let mut s = 0;
+    while s < n {
+        if row_entry(file, s + 1) < row_entry(file, s) {
+            return true;
+        }
+        s += 1;
+    }
+    row_entry(file, n) != m
+}
+
+// Rule 9: a target is not below n.
+pub fn targets_broken(file: &[u8], n: usize, m: usize) -> bool
+    requires { ⌜ HasTables (now file) n m ⌝ }
+    ensures { λ r. ⌜ r ≡ badTargets (now (file .entry)) ⌝ }
+{
+    let base = edges_at(n);
+    let mut e = 0;
+    while e < m {
+        if n <= entry(file, base, e) {
+            return true;
+        }
+        e += 1;
+    }
+    false
+}
+
+// The numbers of a part ascend strictly.
+pub fn ascends(part: &[u8]) -> bool
+    ensures { λ r. ⌜ r ≡ ascendingb (words (now (part .entry))) ⌝ }
+{
+    let count = part.len() / 2;
+    let mut k = 0;
+    while k + 1 < count {
+        if word(part, 2 * (k + 1)) <= word(part, 2 * k) {
+            return false;
+        }
+        k += 1;
+    }
+    true
+}
+
+// Rule 10: the targets in some row are not strictly ascending.
+pub fn order_broken(file: &[u8], n: usize, m: usize) -> bool
+    requires { ⌜ HasTables (now file) n m ⌝ }
+    requires { ⌜ badRows (now file) ≡ false ⌝ }
+    ensures { λ r. ⌜ r ≡ badOrder (now (file .entry)) ⌝ }
+{
+    let mut s = 0;
+    while s < n {
+        if !ascends(row(file, n, s)) {
+            return true;
+        }
+        s += 1;
+    }
+    false
+}
+
+// Rule 11: a spare bit of the marks is set.
+pub fn spare_set(file: &[u8], n: usize, m: usize) -> bool
+    requires { ⌜ HasTables (now file) n m ⌝ }
+    ensures { λ r. ⌜ r ≡ badSpare (now (file .entry)) ⌝ }
+{
+    let marks = marks_at(n, m);
+    let end = 8 * mark_bytes(n);
+    let mut s = n;
+    while s < end {
+        if bit(file, marks, s) {
+            return true;
+        }
+        s += 1;
+    }
+    false
+}
