@@ -1,5 +1,6 @@
-//! The proved algorithm once more, in Rust: function for function the code of the crates model, spread, rounds, listing
-//! and finder, in the same table of 6 × N entries. Its text is shared by the versions with and without bounds checks.
+//! The proved algorithm once more, in Rust, step by step in the same table of 6 × N entries: what the crates model,
+//! frontier, spread, walks, rounds, starts, follow, listing, current, cursor and finder do. Its functions are divided
+//! otherwise, and lengths are plain numbers here. Its text is shared by the versions with and without bounds checks.
 
 pub mod access;
 pub mod finder;
