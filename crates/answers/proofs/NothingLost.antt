@@ -18,7 +18,7 @@ use Rattle.finder.specs.Step.{stepped}
 use Rattle.finder.specs.Search.{searched, searchReasons}
 use Rattle.finder.specs.Next.{followed, nextReasons}
 use Rattle.answers.specs.Kinds.{Report, hasBest, bestFigure, recordGiven, stepReport, searchReport, nextReport}
-use Rattle.answers.specs.NothingLost.{Numbered, Tells, NothingLost}
+use Rattle.answers.specs.NothingLost.{Numbered, NothingLost}
 use Rattle.answers.proofs.Numbers.{broken-numbered}
 
 -- the record as it came out can be given to the next step

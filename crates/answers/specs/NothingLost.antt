@@ -5,7 +5,7 @@ use mathlib.Core.Path.{_≡_}
 use mathlib.Core.List.{List}
 use Rattle.gate.specs.declared.Ask.{Ask}
 use Rattle.lasso.specs.Rounds.{Record}
-use Rattle.finder.specs.Outcomes.{Outcome, refused, answered, Stepped, Searched, Followed}
+use Rattle.finder.specs.Outcomes.{Outcome, refused, answered}
 use Rattle.finder.specs.Step.{stepOutcome}
 use Rattle.finder.specs.Search.{searchOutcome}
 use Rattle.finder.specs.Next.{nextOutcome}

@@ -31,7 +31,7 @@ pub record AllDone (g : Graph) (allowance rounds : ℕ) (least : Option ℕ) : T
 abbrev pub BegunSays : Graph → ℕ → Begun → Type 0
 BegunSays g allowance (Begins.Stopped r) = StoppedAfter g allowance r
 BegunSays g allowance (Begins.Empty rounds) = AllDone g allowance rounds none
-BegunSays g allowance (Begins.Listed l rounds) = AllDone g allowance rounds (some (l .0))
+BegunSays g allowance (Begins.Length l rounds) = AllDone g allowance rounds (some (l .0))
 
 -- the list in region 0 is the one at a place of the roll
 pub record Stands (g : Graph) (l : ℕ) (w : List ℕ) (place : ℕ) : Type 0 where

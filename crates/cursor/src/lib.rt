@@ -30,7 +30,7 @@ use table::put;
 pub enum Begun {
     Stopped(RoundRecord),
     Empty(u16),
-    Listed(Transitions, u16),
+    Length(Transitions, u16),
 }
 
 // Does the rounds that the allowance admits.
@@ -52,7 +52,7 @@ pub fn begin(file: &[u8], h: Header, allowance: u16, work: &mut [u16]) -> Begun
     let best = record.best;
     match best {
         Best::None => Begun::Empty(rounds),
-        Best::Length(length) => Begun::Listed(length, rounds),
+        Best::Length(length) => Begun::Length(length, rounds),
     }
 }
 

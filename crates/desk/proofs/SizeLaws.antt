@@ -4,7 +4,6 @@ use mathlib.Core.Path.{_≡_, refl, sym, _∙_}
 use mathlib.Core.List.{List}
 use mathlib.Core.Option.{Option, some, none}
 use native.Mathlib.Omega.{arith}
-use Rattle.lasso.specs.Graph.{Graph}
 use Rattle.lasso.specs.Roll.{leastLength}
 use Rattle.lasso.proofs.RollLaws.{leastLength-range}
 use Rattle.text.specs.Decimal.{decimal}

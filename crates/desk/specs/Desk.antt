@@ -4,7 +4,7 @@ use mathlib.Core.Bool.{Bool}
 use mathlib.Core.List.{List, []}
 use mathlib.Core.Option.{Option}
 use Rattle.lasso.specs.Lists.{pick}
-use Rattle.sheet.specs.Sheet.{refusal, sheetText}
+use Rattle.sheet.specs.Sheet.{sheetRefusal, sheetText}
 
 -- the entries of the answer table
 abbrev pub answerEntries : ℕ
@@ -20,7 +20,7 @@ inputBytes = 25115
 
 -- the reason to refuse an input, if there is one
 abbrev pub inputRefusal : List ℕ → Option ℕ
-inputRefusal input = refusal input answerEntries workEntries
+inputRefusal input = sheetRefusal input answerEntries workEntries
 
 -- the text for an input
 abbrev pub inputText : List ℕ → List ℕ

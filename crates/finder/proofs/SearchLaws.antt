@@ -9,9 +9,9 @@ use borrow.Author.Tests.{lt-ltb, le-ltb}
 use lib.ListN.{length, take, drop}
 use lib.Seq.{length-take-le}
 use Rattle.lasso.specs.Lists.{pick, someIf}
-use Rattle.lasso.specs.Graph.{Graph, WellFormed, edges, loopStart}
+use Rattle.lasso.specs.Graph.{Graph, edges, loopStart}
 use Rattle.lasso.specs.Roll.{leastLength, roll}
-use Rattle.lasso.specs.Rounds.{Record, candidates, afterRounds}
+use Rattle.lasso.specs.Rounds.{candidates, afterRounds}
 use Rattle.lasso.proofs.RollLaws.{leastLength-range, roll-empty, roll-length}
 use Rattle.gate.specs.declared.Ask.{Ask}
 use Rattle.model.specs.Model.{graphOf}

@@ -85,6 +85,6 @@ pub fn next_of_model(
     match begun {
         Begun::Stopped(_) => NextAnswer::Refused(13),
         Begun::Empty(_) => NextAnswer::Refused(13),
-        Begun::Listed(length, _) => next_list(file, h, length, earlier, answer, work),
+        Begun::Length(length, _) => next_list(file, h, length, earlier, answer, work),
     }
 }

@@ -77,6 +77,6 @@ pub fn search_model(
     match begun {
         Begun::Stopped(record) => SearchAnswer::Stopped(record),
         Begun::Empty(rounds) => SearchAnswer::Empty(rounds),
-        Begun::Listed(length, rounds) => first_list(file, h, length, rounds, answer, work),
+        Begun::Length(length, rounds) => first_list(file, h, length, rounds, answer, work),
     }
 }

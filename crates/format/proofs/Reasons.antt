@@ -8,7 +8,7 @@ use native.Mathlib.Omega.{arith}
 use lib.Dec.{T, eqb, not-T, T-not}
 use Rattle.lasso.specs.Lists.{anyb, upFrom, below, someIf}
 use Rattle.lasso.proofs.Tests.{some-anyb, range-upFrom, eq→eqb}
-use Rattle.format.specs.Rules.{Reason, firstBroken, rulesWith}
+use Rattle.format.specs.Rules.{Reason, firstBroken}
 
 -- no reason of a table holds
 abbrev pub Clear : List Reason → Type 0

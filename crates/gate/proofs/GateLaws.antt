@@ -17,9 +17,9 @@ use Rattle.format.specs.Rules.{Reason, firstBroken, rules, Accepted}
 use Rattle.model.specs.declared.Header.{Header}
 use Rattle.model.specs.declared.Checked.{Checked}
 use Rattle.model.specs.declared.Checked.the-variants.{Refused, Accept}
-use Rattle.model.specs.Values.{headerOf, answerOf, checkOf, Valid}
+use Rattle.model.specs.Values.{answerOf, checkOf, Valid}
 use Rattle.model.proofs.Laws.{valid-sizes}
-use Rattle.gate.specs.Gate.{smallTable, commonRules, gateOf, workAfter, workOf, Zeroed, Passed, GateSays}
+use Rattle.gate.specs.Gate.{smallTable, commonRules, gateOf, workAfter, workOf, Zeroed, GateSays}
 
 -- the first value, or the second if there is none
 abbrev orElse : Option ℕ → Option ℕ → Option ℕ

@@ -18,7 +18,7 @@ use Rattle.lasso.proofs.PlaceByPlace.{first-of-roll, next-of-roll, last-of-roll
 use Rattle.lasso.proofs.RollLaws.{roll-lasso}
 use Rattle.model.specs.declared.Header.{Header}
 use Rattle.model.specs.Model.{graphIn}
-use Rattle.model.proofs.Laws.{valid-sizes, valid-well-formed}
+use Rattle.model.proofs.Laws.{valid-well-formed}
 use Rattle.table.specs.Changes.{SameOutside}
 use Rattle.table.proofs.Laws.{sameOutside-refl, sameOutside-trans}
 use Rattle.follow.specs.Follow.{Prepared, upTo}

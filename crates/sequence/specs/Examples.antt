@@ -8,7 +8,7 @@ use lib.Dec.{eqb}
 use Rattle.lasso.specs.Lists.{pick, below}
 use Rattle.format.specs.Layout.{states}
 use Rattle.format.specs.Layout.{rowsAt, edgesAt, marksAt, markBytes, totalOf}
-use Rattle.gate.specs.declared.Ask.{Ask}
+use Rattle.gate.specs.Gate.{asking}
 use Rattle.finder.specs.Outcomes.{Outcome, refused, answered, Searched, stopped, empty, Followed, noMore}
 use Rattle.sequence.specs.Calls.{Call, search, next, Answer, ofSearch, ofNext, Result, finderAt}
 
@@ -107,7 +107,7 @@ lentWork f = replicate (6 * states f) 9
 
 -- a search of the file with an allowance
 abbrev pub searchOf : List ℕ → ℕ → Call
-searchOf f allowance = search (record { allowance = allowance }) lentAnswer (lentWork f)
+searchOf f allowance = search (asking allowance) lentAnswer (lentWork f)
 
 -- the row of a search that is not refused
 abbrev pub searchRow : List ℕ → ℕ → Searched → List ℕ → Row

@@ -25,7 +25,7 @@ use Rattle.text.specs.Figure.{figure}
 use Rattle.text.proofs.FigureLaws.{figure-room}
 use Rattle.lines.specs.Line.{line}
 use Rattle.sheet.specs.Words.{refusedWord, noneLine, shortestWord}
-use Rattle.sheet.specs.Sheet.{mostLists, closing, listsText, rollText, textOf, sheetAsk, refusal, sheetText, listsRoom, sheetRoom}
+use Rattle.sheet.specs.Sheet.{mostLists, closing, listsText, rollText, textOf, sheetAsk, sheetRefusal, sheetText, listsRoom, sheetRoom}
 use Rattle.sheet.proofs.RoomLaws.{roll-room, lines-room, closing-room, head-room}
 use Rattle.sheet.proofs.SheetLaws.{headOf, rollText-some}
 
@@ -49,11 +49,11 @@ clear-front (r ∷ rs) ss e = go (r .holds) e (λ q. clear-front rs ss q)
     go false q later = later q
 
 -- a file that is not refused breaks none of 1 to 11
-refusal-accepted : (f : List ℕ) (answer work : ℕ) → refusal f answer work ≡ none → Accepted f
+refusal-accepted : (f : List ℕ) (answer work : ℕ) → sheetRefusal f answer work ≡ none → Accepted f
 refusal-accepted f answer work e = clear-front (rules f) (drop 11 (searchReasons f sheetAsk answer work)) e
 
 -- the number of a refusal is at most 15
-refusal-number : (f : List ℕ) (answer work n : ℕ) → refusal f answer work ≡ some n → n ≤ 15
+refusal-number : (f : List ℕ) (answer work n : ℕ) → sheetRefusal f answer work ≡ some n → n ≤ 15
 refusal-number f answer work n e = broken-number (λ k. k ≤ 15) (searchReasons f sheetAsk answer work) (omega arith) n e
 
 module _ (f : List ℕ) (accepted : Accepted f) where
@@ -91,8 +91,8 @@ module _ (f : List ℕ) (accepted : Accepted f) where
 
 -- no sheet is longer than the room asked
 pub sheetText-length : (f : List ℕ) (answer work : ℕ) → length (sheetText f answer work) ≤ sheetRoom
-sheetText-length f answer work = go (refusal f answer work) refl
+sheetText-length f answer work = go (sheetRefusal f answer work) refl
   where
-    go : (o : Option ℕ) → refusal f answer work ≡ o → length (textOf o f) ≤ sheetRoom
+    go : (o : Option ℕ) → sheetRefusal f answer work ≡ o → length (textOf o f) ≤ sheetRoom
     go none e = text-room f (refusal-accepted f answer work e)
     go (some n) e = omega (arith, figure-room refusedWord n (omega (arith, refusal-number f answer work n e)))

@@ -30,12 +30,12 @@ use Rattle.text.specs.Figure.{figure}
 use Rattle.text.specs.Writing.{Wrote}
 use Rattle.text.proofs.WroteLaws.{wrote-none, wrote-as}
 use Rattle.sheet.specs.Words.{refusedWord, noneLine, shortestWord}
-use Rattle.sheet.specs.Sheet.{head, listsText, rollText, textOf, sheetAsk, refusal, sheetText, lastPrinted, sheetAnswer, sheetRoom, smallText}
+use Rattle.sheet.specs.Sheet.{head, listsText, rollText, textOf, sheetAsk, sheetRefusal, sheetText, lastPrinted, sheetAnswer, sheetRoom, smallText}
 
 -- the whole text of a sheet, and the list that it leaves in the answer table
 pub record SheetIs (f : List ℕ) (answer work : ℕ) (text : List ℕ) (due : Option (List ℕ)) : Type 0 where
   pub text-is : sheetText f answer work ≡ text
-  pub list-is : unlessRefused (refusal f answer work) (lastPrinted (roll (graphOf f))) ≡ due
+  pub list-is : unlessRefused (sheetRefusal f answer work) (lastPrinted (roll (graphOf f))) ≡ due
 
 -- the answer table holds that list
 pub sheet-answer : {f : List ℕ} {work : ℕ} {text : List ℕ} {due : Option (List ℕ)} (a : List ℕ) → SheetIs f (length a) work text due
@@ -56,7 +56,7 @@ outcome-answered (some m) s a e = let z : _≡_ {A = ℕ} 0 1 = cc in absurd (om
 pub sheet-refused : {f : List ℕ} {answer work n : ℕ} {due : Option (List ℕ)} → SearchIs f sheetAsk answer work (refused n) due
     → SheetIs f answer work (figure refusedWord n) none
 sheet-refused {f} {answer} {work} {n} s =
-    let e : refusal f answer work ≡ some n = outcome-refused (refusal f answer work) (searched (graphOf f) sheetAsk) n (s .outcome) in
+    let e : sheetRefusal f answer work ≡ some n = outcome-refused (sheetRefusal f answer work) (searched (graphOf f) sheetAsk) n (s .outcome) in
     record {
       text-is = ap (λ (o : Option ℕ). textOf o f) e;
       list-is = ap (λ (o : Option ℕ). unlessRefused o (lastPrinted (roll (graphOf f)))) e;
@@ -66,7 +66,7 @@ sheet-refused {f} {answer} {work} {n} s =
 sheet-kept : {f : List ℕ} {answer work : ℕ} {a : Searched} {due : Option (List ℕ)} → SearchIs f sheetAsk answer work (answered a) due
     → SheetIs f answer work (textOf none f) (lastPrinted (roll (graphOf f)))
 sheet-kept {f} {answer} {work} {a} s =
-    let e : refusal f answer work ≡ none = outcome-answered (refusal f answer work) (searched (graphOf f) sheetAsk) a (s .outcome) in
+    let e : sheetRefusal f answer work ≡ none = outcome-answered (sheetRefusal f answer work) (searched (graphOf f) sheetAsk) a (s .outcome) in
     record {
       text-is = ap (λ (o : Option ℕ). textOf o f) e;
       list-is = ap (λ (o : Option ℕ). unlessRefused o (lastPrinted (roll (graphOf f)))) e;

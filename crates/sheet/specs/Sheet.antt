@@ -61,12 +61,12 @@ abbrev pub sheetAsk : Ask
 sheetAsk = asking 65535
 
 -- the reason to refuse, if there is one; the tables have so many entries
-abbrev pub refusal : List ℕ → ℕ → ℕ → Option ℕ
-refusal f answer work = firstBroken (searchReasons f sheetAsk answer work)
+abbrev pub sheetRefusal : List ℕ → ℕ → ℕ → Option ℕ
+sheetRefusal f answer work = firstBroken (searchReasons f sheetAsk answer work)
 
 -- the whole text of the sheet of a file
 abbrev pub sheetText : List ℕ → ℕ → ℕ → List ℕ
-sheetText f answer work = textOf (refusal f answer work) f
+sheetText f answer work = textOf (sheetRefusal f answer work) f
 
 -- the last of some lists, if there is one
 abbrev pub lastOf : List (List ℕ) → Option (List ℕ)
@@ -81,7 +81,7 @@ lastPrinted rs = lastOf (take mostLists rs)
 -- the answer table after a sheet: the last list printed, if any
 abbrev pub sheetAnswer : List ℕ → List ℕ → ℕ → List ℕ
 sheetAnswer f a work =
-    written (unlessRefused (refusal f (length a) work) (lastPrinted (roll (graphOf f)))) a
+    written (unlessRefused (sheetRefusal f (length a) work) (lastPrinted (roll (graphOf f)))) a
 
 -- the room that is asked for a text: no sheet is longer
 abbrev pub sheetRoom : ℕ

@@ -75,7 +75,7 @@ fn sheet_model(
             let at = write_head(text, h, rounds as usize);
             write_bytes(text, at, b"none\n")
         }
-        Begun::Listed(length, rounds) => {
+        Begun::Length(length, rounds) => {
             let entries = length.entries();
             let room = Entries(answer.len());
             if room.0 < entries.0 {

@@ -14,7 +14,7 @@ use Rattle.lasso.proofs.Tests.{lt-or-ge, memb-at, at-memb}
 use Rattle.model.specs.declared.Header.{Header}
 use Rattle.model.specs.Values.{Valid}
 use Rattle.model.specs.Model.{graphIn}
-use Rattle.model.proofs.Laws.{valid-sizes, valid-well-formed}
+use Rattle.model.proofs.Laws.{valid-well-formed}
 use Rattle.table.specs.Changes.{SameOutside}
 use Rattle.table.proofs.Laws.{sameOutside-refl, sameOutside-trans, set-sameOutside}
 use Rattle.starts.specs.Flags.{LowEdge, Flagging, FlagsRow, FlagsStarts}

@@ -11,7 +11,6 @@ use lib.Dec.{T, eqb, eqb→eq}
 use Rattle.lasso.specs.Graph.{pathb}
 use Rattle.lasso.proofs.Tests.{parts}
 use Rattle.model.specs.Model.{graphIn}
-use Rattle.model.proofs.Laws.{valid-sizes}
 use Rattle.paths.proofs.LoopTests.{lassoOf-other, lassoOf-no-path, lassoOf-closes}
 use Rattle.paths.proofs.is_lasso.Statement.{statement}
 use Rattle.paths.proofs.is_lasso.Tie as tie

@@ -6,7 +6,7 @@ use mathlib.Core.Logic.{inl, inr}
 use native.Mathlib.Omega.{arith}
 use borrow.Author.Tests.{eqb-true}
 use Rattle.model.specs.Model.{graphIn}
-use Rattle.model.proofs.Laws.{valid-sizes, valid-well-formed}
+use Rattle.model.proofs.Laws.{valid-well-formed}
 use Rattle.table.specs.Changes.{Cleared}
 use Rattle.starts.specs.Flags.{Flagging, FlagsRow}
 use Rattle.starts.proofs.StartsFlags.{EnteredBefore, flagging-none, entered-row, entered-pass, all-flagged}

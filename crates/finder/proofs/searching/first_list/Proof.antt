@@ -11,7 +11,7 @@ use Rattle.lasso.specs.Graph.{Graph}
 use Rattle.lasso.specs.Roll.{leastLength, roll}
 use Rattle.lasso.specs.Rounds.{candidates}
 use Rattle.lasso.proofs.RollLaws.{leastLength-range}
-use Rattle.model.specs.Model.{graphIn, graphOf}
+use Rattle.model.specs.Model.{graphIn}
 use Rattle.model.proofs.Laws.{valid-graph, valid-sizes}
 use Rattle.finder.specs.Outcomes.{refused}
 use Rattle.gate.specs.declared.Ask.{Ask}
