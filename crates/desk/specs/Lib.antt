@@ -2,3 +2,4 @@
 pub mod Desk
 pub mod Sizes
 pub mod Examples
+pub mod Reading
