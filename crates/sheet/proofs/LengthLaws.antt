@@ -25,8 +25,10 @@ use Rattle.text.specs.Figure.{figure}
 use Rattle.text.proofs.FigureLaws.{figure-room}
 use Rattle.lines.specs.Line.{line}
 use Rattle.sheet.specs.Words.{refusedWord, noneLine, shortestWord}
-use Rattle.sheet.specs.Sheet.{mostLists, closing, listsText, rollText, textOf, sheetAsk, sheetRefusal, sheetText, listsRoom, sheetRoom}
-use Rattle.sheet.proofs.RoomLaws.{roll-room, lines-room, closing-room, head-room}
+use Rattle.roll_text.specs.RollText.{mostLists, closing, listsText, listsRoom}
+use Rattle.sheet.specs.Sheet.{rollText, textOf, sheetAsk, sheetRefusal, sheetText, sheetRoom}
+use Rattle.roll_text.proofs.RoomLaws.{roll-room, lines-room, closing-room}
+use Rattle.sheet.proofs.HeadLaws.{head-room}
 use Rattle.sheet.proofs.SheetLaws.{headOf, rollText-some}
 
 -- the number of the first reason is one of the table's

@@ -1,6 +1,4 @@
--- The laws of the sheet: its lines and lists, and the room they take.
-pub mod ClosingLaws
-pub mod RoomLaws
-pub mod PrintLaws
+-- The laws of the sheet: its text, and the room that it takes.
+pub mod HeadLaws
 pub mod SheetLaws
 pub mod LengthLaws

@@ -30,7 +30,8 @@ use Rattle.text.specs.Figure.{figure}
 use Rattle.text.specs.Writing.{Wrote}
 use Rattle.text.proofs.WroteLaws.{wrote-none, wrote-as}
 use Rattle.sheet.specs.Words.{refusedWord, noneLine, shortestWord}
-use Rattle.sheet.specs.Sheet.{head, listsText, rollText, textOf, sheetAsk, sheetRefusal, sheetText, lastPrinted, sheetAnswer, sheetRoom, smallText}
+use Rattle.sheet.specs.Sheet.{head, rollText, textOf, sheetAsk, sheetRefusal, sheetText, sheetAnswer, sheetRoom, smallText}
+use Rattle.roll_text.specs.RollText.{listsText, lastPrinted}
 
 -- the whole text of a sheet, and the list that it leaves in the answer table
 pub record SheetIs (f : List ℕ) (answer work : ℕ) (text : List ℕ) (due : Option (List ℕ)) : Type 0 where

@@ -1,49 +1,30 @@
 -- The whole text of the sheet, and the tables afterwards.
-use Prim.Native.Nat.{ℕ, min}
-use mathlib.Core.Bool.{Bool, true, false}
+use Prim.Native.Nat.{ℕ}
+use mathlib.Core.Bool.{Bool}
 use mathlib.Core.List.{List, [], _∷_, _++_}
 use mathlib.Core.Option.{Option, some, none}
-use lib.ListN.{length, take}
+use lib.ListN.{length}
 use lib.Dec.{ltb}
-use Rattle.lasso.specs.Lists.{pick, collect}
+use Rattle.lasso.specs.Lists.{pick}
 use Rattle.lasso.specs.Graph.{edges}
 use Rattle.lasso.specs.Roll.{roll}
 use Rattle.lasso.specs.Rounds.{candidates}
-use Rattle.format.specs.Layout.{states}
-use Rattle.format.specs.Layout.{edgeCount}
+use Rattle.format.specs.Layout.{states, edgeCount}
 use Rattle.model.specs.Model.{graphOf}
 use Rattle.format.specs.Rules.{firstBroken}
-use Rattle.gate.specs.Gate.{workOf}
+use Rattle.gate.specs.Gate.{workOf, asking}
 use Rattle.gate.specs.declared.Ask.{Ask}
-use Rattle.gate.specs.Gate.{asking}
 use Rattle.finder.specs.Tables.{written}
 use Rattle.finder.specs.Search.{searchReasons, unlessRefused}
 use Rattle.text.specs.Characters.{space}
 use Rattle.text.specs.Decimal.{decimal}
 use Rattle.text.specs.Figure.{figure}
-use Rattle.lines.specs.Line.{line}
-use Rattle.sheet.specs.Words.{refusedWord, modelWord, roundsWord, noneLine, shortestWord, endWord, moreWord}
+use Rattle.roll_text.specs.RollText.{listsText, lastPrinted}
+use Rattle.sheet.specs.Words.{refusedWord, modelWord, roundsWord, noneLine, shortestWord}
 
 -- the lines `model` with N and M, and `rounds` with the rounds
 abbrev pub head : (n m rounds : ℕ) → List ℕ
 head n m rounds = modelWord ++ decimal n ++ figure (space ∷ []) m ++ figure roundsWord rounds
-
--- the most lists that are printed
-abbrev pub mostLists : ℕ
-mostLists = 20
-
--- the closing line: the number of lists printed, headed `more` if there are more, else `end`
-abbrev pub closingLine : Bool → ℕ → List ℕ
-closingLine true count = figure moreWord count
-closingLine false count = figure endWord count
-
--- the closing line for a roll of n lists
-abbrev pub closing : ℕ → List ℕ
-closing n = closingLine (ltb mostLists n) (min n mostLists)
-
--- the lines of the lists that are printed, and the closing line
-abbrev pub listsText : List (List ℕ) → List ℕ
-listsText rs = collect line (take mostLists rs) ++ closing (length rs)
 
 -- the lines behind the rounds: `none`, or the length, the lists and the closing line
 abbrev pub rollText : List (List ℕ) → List ℕ
@@ -68,16 +49,6 @@ sheetRefusal f answer work = firstBroken (searchReasons f sheetAsk answer work)
 abbrev pub sheetText : List ℕ → ℕ → ℕ → List ℕ
 sheetText f answer work = textOf (sheetRefusal f answer work) f
 
--- the last of some lists, if there is one
-abbrev pub lastOf : List (List ℕ) → Option (List ℕ)
-lastOf [] = none
-lastOf (xs ∷ []) = some xs
-lastOf (xs ∷ ys ∷ rest) = lastOf (ys ∷ rest)
-
--- the last list that is printed of a roll, if any
-abbrev pub lastPrinted : List (List ℕ) → Option (List ℕ)
-lastPrinted rs = lastOf (take mostLists rs)
-
 -- the answer table after a sheet: the last list printed, if any
 abbrev pub sheetAnswer : List ℕ → List ℕ → ℕ → List ℕ
 sheetAnswer f a work =
@@ -86,10 +57,6 @@ sheetAnswer f a work =
 -- the room that is asked for a text: no sheet is longer
 abbrev pub sheetRoom : ℕ
 sheetRoom = 410000
-
--- the room that the lists and the closing line may take of it
-abbrev pub listsRoom : ℕ
-listsRoom = 409748
 
 -- the text t that is lent has less room than is asked
 abbrev pub smallText : List ℕ → Bool

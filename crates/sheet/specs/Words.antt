@@ -21,11 +21,3 @@ noneLine = 110 ∷ 111 ∷ 110 ∷ 101 ∷ 10 ∷ []
 -- `shortest `
 abbrev pub shortestWord : List ℕ
 shortestWord = 115 ∷ 104 ∷ 111 ∷ 114 ∷ 116 ∷ 101 ∷ 115 ∷ 116 ∷ 32 ∷ []
-
--- `end `
-abbrev pub endWord : List ℕ
-endWord = 101 ∷ 110 ∷ 100 ∷ 32 ∷ []
-
--- `more `
-abbrev pub moreWord : List ℕ
-moreWord = 109 ∷ 111 ∷ 114 ∷ 101 ∷ 32 ∷ []

@@ -8,17 +8,14 @@ ghost use Rattle.text.specs.Writing.{Wrote};
 ghost use Rattle.sheet.specs.Words.{refusedWord};
 ghost use Rattle.sheet.specs.Sheet.{head, sheetText, sheetAnswer, sheetRoom};
 ghost use Rattle.sheet.specs.Sheet.{sheetWritten, sheetAnswered, sheetWorked};
-
-mod lists;
-
 use cursor::Begun;
 use cursor::begin;
 use gate::admit;
 use gate::leave;
 use lasso::Entries;
-use lists::write_lists;
 use model::Checked;
 use model::Header;
+use roll_text::write_lists;
 use text::write_bytes;
 use text::write_figure;
 use text::write_number;

@@ -22,8 +22,9 @@ use Rattle.text.specs.Figure.{figure}
 use Rattle.text.proofs.WroteLaws.{wrote-length, wrote-then, wrote-as}
 use Rattle.text.proofs.FigureLaws.{figure-room}
 use Rattle.sheet.specs.Words.{refusedWord, noneLine, shortestWord}
-use Rattle.sheet.specs.Sheet.{head, listsText, lastPrinted}
-use Rattle.sheet.proofs.RoomLaws.{head-room}
+use Rattle.sheet.specs.Sheet.{head}
+use Rattle.roll_text.specs.RollText.{listsText, lastPrinted}
+use Rattle.sheet.proofs.HeadLaws.{head-room}
 use Rattle.sheet.proofs.SheetLaws.{SheetIs, headOf, head-is, sheet-answer, sheet-empty, sheet-lists, sheet-no-room}
 use Rattle.sheet.proofs.sheet_model.Statement.{statement}
 use Rattle.sheet.proofs.sheet_model.Tie as tie

@@ -9,7 +9,7 @@ use Rattle.text.specs.Decimal.{decimal}
 use Rattle.text.specs.Figure.{figure}
 use Rattle.text.proofs.WroteLaws.{wrote-length, wrote-then}
 use Rattle.sheet.specs.Words.{roundsWord}
-use Rattle.sheet.proofs.RoomLaws.{head-length}
+use Rattle.sheet.proofs.HeadLaws.{head-length}
 use Rattle.sheet.proofs.write_head.Statement.{statement}
 use Rattle.sheet.proofs.write_head.Tie as tie
 

@@ -1,4 +1,4 @@
--- The room that the lines of a sheet take.
+-- The room that the lines of a roll's lists take.
 use Prim.Native.Nat.{ℕ, _+_, _*_, _≤_, _<_}
 use mathlib.Core.Path.{_≡_, _∙_, ap}
 use mathlib.Core.Bool.{Bool, true, false}
@@ -11,24 +11,13 @@ use Rattle.lasso.specs.Graph.{Graph, WellFormed}
 use Rattle.lasso.specs.Roll.{leastLength, roll}
 use Rattle.lasso.proofs.Sorted.{All, all-of-mem}
 use Rattle.lasso.proofs.RollLaws.{leastLength-range, lasso-states, roll-lasso, roll-length}
-use Rattle.text.specs.Characters.{space}
-use Rattle.text.specs.Decimal.{decimal}
-use Rattle.text.specs.Figure.{figure}
-use Rattle.text.proofs.DecimalLaws.{decimal-two, decimal-four}
+use Rattle.text.proofs.DecimalLaws.{decimal-two}
 use Rattle.text.proofs.CollectLaws.{collect-length-le}
-use Rattle.text.proofs.FigureLaws.{figure-length, figure-room}
+use Rattle.text.proofs.FigureLaws.{figure-length}
 use Rattle.lines.specs.Line.{line}
 use Rattle.lines.proofs.RoomLaws.{Small, all-weaker, all-take, line-room}
-use Rattle.sheet.specs.Words.{modelWord, roundsWord, endWord, moreWord}
-use Rattle.sheet.specs.Sheet.{head, mostLists, closingLine}
-
--- the lines with the numbers of states, edges and rounds
-pub head-length : (n m rounds : ℕ)
-    → length (head n m rounds) ≡ 6 + length (decimal n) + length (figure (space ∷ []) m) + length (figure roundsWord rounds)
-head-length n m rounds =
-    length-append (modelWord ++ decimal n ++ figure (space ∷ []) m) (figure roundsWord rounds)
-    ∙ ap (λ (k : ℕ). k + length (figure roundsWord rounds)) (length-append (modelWord ++ decimal n) (figure (space ∷ []) m)
-    ∙ ap (λ (k : ℕ). k + length (figure (space ∷ []) m)) (length-append modelWord (decimal n)))
+use Rattle.roll_text.specs.Words.{endWord, moreWord}
+use Rattle.roll_text.specs.RollText.{mostLists, closingLine}
 
 -- the most that the line of a list of the roll takes
 abbrev pub lineRoom : ℕ
@@ -52,8 +41,3 @@ lines-room n rs a =
 pub closing-room : (more : Bool) (n : ℕ) → n ≤ mostLists → length (closingLine more n) ≤ 8
 closing-room true n few = omega (arith, figure-length moreWord n, decimal-two n (omega arith))
 closing-room false n few = omega (arith, figure-length endWord n, decimal-two n (omega arith))
-
--- the lines with the numbers of states, edges and rounds
-pub head-room : (n m rounds : ℕ) → n < 10000 → m < 10000 → rounds < 10000 → length (head n m rounds) ≤ 28
-head-room n m rounds ln lm lr =
-    omega (arith, head-length n m rounds, decimal-four n ln, figure-room (space ∷ []) m lm, figure-room roundsWord rounds lr)

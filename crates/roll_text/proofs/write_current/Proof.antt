@@ -1,4 +1,4 @@
--- `lists::write_current` meets its contract: the list is written to the answer table, and its line is read off there.
+-- `write_current` meets its contract: the list is written to the answer table, and its line is read off there.
 use Prim.Native.Nat.{_-_}
 use mathlib.Core.Path.{_≡_, ap}
 use mathlib.Core.List.{_∷_}
@@ -9,8 +9,8 @@ use lib.Seq.{length-take-le}
 use Rattle.text.proofs.WroteLaws.{wrote-as}
 use Rattle.lines.specs.Line.{stemLoop, line}
 use Rattle.lines.proofs.LineLaws.{line-read}
-use Rattle.sheet.proofs.lists.write_current.Statement.{statement}
-use Rattle.sheet.proofs.lists.write_current.Tie as tie
+use Rattle.roll_text.proofs.write_current.Statement.{statement}
+use Rattle.roll_text.proofs.write_current.Tie as tie
 
 -- the function's start, from where the list is written
 abbrev start : tie.After-write-list → tie.Start

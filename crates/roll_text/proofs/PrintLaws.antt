@@ -18,10 +18,10 @@ use Rattle.text.specs.Writing.{Wrote}
 use Rattle.text.proofs.WroteLaws.{wrote-length, wrote-none}
 use Rattle.text.proofs.CollectLaws.{collect-next, wrote-next}
 use Rattle.lines.specs.Line.{line}
-use Rattle.sheet.specs.Sheet.{mostLists, closingLine, listsText, lastPrinted, listsRoom}
+use Rattle.roll_text.specs.RollText.{mostLists, closingLine, listsText, lastPrinted, listsRoom}
 use Rattle.cursor.specs.Cursor.{At}
-use Rattle.sheet.proofs.ClosingLaws.{Closed, closed-end, closed-more, wrote-closed, answer-closed}
-use Rattle.sheet.proofs.RoomLaws.{roll-room, lines-room, closing-room}
+use Rattle.roll_text.proofs.ClosingLaws.{Closed, closed-end, closed-more, wrote-closed, answer-closed}
+use Rattle.roll_text.proofs.RoomLaws.{roll-room, lines-room, closing-room}
 
 -- Before a list is printed: it stands in region 0, those before it in the roll are printed, and the answer table is as
 -- before from entry L + 1 on.

@@ -1,4 +1,4 @@
--- `lists::write_lists` meets its contract. The loop's invariant: the list at place `count` of the roll stands in region 0,
+-- `write_lists` meets its contract. The loop's invariant: the list at place `count` of the roll stands in region 0,
 -- and those before it are printed.
 use Prim.Native.Nat.{_-_}
 use mathlib.Core.Path.{_≡_, _∙_, subst}
@@ -8,11 +8,11 @@ use borrow.Author.Needs.{needs}
 use borrow.Author.Tests.{not-true, not-false}
 use lib.ListN.{length}
 use Rattle.text.proofs.WroteLaws.{wrote-length}
-use Rattle.sheet.specs.Sheet.{mostLists}
+use Rattle.roll_text.specs.RollText.{mostLists}
 use Rattle.cursor.specs.Cursor.{MovedTo}
-use Rattle.sheet.proofs.PrintLaws.{Printing, printed-answer-length, printing-first, listed-asks, closing-asks, printing-next, closed-last, closed-full, printing-closed}
-use Rattle.sheet.proofs.lists.write_lists.Statement.{statement}
-use Rattle.sheet.proofs.lists.write_lists.Tie as tie
+use Rattle.roll_text.proofs.PrintLaws.{Printing, printed-answer-length, printing-first, listed-asks, closing-asks, printing-next, closed-last, closed-full, printing-closed}
+use Rattle.roll_text.proofs.write_lists.Statement.{statement}
+use Rattle.roll_text.proofs.write_lists.Tie as tie
 
 abbrev Inv-loop : tie.InvT-loop
 Inv-loop file h length answer₀ work₀ text₀ at next₀ count₀ answer work text next count =

@@ -1,11 +1,11 @@
--- `lists::write_closing` meets its contract, by the two cases of its flag.
+-- `write_closing` meets its contract, by the two cases of its flag.
 use mathlib.Core.Path.{sym, ap}
 use mathlib.Core.Bool.{Bool}
 use borrow.Author.Needs.{needs}
 use Rattle.text.proofs.WroteLaws.{wrote-as}
-use Rattle.sheet.specs.Sheet.{closingLine}
-use Rattle.sheet.proofs.lists.write_closing.Statement.{statement}
-use Rattle.sheet.proofs.lists.write_closing.Tie as tie
+use Rattle.roll_text.specs.RollText.{closingLine}
+use Rattle.roll_text.proofs.write_closing.Statement.{statement}
+use Rattle.roll_text.proofs.write_closing.Tie as tie
 
 slice-aggregate-write-figure : tie.Need-slice-aggregate-write-figure
 slice-aggregate-write-figure c = search needs

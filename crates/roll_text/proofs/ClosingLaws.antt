@@ -14,7 +14,7 @@ use Rattle.text.specs.Writing.{Wrote}
 use Rattle.text.proofs.WroteLaws.{wrote-then, wrote-as}
 use Rattle.text.proofs.CollectLaws.{take-next}
 use Rattle.lines.specs.Line.{line}
-use Rattle.sheet.specs.Sheet.{mostLists, closingLine, closing, listsText, lastOf, lastPrinted}
+use Rattle.roll_text.specs.RollText.{mostLists, closingLine, closing, listsText, lastOf, lastPrinted}
 
 -- n lists were printed: those that the sheet has, and the closing line says so
 pub record Closed (rs : List (List ℕ)) (more : Bool) (n : ℕ) : Type 0 where

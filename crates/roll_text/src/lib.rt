@@ -1,5 +1,4 @@
-// The lists of a sheet: one after the other in the working table, each written to the answer table and as a line of the
-// text.
+// The lists of a roll as text: one after the other in the working table, each written to the answer table and as a line.
 ghost use mathlib.Core.Path.{_≡_};
 ghost use mathlib.Core.List.{_++_};
 ghost use mathlib.Core.Option.{some};
@@ -12,7 +11,7 @@ ghost use Rattle.current.specs.Current.{listIn};
 ghost use Rattle.finder.specs.Tables.{written};
 ghost use Rattle.text.specs.Writing.{Wrote};
 ghost use Rattle.lines.specs.Line.{line};
-ghost use Rattle.sheet.specs.Sheet.{closingLine, listsText, lastPrinted, listsRoom};
+ghost use Rattle.roll_text.specs.RollText.{closingLine, listsText, lastPrinted, listsRoom};
 use cursor::to_first;
 use cursor::to_next;
 use cursor::write_list;

@@ -1,0 +1,3 @@
+-- What is printed of a roll.
+pub mod Words
+pub mod RollText
