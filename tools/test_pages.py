@@ -2,6 +2,7 @@
 # program prints in a copy of this folder, so they need no program; where the program is built, it must
 # print the same sheets. Chromium and Graphviz are used where they are installed.
 # A convenience outside the proofs: nothing in crates/ uses it.
+import math
 import os
 import re
 import shutil
@@ -28,6 +29,9 @@ MANY_SHEET = "model 13 37\nrounds 1\nshortest 5\n" + "".join(MANY_RUNS) + "more 
 LONG_ROWS = [[state + 1] for state in range(99)] + [[50], [76]]
 LONG_ROWS[74] = [75, 100]
 LONG_BYTES = encode(Model(0, LONG_ROWS, {9, 80, 81}))
+# A ring of 24 states with a short cut from each state to the sixth after it.
+CUTS_BYTES = encode(Model(0, [sorted([(state + 1) % 24, (state + 6) % 24]) for state in range(24)], {18}))
+CUTS_SHEET = "model 24 48\nrounds 1\nshortest 4\n| 0 6 12 18\nend 1\n"
 
 
 def ring(count, *marks):
@@ -53,6 +57,7 @@ SHEETS = {
     "H": (H_BYTES, H_SHEET),
     "many": (MANY_BYTES, MANY_SHEET),
     "long": (LONG_BYTES, long_sheet()),
+    "cuts": (CUTS_BYTES, CUTS_SHEET),
     "ring 1": (ring(1, 0), ring_sheet(1)),
     "ring 2": (ring(2, 1), ring_sheet(2)),
     "ring 12": (ring(12, 0, 11), ring_sheet(12, 2)),
@@ -271,6 +276,21 @@ def test_page_names(desk):
 
 
 @with_desk
+def test_page_circle(desk):
+    """On a circle the first run stands in its order from the left on; names outside are turned, numbers upright."""
+    desk.lay(*SHEETS["cuts"])
+    tree = tree_of("circle", desk.draw("--names", desk.write("names", "0 take the order in\n6 look for the file")))
+    chosen = next(one for one in tree.iter(f"{SVG}g") if one.get("class") == "choice run-1")
+    states = [one.find(f"{SVG}circle") for one in chosen if one.get("class") == "state strong"]
+    turns = [math.degrees(math.atan2(-float(one.get("cy")), -float(one.get("cx")))) for one in states]
+    expect("the first run on a circle", [round(turn / 15, 1) for turn in turns] == [0, 1, 2, 3], turns)
+    words = [one.find(f"{SVG}text") for one in chosen if one.get("class") == "outside strong"]
+    turned = {text_of(one): one.get("transform") is not None for one in words}
+    expected = {"take the order in": True, "look for the file": True, "12": False, "18": False}
+    expect("words outside", turned == expected, turned)
+
+
+@with_desk
 def test_page_bad_names(desk):
     """Each bad form of the names gets a message, and no page."""
     desk.lay(*SHEETS["D"])
@@ -446,6 +466,6 @@ def test_look(desk):
 
 
 PAGE_TESTS = [
-    test_page_sentences, test_page_pictures, test_page_words, test_page_refusals, test_page_names, test_page_bad_names,
-    test_page_wrong_sheets, test_page_failures, test_dot, test_svg, test_program, test_look,
+    test_page_sentences, test_page_pictures, test_page_words, test_page_refusals, test_page_names, test_page_circle,
+    test_page_bad_names, test_page_wrong_sheets, test_page_failures, test_dot, test_svg, test_program, test_look,
 ]

@@ -142,8 +142,8 @@ class Map:
         return shapes.state(spot, "", marked, kind) + shapes.words_outside(spot, self.away(spot), label, LONGEST, kind)
 
     def away(self, spot):
-        """How far from the middle the words outside begin; those of the start stand behind its arrow."""
-        return math.hypot(spot.x, spot.y) + DOT + (52 if spot == self.start else 7)
+        """How far from the middle the words outside begin."""
+        return math.hypot(spot.x, spot.y) + DOT + 7
 
     def box(self):
         """The box around all states, arrows and words, with room for the start arrow."""
@@ -151,9 +151,9 @@ class Map:
         points = [(spot.x + a * spot.radius, spot.y + b * spot.radius) for spot in rounds for a in (-1, 1) for b in (-1, 1)]
         for (source, target), bend in self.bends.items():
             points += curve_points(self.spots[source], bend, self.spots[target])
-        points.append((self.start.x - self.start.radius - 46, self.start.y))
+        points.append((self.start.x - self.start.radius - (60 if self.words_outside else 46), self.start.y))
         for state, spot in self.spots.items() if self.words_outside else []:
-            far = self.away(spot) + 1.15 * min(LONGEST, shapes.width(self.labels[state], shapes.OUTSIDE))
+            far = self.away(spot) + max(14, 1.15 * min(LONGEST, shapes.width(self.labels[state], shapes.OUTSIDE)))
             turn = math.atan2(spot.y, spot.x)
             points += [(far * math.cos(turn + more), far * math.sin(turn + more)) for more in (-0.03, 0.03)]
         across, down = [point[0] for point in points], [point[1] for point in points]
@@ -168,7 +168,7 @@ def draw_model(model, labels, runs, words, size):
     drawn = Map(model, labels, runs)
     states = list(drawn.spots)
     kind = "pale" if runs else "plain"
-    parts = [shapes.start_arrow(drawn.start, False, kind)]
+    parts = [shapes.start_arrow(drawn.start, "aslant" if drawn.words_outside else "left", kind)]
     parts += [drawn.edge((state, target), kind) for state in states for target in model.rows[state]]
     parts += [drawn.state(state, kind) for state in states]
     for number, run in enumerate(runs, 1):

@@ -217,7 +217,7 @@ def draw_lasso(run, look, limits, words, size):
     """The picture of a run."""
     (stem, loop), places, largest = laid_out(run, look, limits, size)
     items, spots = stem + loop, places.stem + places.loop
-    parts = [shapes.start_arrow(spots[0], places.from_above, "pale" if look.first else "plain")]
+    parts = [shapes.start_arrow(spots[0], "above" if places.from_above else "left", "pale" if look.first else "plain")]
     for place in range(len(stem)):
         kind = edge_kind(items[place], items[place + 1], look)
         parts.append(shapes.straight(spots[place], spots[place + 1], kind))

@@ -1,5 +1,5 @@
 # Where the states of a model stand in its picture: in columns by their distance from the start, or on a
-# circle in an order with few crossings, whichever has fewer faults.
+# circle, the first run in its order and the rest with few crossings, whichever has fewer faults.
 # A convenience outside the proofs: nothing in crates/ uses it.
 import itertools
 import math
@@ -45,23 +45,23 @@ def swap_gain(order, place, near):
 
 
 def span(order, near):
-    """The length of all edges, counted in places on the circle; those of the first run count thrice."""
+    """The length of all edges, counted in places on the circle."""
     at = {state: index for index, state in enumerate(order)}
     count, total = len(order), 0
     for state in order:
-        for other, weight in near[state].items():
+        for other in near[state]:
             far = (at[state] - at[other]) % count
-            total += weight * min(far, count - far)
+            total += min(far, count - far)
     return total
 
 
-def sifted(order, near):
-    """The order after each state was moved round the circle to its best place."""
-    for state in list(order):
+def sifted(order, near, fixed):
+    """The order after each state but the first ones, which are fixed, was moved to its best place behind them."""
+    for state in order[fixed:]:
         row = [other for other in order if other != state]
-        row.insert(0, state)
+        row.insert(fixed, state)
         gain, best = 0, (0, -span(row, near), list(row))
-        for place in range(len(row) - 1):
+        for place in range(fixed, len(row) - 1):
             gain += swap_gain(row, place, near)
             row[place], row[place + 1] = row[place + 1], row[place]
             tried = gain, -span(row, near), list(row)
@@ -70,34 +70,26 @@ def sifted(order, near):
     return order
 
 
-def neighbours(model, order, runs):
-    """For each state those before and after it, each with its weight."""
-    taken = set(runs[0].edges()) if runs else set()
-    near = {state: {} for state in order}
+def neighbours(model, order):
+    """For each state those before and after it."""
+    near = {state: set() for state in order}
     for state in order:
         for target in model.rows[state]:
-            weight = 3 if (state, target) in taken else 1
-            near[state][target] = max(weight, near[state].get(target, 0))
-            near[target][state] = near[state][target]
+            near[state].add(target)
+            near[target].add(state)
     return near
 
 
 def circle_order(model, runs):
-    """An order of the states that can be reached with few crossings, the initial state first."""
+    """The states that can be reached: the first run, so that its loop looks like one, then the rest with few crossings."""
     order = first_order(model, runs)
-    near = neighbours(model, order, runs)
+    near = neighbours(model, order)
+    fixed = len(runs[0].states()) if runs else 1
     for _ in range(3):
         before = list(order)
-        order = sifted(order, near)
+        order = sifted(order, near, fixed)
         if order == before:
             break
-    place = order.index(model.start)
-    order = order[place:] + order[:place]
-    # The first run goes clockwise where it can.
-    if runs:
-        path = [order.index(state) for state in runs[0].states()]
-        if sum(one > other for one, other in zip(path, path[1:])) > (len(path) - 1) / 2:
-            order = order[:1] + order[:0:-1]
     return order
 
 
@@ -142,10 +134,10 @@ def sorted_columns(columns, near):
     return columns
 
 
-def column_spots(model, runs, radius):
+def column_spots(model, radius):
     """The spot of each state in columns from left to right."""
     columns = columns_of(model)
-    near = neighbours(model, [state for column in columns for state in column], runs)
+    near = neighbours(model, [state for column in columns for state in column])
     row_step = 2 * radius + 44
     # The columns stand so far apart that the steepest arrow passes beside the states.
     room, high = radius + 10, row_step * (max(map(len, columns)) - 1)
@@ -202,7 +194,7 @@ def best_spots(model, runs, radius, count):
     """The spots, and whether they are on a circle: if columns cannot be read or have more faults."""
     if radius > shapes.SHORT and count > MOST_INSIDE:
         return circle_spots(model, runs, DOT), True
-    on_circle, in_columns = circle_spots(model, runs, radius), column_spots(model, runs, radius)
+    on_circle, in_columns = circle_spots(model, runs, radius), column_spots(model, radius)
     wide = max(spot.x for spot in in_columns.values())
     high = 2 * max(spot.y for spot in in_columns.values())
     if max(wide, high) < 760 and faults(model, in_columns) <= faults(model, on_circle):

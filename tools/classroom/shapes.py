@@ -143,7 +143,13 @@ def state(spot, label, marked, kind, largest=LARGEST):
 
 
 def words_outside(spot, away, label, most, kind):
-    """Words on a line from the middle of a circle, outside it; they are cut if they are too long."""
+    """Words on a line from the middle of a circle, outside it; they are cut if they are too long. A number is upright."""
+    if label.isdecimal() and len(label) <= 4:
+        far = math.hypot(spot.x, spot.y)
+        across, down = spot.x / far, spot.y / far
+        far = away + (abs(across) * width(label, OUTSIDE) + abs(down) * 0.75 * OUTSIDE) / 2
+        place = f'x="{far * across:.1f}" y="{far * down + 0.35 * OUTSIDE:.1f}"'
+        return f'<g class="outside {kind}"><text {place} font-size="{OUTSIDE}">{label}</text></g>'
     shown = label
     while width(shown, OUTSIDE) > most:
         shown = shown[:-2].rstrip() + "…"
@@ -206,15 +212,16 @@ def around(centre, ring, spots, turns, kind):
     return arrow(f"M{x0:.1f} {y0:.1f}A{ring:.1f} {ring:.1f} 0 {far} 1 {x1:.1f} {y1:.1f}", tip, angle, kind)
 
 
-def start_arrow(spot, from_above, kind):
-    """The short arrow into the state at which the run starts, with the word start."""
-    long = 30
-    if from_above:
-        outside = Spot(spot.x, spot.y - spot.radius - long, 0)
-        word = f'<text class="note" font-size="12" x="{spot.x + 6:.1f}" y="{outside.y + 10:.1f}">start</text>'
-    else:
-        outside = Spot(spot.x - spot.radius - long, spot.y, 0)
-        word = f'<text class="note" font-size="12" x="{outside.x - 2:.1f}" y="{spot.y - 8:.1f}">start</text>'
+def start_arrow(spot, side, kind):
+    """The short arrow into the state at which the run starts, with the word start. It comes from above, from the
+    left, or aslant, between the words outside that state and those outside the next."""
+    turn = {"above": -math.pi / 2, "left": math.pi, "aslant": 1.2 * math.pi}[side]
+    far = spot.radius + 30
+    outside = Spot(spot.x + far * math.cos(turn), spot.y + far * math.sin(turn), 0)
+    x, y = {
+        "above": (spot.x + 6, outside.y + 10), "left": (outside.x - 2, spot.y - 8), "aslant": (outside.x - 29, outside.y + 4),
+    }[side]
+    word = f'<text class="note" font-size="12" x="{x:.1f}" y="{y:.1f}">start</text>'
     return straight(outside, spot, kind) + word
 
 

@@ -75,10 +75,11 @@ p.choice.run-1 { display: block; }
 PRINT = """
 @page { size: A4; margin: 14mm; }
 @media print {
-  body { max-width: none; padding: 0; font-size: 10.5pt; print-color-adjust: exact; }
+  body { max-width: none; padding: 0; font-size: 10.5pt; line-height: 1.3; print-color-adjust: exact; }
   .screen { display: none; }
   h1 { font-size: 20pt; }
-  h2 { font-size: 13pt; margin: 4mm 0 2.5mm; padding-top: 3mm; }
+  h2 { font-size: 13pt; margin: 3mm 0 2mm; padding-top: 2.5mm; }
+  figcaption { margin-top: 2mm; }
   .first { font-size: 12pt; }
   .card { padding: 3mm; }
   figure, .card, .model { break-inside: avoid; }
