@@ -12,11 +12,11 @@ use Rattle.lasso.specs.Rounds.{Record}
 use Rattle.model.specs.Model.{graphOf}
 use Rattle.lasso.specs.Roll.{roll}
 use Rattle.lasso.specs.Following.{following}
-use Rattle.finder.specs.Outcomes.{Outcome, refused, answered, Stepped, finished, advanced, Searched, stopped, empty, Followed, noMore}
+use Rattle.outcomes.specs.Outcome.{Outcome, refused, answered}
+use Rattle.step.specs.Step.{Stepped, finished, advanced, stepped}
+use Rattle.search.specs.Search.{Searched, stopped, empty, searched, searchReasons}
+use Rattle.next.specs.Next.{Followed, noMore, followed, nextReasons}
 use Rattle.gate.specs.Gate.{commonRules}
-use Rattle.finder.specs.Step.{stepped}
-use Rattle.finder.specs.Search.{searched, searchReasons}
-use Rattle.finder.specs.Next.{followed, nextReasons}
 use Rattle.answers.specs.Kinds.{Report, hasBest, bestFigure, recordGiven, stepReport, searchReport, nextReport}
 use Rattle.answers.specs.NothingLost.{Numbered, NothingLost}
 use Rattle.answers.proofs.Numbers.{broken-numbered}

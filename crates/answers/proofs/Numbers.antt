@@ -8,7 +8,7 @@ use lib.Dec.{T, leb, leb→le}
 use Rattle.lasso.specs.Lists.{someIf}
 use Rattle.lasso.proofs.Tests.{fst, snd}
 use Rattle.format.specs.Rules.{Reason, firstBroken}
-use Rattle.finder.specs.Outcomes.{Outcome, refused, answered, outcome}
+use Rattle.outcomes.specs.Outcome.{Outcome, refused, answered, outcome}
 use Rattle.answers.specs.NothingLost.{Numbered}
 
 -- the numbers of a table of reasons are from 1 to so many

@@ -9,7 +9,7 @@ use lib.ListN.{length, getD, take, drop, set, take-append-drop}
 use lib.Seq.{take-all, take-suc, take-suc-set, drop-set-lt, drop-drop}
 use Rattle.lasso.specs.declared.Best.{Best}
 use Rattle.lasso.specs.Values.{bestOf}
-use Rattle.finder.specs.Tables.{written}
+use Rattle.outcomes.specs.Tables.{written}
 use Rattle.answers.specs.Kinds.{Report, recordFigures, figuresIn}
 
 -- one figure more: as many entries are the figures, the others as before

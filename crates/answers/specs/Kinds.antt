@@ -5,8 +5,11 @@ use mathlib.Core.Option.{Option, some, none}
 use lib.Dec.{eqb}
 use Rattle.lasso.specs.Lists.{pick}
 use Rattle.lasso.specs.Rounds.{Record}
-use Rattle.finder.specs.Outcomes.{Outcome, refused, answered, Stepped, finished, advanced, Searched, stopped, empty, Followed, noMore}
-use Rattle.finder.specs.Tables.{written}
+use Rattle.outcomes.specs.Outcome.{Outcome, refused, answered}
+use Rattle.outcomes.specs.Tables.{written}
+use Rattle.step.specs.Step.{Stepped, finished, advanced}
+use Rattle.search.specs.Search.{Searched, stopped, empty}
+use Rattle.next.specs.Next.{Followed, noMore}
 
 -- A kind of answer, or the number of a refusal in its place, with its figures in order.
 pub record Report : Type 0 where

@@ -5,10 +5,10 @@ use mathlib.Core.Path.{_≡_}
 use mathlib.Core.List.{List}
 use Rattle.gate.specs.declared.Ask.{Ask}
 use Rattle.lasso.specs.Rounds.{Record}
-use Rattle.finder.specs.Outcomes.{Outcome, refused, answered}
-use Rattle.finder.specs.Step.{stepOutcome}
-use Rattle.finder.specs.Search.{searchOutcome}
-use Rattle.finder.specs.Next.{nextOutcome}
+use Rattle.outcomes.specs.Outcome.{Outcome, refused, answered}
+use Rattle.step.specs.Step.{stepOutcome}
+use Rattle.search.specs.Search.{searchOutcome}
+use Rattle.next.specs.Next.{nextOutcome}
 use Rattle.answers.specs.Kinds.{Report, hasBest, bestFigure, recordGiven, refusal, stepReport, searchReport, nextReport}
 
 -- the number of a refusal is one of 1 to so many

@@ -5,14 +5,16 @@ ghost use mathlib.Core.Option.{some};
 ghost use Prim.Native.Nat.{_≤_};
 ghost use lib.ListN.{length};
 ghost use Rattle.lasso.specs.Values.{recordOf};
-ghost use Rattle.finder.specs.Outcomes.{stepOutcomeOf, searchOutcomeOf, nextOutcomeOf};
-ghost use Rattle.finder.specs.Tables.{written};
+ghost use Rattle.outcomes.specs.Tables.{written};
+ghost use Rattle.step.specs.Step.{stepOutcomeOf};
+ghost use Rattle.search.specs.Search.{searchOutcomeOf};
+ghost use Rattle.next.specs.Next.{nextOutcomeOf};
 ghost use Rattle.answers.specs.Kinds.{recordFigures, stepReport, searchReport, nextReport, figuresIn};
-use finder::NextAnswer;
-use finder::SearchAnswer;
-use finder::StepAnswer;
 use lasso::Best;
 use lasso::RoundRecord;
+use next::NextAnswer;
+use search::SearchAnswer;
+use step::StepAnswer;
 
 // The kinds of answer.
 const STOPPED: u16 = 101;

@@ -13,11 +13,11 @@ use Rattle.lasso.specs.Roll.{roll}
 use Rattle.lasso.specs.Following.{following}
 use Rattle.model.specs.Model.{graphOf}
 use Rattle.format.specs.Rules.{firstBroken}
-use Rattle.finder.specs.Outcomes.{Outcome, refused, answered, outcome}
-use Rattle.finder.specs.Tables.{written}
-use Rattle.finder.specs.Step.{stepOutcome}
-use Rattle.finder.specs.Search.{searched, firstDue, searchReasons, searchOutcome, unlessRefused}
-use Rattle.finder.specs.Next.{followed, nextReasons, nextOutcome}
+use Rattle.outcomes.specs.Outcome.{Outcome, refused, answered, outcome}
+use Rattle.outcomes.specs.Tables.{written, unlessRefused}
+use Rattle.step.specs.Step.{stepOutcome}
+use Rattle.search.specs.Search.{searched, firstDue, searchReasons, searchOutcome}
+use Rattle.next.specs.Next.{followed, nextReasons, nextOutcome}
 use Rattle.answers.specs.Kinds.{Report, figuresIn, refusal, stepReport, searchReport, nextReport}
 use Rattle.answers.specs.NothingLost.{Numbered, Tells}
 use Rattle.answers.proofs.NothingLost.{nothing-lost}

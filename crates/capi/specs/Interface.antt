@@ -7,9 +7,9 @@ use Rattle.gate.specs.declared.Ask.{Ask}
 use Rattle.lasso.specs.Lists.{pick}
 use Rattle.lasso.specs.Rounds.{Record}
 use Rattle.gate.specs.Gate.{workOf}
-use Rattle.finder.specs.Step.{stepOutcome}
-use Rattle.finder.specs.Search.{searchOutcome, searchAnswer}
-use Rattle.finder.specs.Next.{nextOutcome, nextAnswer}
+use Rattle.step.specs.Step.{stepOutcome}
+use Rattle.search.specs.Search.{searchOutcome, searchAnswer}
+use Rattle.next.specs.Next.{nextOutcome, nextAnswer}
 use Rattle.answers.specs.Kinds.{Report, stepReport, searchReport, nextReport}
 
 -- 100, with no figures: `out` has fewer than 4 entries

@@ -10,13 +10,13 @@ ghost use Rattle.capi.specs.Interface.{answerAfterSearch, answerAfterNex
 use answers::report_next;
 use answers::report_search;
 use answers::report_step;
-use finder::Ask;
-use finder::next;
-use finder::search;
-use finder::step;
+use gate::Ask;
 use lasso::Best;
 use lasso::RoundRecord;
 use lasso::Transitions;
+use next::next;
+use search::search;
+use step::step;
 
 // The entries that `out` must have.
 const OUT_ENTRIES: usize = 4;

@@ -13,12 +13,12 @@ use Rattle.lasso.specs.Roll.{roll}
 use Rattle.gate.specs.declared.Ask.{Ask}
 use Rattle.model.specs.Model.{graphOf}
 use Rattle.format.specs.Rules.{Reason, firstBroken}
-use Rattle.finder.specs.Outcomes.{refused, answered, outcome}
+use Rattle.outcomes.specs.Outcome.{refused, answered, outcome}
+use Rattle.outcomes.specs.Tables.{written, listReasons, unlessRefused}
+use Rattle.step.specs.Step.{stepped}
+use Rattle.search.specs.Search.{searched, firstDue, searchReasons}
+use Rattle.next.specs.Next.{followed, dueReasons, nextReasons}
 use Rattle.gate.specs.Gate.{commonRules, workAfter, workOf}
-use Rattle.finder.specs.Tables.{written}
-use Rattle.finder.specs.Step.{stepped}
-use Rattle.finder.specs.Search.{searched, firstDue, listReasons, searchReasons, unlessRefused}
-use Rattle.finder.specs.Next.{followed, dueReasons, nextReasons}
 use Rattle.conditions.specs.Reasons.{numbersOf}
 use Rattle.conditions.specs.Condition1.{stepNumbers, searchNumbers, nextNumbers, Refuses, AnswerKept, WorkLeft, Condition1Holds}
 use Rattle.gate.proofs.GateLaws.{clear-append, broken-append}

@@ -25,15 +25,16 @@ use Rattle.format.specs.Layout.{states}
 use Rattle.model.specs.Model.{graphOf}
 use Rattle.format.specs.Rules.{firstBroken, rules, Accepted}
 use Rattle.model.proofs.Laws.{accepted-well-formed}
-use Rattle.finder.specs.Outcomes.{answered, Searched, stopped, empty}
+use Rattle.outcomes.specs.Outcome.{answered}
+use Rattle.outcomes.specs.Tables.{noRoom, lengthDue, listReasons}
+use Rattle.outcomes.proofs.OutcomeLaws.{call-answer}
+use Rattle.search.specs.Search.{Searched, stopped, empty, searched, firstDue, searchReasons}
+use Rattle.search.proofs.SearchLaws.{SearchIs, search-stopped, search-empty, search-found, search-goes-on, roll-first}
 use Rattle.gate.specs.Gate.{commonRules}
-use Rattle.finder.specs.Tables.{noRoom}
-use Rattle.finder.specs.Search.{searched, firstDue, lengthDue, listReasons, searchReasons}
 use Rattle.conditions.specs.Reasons.{NoneHolds}
 use Rattle.conditions.specs.Condition2.{SomePath, FirstShortest, Searches, SearchPasses, SearchPassesExactly, Condition2Holds}
 use Rattle.gate.proofs.GateLaws.{tableReason}
 use Rattle.conditions.proofs.FirstLaws.{none-clear, clear-none, none-parts, answered-none}
-use Rattle.finder.proofs.SearchLaws.{SearchIs, search-answer, search-stopped, search-empty, search-found, search-goes-on, roll-first}
 
 -- the first list of an ordered roll stands before every other one
 head-before : (rs : List (List ℕ)) (xs ys : List ℕ) → Sorted Before rs → head? rs ≡ some xs → List·Memᴰ ys rs → (ys ≡ xs → ⊥)
@@ -93,14 +94,14 @@ module _ (f : List ℕ) (accepted : Accepted f) (ask : Ask) (a : List ℕ) (work
       let least : IsLeast (AcceptingLength g) none = rw e at (leastLength-least g (accepted-well-formed f accepted)) in
       let no-path : SomePath g → ⊥ = λ p. least (edges (p .0)) (p .0, p .1, refl) in
       record {
-        answers = inr (n, is .outcome);
-        not-stopped = λ r q. stopped-empty (sym q ∙ is .outcome);
-        found-exactly = (λ p. absurd (empty-found (sym (is .outcome) ∙ p .3)), λ p. absurd (no-path p));
-        found-says = λ L k rounds q. absurd (empty-found (sym (is .outcome) ∙ q));
-        empty-exactly = (λ p. no-path, λ p. (n, is .outcome));
+        answers = inr (n, is .outcome-is);
+        not-stopped = λ r q. stopped-empty (sym q ∙ is .outcome-is);
+        found-exactly = (λ p. absurd (empty-found (sym (is .outcome-is) ∙ p .3)), λ p. absurd (no-path p));
+        found-says = λ L k rounds q. absurd (empty-found (sym (is .outcome-is) ∙ q));
+        empty-exactly = (λ p. no-path, λ p. (n, is .outcome-is));
         empty-says = λ rounds q.
-            let same : answered (empty rounds) ≡ answered (empty n) = sym q ∙ is .outcome in
-            record { unwritten = search-answer a is; rounds-are = cc };
+            let same : answered (empty rounds) ≡ answered (empty n) = sym q ∙ is .outcome-is in
+            record { unwritten = call-answer a is; rounds-are = cc };
       }
 
   -- the allowance suffices, an accepting path exists, and the answer table has room for the first of the roll
@@ -113,11 +114,11 @@ module _ (f : List ℕ) (accepted : Accepted f) (ask : Ask) (a : List ℕ) (work
       let best : FirstShortest g xs = roll-firstShortest g (accepted-well-formed f accepted) xs first in
       let (low, closed) = accepting-loops g xs (best .accepting) in
       record {
-        answers = inl (edges xs, loopStart xs, n, is .outcome);
-        not-stopped = λ r q. stopped-found (sym q ∙ is .outcome);
-        found-exactly = (λ p. (xs, best .accepting), λ p. (edges xs, loopStart xs, n, is .outcome));
+        answers = inl (edges xs, loopStart xs, n, is .outcome-is);
+        not-stopped = λ r q. stopped-found (sym q ∙ is .outcome-is);
+        found-exactly = (λ p. (xs, best .accepting), λ p. (edges xs, loopStart xs, n, is .outcome-is));
         found-says = λ L k rounds q.
-            let same : answered (Searched.found L k rounds) ≡ answered (Searched.found (edges xs) (loopStart xs) n) = sym q ∙ is .outcome in
+            let same : answered (Searched.found L k rounds) ≡ answered (Searched.found (edges xs) (loopStart xs) n) = sym q ∙ is .outcome-is in
             let at-L : edges xs ≡ L = cc in
             let at-k : loopStart xs ≡ k = cc in
             let entries : length xs ≡ L + 1 = omega arith in
@@ -127,13 +128,13 @@ module _ (f : List ℕ) (accepted : Accepted f) (ask : Ask) (a : List ℕ) (work
               length-is = at-L;
               entries-are = entries;
               fits = omega arith;
-              written = search-answer a is ∙ ap (λ (m : ℕ). xs ++ drop m a) entries;
+              written = call-answer a is ∙ ap (λ (m : ℕ). xs ++ drop m a) entries;
               loop-start-below = omega arith;
               loops = subst (λ (j : ℕ). T (loopsb g xs j)) at-k closed;
               rounds-are = cc;
             };
-        empty-exactly = (λ p. absurd (empty-found (sym (p .1) ∙ is .outcome)), λ p. absurd (p (xs, best .accepting)));
-        empty-says = λ rounds q. absurd (empty-found (sym q ∙ is .outcome));
+        empty-exactly = (λ p. absurd (empty-found (sym (p .1) ∙ is .outcome-is)), λ p. absurd (p (xs, best .accepting)));
+        empty-says = λ rounds q. absurd (empty-found (sym q ∙ is .outcome-is));
       }
 
 -- no reason of a search holds: what that says
@@ -168,7 +169,7 @@ passes-none f ask answer work passes =
         → NoneHolds (searchReasons f ask answer work)
     not-refused {s} is =
         let reasons = searchReasons f ask answer work in
-        clear-none reasons (answered-none (firstBroken reasons) (searched (graphOf f) ask) s (is .outcome))
+        clear-none reasons (answered-none (firstBroken reasons) (searched (graphOf f) ask) s (is .outcome-is))
 
     by-least : length (candidates (graphOf f)) ≤ ask .allowance → (o : Option ℕ) → leastLength (graphOf f) ≡ o
         → NoneHolds (searchReasons f ask answer work)
@@ -190,11 +191,11 @@ condition-2 f ask a work h =
       short = λ less.
           let is = search-stopped f (passes .accepted) ask (length a) work (passes .room) less in
           record {
-            stopped-with = is .outcome;
+            stopped-with = is .outcome-is;
             rounds-done = afterRounds-done (graphOf f) (ask .allowance);
-            not-found = λ p. stopped-found (sym (is .outcome) ∙ p .3);
-            not-empty = λ p. stopped-empty (sym (is .outcome) ∙ p .1);
-            unwritten = search-answer a is;
+            not-found = λ p. stopped-found (sym (is .outcome-is) ∙ p .3);
+            not-empty = λ p. stopped-empty (sym (is .outcome-is) ∙ p .1);
+            unwritten = call-answer a is;
           };
     }
   where

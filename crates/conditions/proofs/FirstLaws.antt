@@ -9,7 +9,7 @@ use lib.Dec.{T, leb, leb→le}
 use Rattle.lasso.specs.Lists.{someIf}
 use Rattle.lasso.proofs.Tests.{parts}
 use Rattle.format.specs.Rules.{Reason, firstBroken}
-use Rattle.finder.specs.Outcomes.{refused, answered, outcome}
+use Rattle.outcomes.specs.Outcome.{refused, answered, outcome}
 use Rattle.conditions.specs.Reasons.{numbersOf, NoneHolds, FirstHolds}
 use Rattle.gate.proofs.GateLaws.{clear-append}
 

@@ -10,11 +10,11 @@ use Rattle.lasso.specs.Graph.{ascendingb}
 use Rattle.lasso.specs.Rounds.{Record}
 use Rattle.gate.specs.declared.Ask.{Ask}
 use Rattle.format.specs.Rules.{Reason}
-use Rattle.finder.specs.Outcomes.{Outcome, refused, answered}
+use Rattle.outcomes.specs.Outcome.{Outcome, refused, answered}
+use Rattle.step.specs.Step.{stepOutcome}
+use Rattle.search.specs.Search.{searchReasons, searchOutcome, searchAnswer}
+use Rattle.next.specs.Next.{nextReasons, nextOutcome, nextAnswer}
 use Rattle.gate.specs.Gate.{commonRules, workOf}
-use Rattle.finder.specs.Step.{stepOutcome}
-use Rattle.finder.specs.Search.{searchReasons, searchOutcome, searchAnswer}
-use Rattle.finder.specs.Next.{nextReasons, nextOutcome, nextAnswer}
 use Rattle.conditions.specs.Reasons.{numbersOf, NoneHolds, FirstHolds}
 
 -- the numbers of the reasons that each call applies: a step goes no further than 12, a search skips 13

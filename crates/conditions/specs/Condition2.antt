@@ -14,8 +14,8 @@ use Rattle.gate.specs.declared.Ask.{Ask}
 use Rattle.format.specs.Layout.{states}
 use Rattle.model.specs.Model.{graphOf}
 use Rattle.format.specs.Rules.{Accepted}
-use Rattle.finder.specs.Outcomes.{answered, Searched, stopped, empty}
-use Rattle.finder.specs.Search.{searchReasons, searchOutcome, searchAnswer}
+use Rattle.outcomes.specs.Outcome.{answered}
+use Rattle.search.specs.Search.{Searched, stopped, empty, searchReasons, searchOutcome, searchAnswer}
 use Rattle.conditions.specs.Reasons.{NoneHolds}
 
 -- an accepting path exists

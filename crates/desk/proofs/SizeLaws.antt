@@ -12,9 +12,10 @@ use Rattle.model.specs.Model.{graphOf}
 use Rattle.format.specs.Rules.{rules, firstBroken, Accepted}
 use Rattle.model.proofs.Laws.{accepted-facts}
 use Rattle.gate.specs.Gate.{commonRules}
-use Rattle.finder.specs.Search.{searched, firstDue, listReasons}
+use Rattle.outcomes.specs.Tables.{listReasons}
+use Rattle.search.specs.Search.{searched, firstDue}
+use Rattle.search.proofs.SearchLaws.{search-empty, search-found, roll-first}
 use Rattle.gate.proofs.GateLaws.{broken-append, common-refused}
-use Rattle.finder.proofs.SearchLaws.{search-empty, search-found, roll-first}
 use Rattle.sheet.specs.Sheet.{sheetAsk}
 use Rattle.sheet.proofs.SheetLaws.{outcome-answered, enough-rounds}
 use Rattle.sheet.proofs.LengthLaws.{broken-number}
@@ -33,13 +34,13 @@ module _ (f : List ℕ) (accepted : Accepted f) where
       go : (o : Option ℕ) → leastLength (graphOf f) ≡ o → inputRefusal f ≡ none
       go none e =
           let is = search-empty f accepted sheetAsk answerEntries workEntries work-enough (enough-rounds f accepted answerEntries workEntries work-enough) e in
-          outcome-answered (inputRefusal f) (searched (graphOf f) sheetAsk) _ (is .outcome)
+          outcome-answered (inputRefusal f) (searched (graphOf f) sheetAsk) _ (is .outcome-is)
       go (some l) e =
           let facts = accepted-facts f accepted in
           let (xs, first, long) = roll-first (graphOf f) l e in
           let is = search-found f accepted sheetAsk answerEntries workEntries work-enough (enough-rounds f accepted answerEntries workEntries work-enough) xs first
           (omega (arith, leastLength-range (graphOf f) l e, facts .states-range)) in
-          outcome-answered (inputRefusal f) (searched (graphOf f) sheetAsk) _ (is .outcome)
+          outcome-answered (inputRefusal f) (searched (graphOf f) sheetAsk) _ (is .outcome-is)
 
 -- a refused file is refused with its own number
 refused-same : (f : List ℕ) (n : ℕ) → firstBroken (rules f) ≡ some n → inputRefusal f ≡ some n

@@ -19,7 +19,7 @@ use Rattle.model.specs.declared.Checked.{Checked}
 use Rattle.model.specs.declared.Checked.the-variants.{Refused, Accept}
 use Rattle.model.specs.Values.{answerOf, checkOf, Valid}
 use Rattle.model.proofs.Laws.{valid-sizes}
-use Rattle.gate.specs.Gate.{smallTable, commonRules, gateOf, workAfter, workOf, Zeroed, GateSays}
+use Rattle.gate.specs.Gate.{smallTable, commonRules, gateOf, workAfter, workOf, Zeroed, Passed, GateSays}
 
 -- the first value, or the second if there is none
 abbrev orElse : Option ℕ → Option ℕ → Option ℕ
@@ -126,6 +126,14 @@ gate-says f work r e = go (firstBroken (commonRules f work)) refl r e
         record { valid = v; room = omega (arith, room, valid-sizes v .states-are); clear = q }
     go (some m) q (Refused n) e = let same : m ≡ n = cc in q ∙ ap some same
     go (some m) q (Accept h) e = let z : _≡_ {A = ℕ} 0 1 = cc in absurd (omega arith)
+
+-- the gate has refused: a reason of 1 to 12 holds
+pub gate-refused : (f : List ℕ) (work : ℕ) {r : Checked} {n : ℕ} → r ≡ gateOf f work → r ≡ Refused n → firstBroken (commonRules f work) ≡ some n
+gate-refused f work e q = gate-says f work (Refused _) (sym q ∙ e)
+
+-- the gate has let the call pass
+pub gate-passed : (f : List ℕ) (work : ℕ) {r : Checked} {h : Header} → r ≡ gateOf f work → r ≡ Accept h → Passed f work h
+gate-passed f work e q = gate-says f work (Accept _) (sym q ∙ e)
 
 -- a call that 1 to 12 refuse leaves the working table untouched
 pub work-refused : (f w : List ℕ) (n : ℕ) → firstBroken (commonRules f (length w)) ≡ some n → w ≡ workOf f w

@@ -8,7 +8,9 @@ use lib.ListN.{length, take, drop, length-append, length-drop}
 use lib.Seq.{take-at, drop-at, drop-drop}
 use lib.Dec.{eqb}
 use Rattle.lasso.specs.Lists.{pick}
-use Rattle.finder.specs.Outcomes.{refused, answered, stopped, empty, noMore, Searched, Followed}
+use Rattle.outcomes.specs.Outcome.{refused, answered}
+use Rattle.search.specs.Search.{stopped, empty, Searched}
+use Rattle.next.specs.Next.{noMore, Followed}
 use Rattle.sequence.specs.Calls.{Call, Answer, ofSearch, ofNext, Result, finderAt, received}
 use Rattle.sequence.proofs.Sequence.{condition-3}
 use Rattle.script.specs.Commands.{commandLength, overb, sizeOf, callOf}

@@ -15,8 +15,8 @@ use Rattle.lasso.specs.Graph.{Graph}
 use Rattle.lasso.proofs.Tests.{fst, snd, T-false, eq-or-apart}
 use Rattle.model.specs.Model.{graphOf}
 use Rattle.format.specs.Rules.{Accepted}
-use Rattle.finder.specs.Next.{notShortest}
-use Rattle.finder.proofs.NextLaws.{notShortest-apart}
+use Rattle.next.specs.Next.{notShortest}
+use Rattle.next.proofs.NextLaws.{notShortest-apart}
 use Rattle.sequence.specs.Calls.{Call, next, Result, finderAt, received}
 use Rattle.sequence.specs.Book.{bookResults}
 use Rattle.sequence.specs.Claim.{lastReceived, Lent, Proper}

@@ -9,7 +9,7 @@ use borrow.Author.Tests.{lt-ltb, le-ltb}
 use lib.ListN.{length, getD, take, drop}
 use lib.Seq.{take-all}
 use Rattle.lasso.specs.Lists.{collect}
-use Rattle.finder.specs.Tables.{written}
+use Rattle.outcomes.specs.Tables.{written}
 use Rattle.text.specs.Writing.{Wrote}
 use Rattle.text.proofs.WroteLaws.{wrote-then, wrote-as}
 use Rattle.text.proofs.CollectLaws.{take-next}

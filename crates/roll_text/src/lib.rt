@@ -8,7 +8,7 @@ ghost use Rattle.lasso.specs.Roll.{leastLength, roll};
 ghost use Rattle.model.specs.Model.{graphIn};
 ghost use Rattle.rounds.specs.Promises.{RoundsReady};
 ghost use Rattle.current.specs.Current.{listIn};
-ghost use Rattle.finder.specs.Tables.{written};
+ghost use Rattle.outcomes.specs.Tables.{written};
 ghost use Rattle.text.specs.Writing.{Wrote};
 ghost use Rattle.lines.specs.Line.{line};
 ghost use Rattle.roll_text.specs.RollText.{closingLine, listsText, lastPrinted, listsRoom};

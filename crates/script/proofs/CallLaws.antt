@@ -18,15 +18,15 @@ use Rattle.lasso.specs.Following.{sameb, following}
 use Rattle.lasso.proofs.RollLaws.{roll-empty, roll-lasso}
 use Rattle.model.specs.Model.{graphOf}
 use Rattle.format.specs.Rules.{Reason, firstBroken}
-use Rattle.finder.specs.Outcomes.{answered, outcome, stopped, searchOutcomeOf, nextOutcomeOf}
-use Rattle.finder.specs.declared.SearchAnswer.{SearchAnswer}
-use Rattle.finder.specs.declared.SearchAnswer.the-variants as SearchAnswers
-use Rattle.finder.specs.declared.NextAnswer.{NextAnswer}
-use Rattle.finder.specs.declared.NextAnswer.the-variants as NextAnswers
+use Rattle.outcomes.specs.Outcome.{answered, outcome}
+use Rattle.outcomes.specs.Tables.{tooLong, noRoom, listReasons}
+use Rattle.search.specs.Search.{stopped, searchOutcomeOf, stopsb, firstOf, searched, firstDue, searchReasons, searchOutcome}
+use Rattle.next.specs.Next.{nextOutcomeOf, notShortest, followed, dueReasons, nextReasons, nextOutcome}
+use Rattle.search.specs.declared.SearchAnswer.{SearchAnswer}
+use Rattle.search.specs.declared.SearchAnswer.the-variants as SearchAnswers
+use Rattle.next.specs.declared.NextAnswer.{NextAnswer}
+use Rattle.next.specs.declared.NextAnswer.the-variants as NextAnswers
 use Rattle.gate.specs.Gate.{commonRules}
-use Rattle.finder.specs.Tables.{tooLong, noRoom}
-use Rattle.finder.specs.Search.{stopsb, firstOf, searched, firstDue, listReasons, searchReasons, searchOutcome}
-use Rattle.finder.specs.Next.{notShortest, followed, dueReasons, nextReasons, nextOutcome}
 use Rattle.answers.specs.Kinds.{figuresIn}
 use Rattle.sequence.specs.Calls.{Call, search, next, Answer, ofSearch, ofNext, finderAt, foundLength}
 use Rattle.script.specs.Log.{reportOf, reportRow, row, entriesOf, Made}

@@ -4,17 +4,18 @@ ghost use mathlib.Core.Bool.{false};
 ghost use mathlib.Core.List.{_∷_, _++_};
 ghost use Prim.Native.Nat.{_+_, _≤_};
 ghost use lib.ListN.{length, take, drop};
-ghost use Rattle.finder.specs.Outcomes.{searchOutcomeOf, nextOutcomeOf};
+ghost use Rattle.search.specs.Search.{searchOutcomeOf};
+ghost use Rattle.next.specs.Next.{nextOutcomeOf};
 ghost use Rattle.sequence.specs.Calls.{ofSearch, ofNext, foundLength};
 ghost use Rattle.script.specs.Commands.{overb, callOf};
 ghost use Rattle.script.specs.Log.{entriesOf, Made};
 use answers::report_next;
 use answers::report_search;
-use finder::Ask;
-use finder::NextAnswer;
-use finder::SearchAnswer;
-use finder::next;
-use finder::search;
+use gate::Ask;
+use next::NextAnswer;
+use next::next;
+use search::SearchAnswer;
+use search::search;
 use table::get;
 
 // Writes the four numbers of a call.

@@ -6,9 +6,10 @@ use mathlib.Core.List.{List, [], _∷_}
 use mathlib.Core.Option.{some}
 use lib.ListN.{replicate}
 use Rattle.gate.specs.Gate.{asking}
-use Rattle.finder.specs.Outcomes.{Outcome, answered, Searched}
-use Rattle.finder.specs.Search.{searchAnswer}
-use Rattle.finder.proofs.SearchLaws.{SearchIs, search-answer, search-found}
+use Rattle.outcomes.specs.Outcome.{Outcome, answered}
+use Rattle.outcomes.proofs.OutcomeLaws.{call-answer}
+use Rattle.search.specs.Search.{Searched, searchAnswer}
+use Rattle.search.proofs.SearchLaws.{SearchIs, search-found}
 use Rattle.sequence.specs.Calls.{ofSearch}
 use Rattle.sequence.specs.Examples.{fileH, lentAnswer, rowH, given, expected, ExamplesHold}
 
@@ -25,10 +26,10 @@ H-given allowance h =
     let zeros : List ℕ = replicate 42 0 in
     ap
     (λ (o : Outcome Searched). record { answer = ofSearch o; table = searchAnswer fileH (asking allowance) lentAnswer 42; work = zeros })
-    (s .outcome)
+    (s .outcome-is)
     ∙ ap
     (λ (t : List ℕ). record { answer = ofSearch (answered (Searched.found 3 2 2)); table = t; work = zeros })
-    (search-answer lentAnswer s)
+    (call-answer lentAnswer s)
 
 -- the starred examples
 pub examples-hold : ExamplesHold

@@ -16,7 +16,7 @@ use Rattle.lasso.specs.Following.{following}
 use Rattle.lasso.proofs.Sorted.{Sorted}
 use Rattle.lasso.proofs.OrderLaws.{Before, following-at}
 use Rattle.lasso.proofs.RollLaws.{ofLength-length}
-use Rattle.finder.specs.Tables.{written}
+use Rattle.outcomes.specs.Tables.{written}
 use Rattle.sequence.specs.Book.{listAt}
 
 -- a place that holds an entry is a place of the list

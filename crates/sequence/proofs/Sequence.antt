@@ -19,13 +19,13 @@ use Rattle.lasso.proofs.OrderLaws.{Before}
 use Rattle.lasso.proofs.RollLaws.{roll-strict}
 use Rattle.model.specs.Model.{graphOf}
 use Rattle.format.specs.Rules.{firstBroken}
-use Rattle.finder.specs.Outcomes.{outcome, stopped}
+use Rattle.outcomes.specs.Outcome.{outcome}
+use Rattle.outcomes.specs.Tables.{written, unlessRefused}
+use Rattle.search.specs.Search.{stopped, stopsb, firstOf, searchReasons}
+use Rattle.next.specs.Next.{notShortest, dueReasons, followed}
+use Rattle.next.proofs.NextLaws.{thirteen-decides}
 use Rattle.gate.specs.declared.Ask.{Ask}
 use Rattle.gate.specs.Gate.{commonRules, workOf}
-use Rattle.finder.specs.Tables.{written}
-use Rattle.finder.specs.Search.{stopsb, firstOf, unlessRefused, searchReasons}
-use Rattle.finder.proofs.NextLaws.{thirteen-decides}
-use Rattle.finder.specs.Next.{notShortest, dueReasons, followed}
 use Rattle.gate.proofs.GateLaws.{broken-append, clear-append}
 use Rattle.sequence.specs.Calls.{Call, search, next, ofSearch, ofNext, Result, finderAt, foundLength, copyOf, received}
 use Rattle.sequence.specs.Book.{listAt, page, afterSearch, afterNext, unlessRefusedℕ, bookResults, bookEnd}

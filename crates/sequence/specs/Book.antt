@@ -8,11 +8,11 @@ use Rattle.lasso.specs.Lists.{pick}
 use Rattle.lasso.specs.Roll.{roll}
 use Rattle.model.specs.Model.{graphOf}
 use Rattle.format.specs.Rules.{firstBroken}
-use Rattle.finder.specs.Outcomes.{outcome, Searched, stopped, empty}
+use Rattle.outcomes.specs.Outcome.{outcome}
+use Rattle.outcomes.specs.Tables.{written, unlessRefused}
+use Rattle.search.specs.Search.{Searched, stopped, empty, searchReasons, searched, firstDue}
+use Rattle.next.specs.Next.{dueReasons, followed}
 use Rattle.gate.specs.Gate.{commonRules, workOf}
-use Rattle.finder.specs.Tables.{written}
-use Rattle.finder.specs.Search.{searchReasons, searched, firstDue, unlessRefused}
-use Rattle.finder.specs.Next.{dueReasons, followed}
 use Rattle.sequence.specs.Calls.{Call, search, next, ofSearch, ofNext, Result}
 
 -- what the book gives for a call: the result, and h afterwards

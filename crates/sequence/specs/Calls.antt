@@ -3,11 +3,11 @@ use Prim.Native.Nat.{ℕ, suc}
 use mathlib.Core.List.{List}
 use mathlib.Core.Option.{Option, some, none}
 use lib.ListN.{length, take}
-use Rattle.finder.specs.Outcomes.{Outcome, refused, answered, Searched, stopped, empty, Followed, noMore}
+use Rattle.outcomes.specs.Outcome.{Outcome, refused, answered}
+use Rattle.search.specs.Search.{Searched, stopped, empty, searchOutcome, searchAnswer}
+use Rattle.next.specs.Next.{Followed, noMore, nextOutcome, nextAnswer}
 use Rattle.gate.specs.declared.Ask.{Ask}
 use Rattle.gate.specs.Gate.{workOf}
-use Rattle.finder.specs.Search.{searchOutcome, searchAnswer}
-use Rattle.finder.specs.Next.{nextOutcome, nextAnswer}
 
 -- a search or a next, with everything given or lent with it: what a search asks or the earlier list, the answer table and the
 -- working table

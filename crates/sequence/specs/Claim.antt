@@ -9,7 +9,7 @@ use lib.Dec.{T}
 use Rattle.lasso.specs.Roll.{roll}
 use Rattle.model.specs.Model.{graphOf}
 use Rattle.format.specs.Rules.{Accepted}
-use Rattle.finder.specs.Next.{notShortest}
+use Rattle.next.specs.Next.{notShortest}
 use Rattle.sequence.specs.Calls.{Call, search, next, finderAt, received}
 use Rattle.sequence.specs.Book.{bookResults, bookEnd}
 

@@ -9,7 +9,9 @@ use Rattle.lasso.specs.Lists.{pick, below}
 use Rattle.format.specs.Layout.{states}
 use Rattle.format.specs.Layout.{rowsAt, edgesAt, marksAt, markBytes, totalOf}
 use Rattle.gate.specs.Gate.{asking}
-use Rattle.finder.specs.Outcomes.{Outcome, refused, answered, Searched, stopped, empty, Followed, noMore}
+use Rattle.outcomes.specs.Outcome.{Outcome, refused, answered}
+use Rattle.search.specs.Search.{Searched, stopped, empty}
+use Rattle.next.specs.Next.{Followed, noMore}
 use Rattle.sequence.specs.Calls.{Call, search, next, Answer, ofSearch, ofNext, Result, finderAt}
 
 -- the two bytes of a 16-bit number

@@ -18,9 +18,9 @@ use Rattle.format.specs.Layout.{edgeCount}
 use Rattle.model.specs.Model.{graphOf}
 use Rattle.format.specs.Rules.{Reason, firstBroken, rules, Accepted}
 use Rattle.model.proofs.Laws.{accepted-facts, accepted-well-formed}
-use Rattle.finder.specs.Search.{searchReasons}
-use Rattle.finder.proofs.StepLaws.{candidates-length-le}
-use Rattle.finder.proofs.SearchLaws.{roll-first}
+use Rattle.lasso.proofs.RoundLaws.{candidates-length-le}
+use Rattle.search.specs.Search.{searchReasons}
+use Rattle.search.proofs.SearchLaws.{roll-first}
 use Rattle.text.specs.Figure.{figure}
 use Rattle.text.proofs.FigureLaws.{figure-room}
 use Rattle.lines.specs.Line.{line}

@@ -19,13 +19,13 @@ use Rattle.format.specs.Rules.{Accepted, firstBroken}
 use Rattle.model.specs.declared.Header.{Header}
 use Rattle.model.specs.Values.{Valid}
 use Rattle.model.proofs.Laws.{accepted-facts, header-numbers}
-use Rattle.finder.specs.Outcomes.{refused, answered, outcome, Searched}
+use Rattle.lasso.proofs.RoundLaws.{candidates-length-le}
+use Rattle.outcomes.specs.Outcome.{refused, answered, outcome}
+use Rattle.outcomes.specs.Tables.{written, unlessRefused}
+use Rattle.search.specs.Search.{Searched, searched}
+use Rattle.search.proofs.SearchLaws.{SearchIs, search-refused, search-empty, search-found, search-no-room, roll-first}
 use Rattle.gate.specs.Gate.{commonRules, workOf}
-use Rattle.finder.specs.Tables.{written}
-use Rattle.finder.specs.Search.{searched, unlessRefused}
 use Rattle.gate.proofs.GateLaws.{work-refused}
-use Rattle.finder.proofs.StepLaws.{candidates-length-le}
-use Rattle.finder.proofs.SearchLaws.{SearchIs, search-refused, search-empty, search-found, search-no-room, roll-first}
 use Rattle.text.specs.Figure.{figure}
 use Rattle.text.specs.Writing.{Wrote}
 use Rattle.text.proofs.WroteLaws.{wrote-none, wrote-as}
@@ -54,20 +54,20 @@ outcome-answered none s a e = refl
 outcome-answered (some m) s a e = let z : _≡_ {A = ℕ} 0 1 = cc in absurd (omega arith)
 
 -- the sheet of a file that a search refuses
-pub sheet-refused : {f : List ℕ} {answer work n : ℕ} {due : Option (List ℕ)} → SearchIs f sheetAsk answer work (refused n) due
+pub sheet-refused : (f : List ℕ) (answer work : ℕ) {n : ℕ} {due : Option (List ℕ)} → SearchIs f sheetAsk answer work (refused n) due
     → SheetIs f answer work (figure refusedWord n) none
-sheet-refused {f} {answer} {work} {n} s =
-    let e : sheetRefusal f answer work ≡ some n = outcome-refused (sheetRefusal f answer work) (searched (graphOf f) sheetAsk) n (s .outcome) in
+sheet-refused f answer work {n} s =
+    let e : sheetRefusal f answer work ≡ some n = outcome-refused (sheetRefusal f answer work) (searched (graphOf f) sheetAsk) n (s .outcome-is) in
     record {
       text-is = ap (λ (o : Option ℕ). textOf o f) e;
       list-is = ap (λ (o : Option ℕ). unlessRefused o (lastPrinted (roll (graphOf f)))) e;
     }
 
 -- the sheet of a file that a search does not refuse
-sheet-kept : {f : List ℕ} {answer work : ℕ} {a : Searched} {due : Option (List ℕ)} → SearchIs f sheetAsk answer work (answered a) due
+sheet-kept : (f : List ℕ) (answer work : ℕ) {a : Searched} {due : Option (List ℕ)} → SearchIs f sheetAsk answer work (answered a) due
     → SheetIs f answer work (textOf none f) (lastPrinted (roll (graphOf f)))
-sheet-kept {f} {answer} {work} {a} s =
-    let e : sheetRefusal f answer work ≡ none = outcome-answered (sheetRefusal f answer work) (searched (graphOf f) sheetAsk) a (s .outcome) in
+sheet-kept f answer work {a} s =
+    let e : sheetRefusal f answer work ≡ none = outcome-answered (sheetRefusal f answer work) (searched (graphOf f) sheetAsk) a (s .outcome-is) in
     record {
       text-is = ap (λ (o : Option ℕ). textOf o f) e;
       list-is = ap (λ (o : Option ℕ). unlessRefused o (lastPrinted (roll (graphOf f)))) e;
@@ -97,7 +97,7 @@ module _ (f : List ℕ) (accepted : Accepted f) (answer work : ℕ) (room : 6 * 
   pub sheet-empty : leastLength (graphOf f) ≡ none → SheetIs f answer work (headOf f ++ noneLine) none
   sheet-empty e =
       let no-list : roll (graphOf f) ≡ [] = roll-empty (graphOf f) .1 e in
-      let s = sheet-kept (search-empty f accepted sheetAsk answer work room enough-rounds e) in
+      let s = sheet-kept f answer work (search-empty f accepted sheetAsk answer work room enough-rounds e) in
       record {
         text-is = s .text-is ∙ ap (λ (rs : List (List ℕ)). headOf f ++ rollText rs) no-list;
         list-is = s .list-is ∙ ap (λ (rs : List (List ℕ)). lastPrinted rs) no-list;
@@ -108,7 +108,7 @@ module _ (f : List ℕ) (accepted : Accepted f) (answer work : ℕ) (room : 6 * 
       → SheetIs f answer work (headOf f ++ figure shortestWord l ++ listsText (roll (graphOf f))) (lastPrinted (roll (graphOf f)))
   sheet-lists l e fits =
       let (xs, first, long) = roll-first (graphOf f) l e in
-      let s = sheet-kept (search-found f accepted sheetAsk answer work room enough-rounds xs first (omega arith)) in
+      let s = sheet-kept f answer work (search-found f accepted sheetAsk answer work room enough-rounds xs first (omega arith)) in
       record {
         text-is =
             s .text-is
@@ -119,7 +119,7 @@ module _ (f : List ℕ) (accepted : Accepted f) (answer work : ℕ) (room : 6 * 
 
   -- there are lists, and they have no room
   pub sheet-no-room : (l : ℕ) → leastLength (graphOf f) ≡ some l → answer < l + 1 → SheetIs f answer work (figure refusedWord 15) none
-  sheet-no-room l e less = sheet-refused (search-no-room f accepted sheetAsk answer work room enough-rounds l e less)
+  sheet-no-room l e less = sheet-refused f answer work (search-no-room f accepted sheetAsk answer work room enough-rounds l e less)
 
 -- the numbers of the header are the file's
 pub head-is : {f : List ℕ} {h : Header} {rounds : ℕ} → Valid f h → rounds ≡ length (candidates (graphOf f))
@@ -158,5 +158,5 @@ module _ (f : List ℕ) (t a w : List ℕ) where
   pub leaves-refused : {t' : List ℕ} {n next : ℕ} → sheetRoom ≤ length t → firstBroken (commonRules f (length w)) ≡ some n
       → Wrote t 0 (figure refusedWord n) t' next → LeavesSheet next t' a w
   leaves-refused {n = n} room broken wrote =
-      let is = sheet-refused (search-refused f sheetAsk (length a) (length w) n broken) in
+      let is = sheet-refused f (length a) (length w) (search-refused f sheetAsk (length a) (length w) n broken) in
       leaves-sheet room (wrote-as (sym (is .text-is)) wrote) (sym (sheet-answer a is)) (work-refused f w n broken)

@@ -14,8 +14,8 @@ use Rattle.model.specs.Model.{graphOf}
 use Rattle.format.specs.Rules.{firstBroken}
 use Rattle.gate.specs.Gate.{workOf, asking}
 use Rattle.gate.specs.declared.Ask.{Ask}
-use Rattle.finder.specs.Tables.{written}
-use Rattle.finder.specs.Search.{searchReasons, unlessRefused}
+use Rattle.outcomes.specs.Tables.{written, unlessRefused}
+use Rattle.search.specs.Search.{searchReasons}
 use Rattle.text.specs.Characters.{space}
 use Rattle.text.specs.Decimal.{decimal}
 use Rattle.text.specs.Figure.{figure}

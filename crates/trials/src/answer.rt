@@ -1,7 +1,4 @@
 // The answers of the finder, each as one number.
-use finder::NextAnswer;
-use finder::SearchAnswer;
-use finder::StepAnswer;
 use harness::NEXT_FOUND;
 use harness::NEXT_NO_MORE;
 use harness::NEXT_REFUSED;
@@ -17,6 +14,9 @@ use harness::code_of;
 use lasso::Best;
 use lasso::RoundRecord;
 use lasso::Transitions;
+use next::NextAnswer;
+use search::SearchAnswer;
+use step::StepAnswer;
 
 // The figure of a best length.
 fn figure(best: Best) -> u64 {

@@ -14,7 +14,7 @@ use lasso::RoundRecord;
 // A step with the whole of a working table.
 fn step_on(file: &[u8], so_far: RoundRecord, work: &mut [u16]) -> u64 {
     fill(work, VARIED);
-    let code = of_step(finder::step(file, so_far, work));
+    let code = of_step(step::step(file, so_far, work));
     seen_work(code, work)
 }
 
@@ -22,8 +22,8 @@ fn step_on(file: &[u8], so_far: RoundRecord, work: &mut [u16]) -> u64 {
 fn search_on(file: &[u8], allowance: u16, table: &mut [u16], work: &mut [u16]) -> u64 {
     fill(table, VARIED);
     fill(work, VARIED);
-    let ask = finder::Ask { allowance };
-    let code = of_search(finder::search(file, ask, table, work));
+    let ask = gate::Ask { allowance };
+    let code = of_search(search::search(file, ask, table, work));
     seen(code, table, work)
 }
 
@@ -31,7 +31,7 @@ fn search_on(file: &[u8], allowance: u16, table: &mut [u16], work: &mut [u16]) -
 fn next_on(file: &[u8], earlier: &[u16], table: &mut [u16], work: &mut [u16]) -> u64 {
     fill(table, VARIED);
     fill(work, VARIED);
-    let code = of_next(finder::next(file, earlier, table, work));
+    let code = of_next(next::next(file, earlier, table, work));
     seen(code, table, work)
 }
 

@@ -4,9 +4,9 @@ use Prim.Native.Nat.{ℕ, _≤_, _<_}
 use native.Mathlib.Omega.{arith}
 use borrow.Author.Needs.{needs}
 use lib.ListN.{length}
-use Rattle.finder.specs.Outcomes.{Outcome, Followed, nextOutcomeOf}
+use Rattle.outcomes.specs.Outcome.{Outcome}
+use Rattle.next.specs.Next.{Followed, nextOutcomeOf, nextOutcome, nextAnswer}
 use Rattle.gate.specs.Gate.{workOf}
-use Rattle.finder.specs.Next.{nextOutcome, nextAnswer}
 use Rattle.answers.specs.Kinds.{nextReport}
 use Rattle.capi.proofs.CallLaws.{is-short, is-enough, reports-short, reports-enough}
 use Rattle.capi.proofs.fahkelo_next.Statement.{statement}

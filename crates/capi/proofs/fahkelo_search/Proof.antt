@@ -5,9 +5,9 @@ use native.Mathlib.Omega.{arith}
 use borrow.Author.Needs.{needs}
 use lib.ListN.{length}
 use Rattle.gate.specs.Gate.{asking}
-use Rattle.finder.specs.Outcomes.{Outcome, Searched, searchOutcomeOf}
+use Rattle.outcomes.specs.Outcome.{Outcome}
+use Rattle.search.specs.Search.{Searched, searchOutcomeOf, searchOutcome, searchAnswer}
 use Rattle.gate.specs.Gate.{workOf}
-use Rattle.finder.specs.Search.{searchOutcome, searchAnswer}
 use Rattle.answers.specs.Kinds.{searchReport}
 use Rattle.capi.proofs.CallLaws.{is-short, is-enough, reports-short, reports-enough}
 use Rattle.capi.proofs.fahkelo_search.Statement.{statement}

@@ -6,9 +6,9 @@ use native.Mathlib.Omega.{arith}
 use borrow.Author.Needs.{needs}
 use lib.ListN.{length}
 use Rattle.lasso.specs.Rounds.{Record}
-use Rattle.finder.specs.Outcomes.{Outcome, Stepped, stepOutcomeOf}
+use Rattle.outcomes.specs.Outcome.{Outcome}
+use Rattle.step.specs.Step.{Stepped, stepOutcomeOf, stepOutcome}
 use Rattle.gate.specs.Gate.{workOf}
-use Rattle.finder.specs.Step.{stepOutcome}
 use Rattle.answers.specs.Kinds.{recordGiven, stepReport}
 use Rattle.capi.proofs.CallLaws.{is-short, is-enough, reports-short, reports-enough}
 use Rattle.capi.proofs.fahkelo_step.Statement.{statement}

@@ -17,7 +17,7 @@ use Rattle.model.proofs.Laws.{valid-graph, valid-sizes}
 use Rattle.gate.proofs.GateLaws.{valid-room}
 use Rattle.cursor.specs.Cursor.{BegunSays, AllDone}
 use Rattle.cursor.specs.declared.Begun.{Begun}
-use Rattle.finder.specs.Tables.{written}
+use Rattle.outcomes.specs.Tables.{written}
 use Rattle.text.specs.Figure.{figure}
 use Rattle.text.proofs.WroteLaws.{wrote-length, wrote-then, wrote-as}
 use Rattle.text.proofs.FigureLaws.{figure-room}

@@ -1,6 +1,6 @@
 -- `report::report_next` meets its contract, answer by answer.
-use Rattle.finder.specs.declared.NextAnswer.{NextAnswer}
-use Rattle.finder.specs.Outcomes.{nextOutcomeOf}
+use Rattle.next.specs.declared.NextAnswer.{NextAnswer}
+use Rattle.next.specs.Next.{nextOutcomeOf}
 use Rattle.answers.specs.Kinds.{Report, nextReport}
 use Rattle.answers.proofs.ReportLaws.{reports-known}
 use borrow.Author.Needs.{needs}

@@ -1,6 +1,6 @@
 -- `report::report_search` meets its contract, answer by answer.
-use Rattle.finder.specs.declared.SearchAnswer.{SearchAnswer}
-use Rattle.finder.specs.Outcomes.{searchOutcomeOf}
+use Rattle.search.specs.declared.SearchAnswer.{SearchAnswer}
+use Rattle.search.specs.Search.{searchOutcomeOf}
 use Rattle.answers.specs.Kinds.{Report, searchReport}
 use Rattle.answers.proofs.ReportLaws.{reports-known}
 use borrow.Author.Needs.{needs}

@@ -1,6 +1,6 @@
 -- `report::report_step` meets its contract, answer by answer.
-use Rattle.finder.specs.declared.StepAnswer.{StepAnswer}
-use Rattle.finder.specs.Outcomes.{stepOutcomeOf}
+use Rattle.step.specs.declared.StepAnswer.{StepAnswer}
+use Rattle.step.specs.Step.{stepOutcomeOf}
 use Rattle.answers.specs.Kinds.{Report, stepReport}
 use Rattle.answers.proofs.ReportLaws.{reports-known}
 use borrow.Author.Needs.{needs}

@@ -2,8 +2,7 @@
 use native.Mathlib.Omega.{arith}
 use mathlib.Core.Path.{ap}
 use lib.ListN.{length}
-use Rattle.finder.specs.Outcomes.{nextOutcomeOf}
-use Rattle.finder.specs.Next.{nextOutcome}
+use Rattle.next.specs.Next.{nextOutcomeOf, nextOutcome}
 use Rattle.sequence.specs.Calls as calls
 use Rattle.script.proofs.CallLaws.{made}
 use borrow.Author.Needs.{needs}

@@ -2,8 +2,7 @@
 use native.Mathlib.Omega.{arith}
 use mathlib.Core.Path.{ap}
 use lib.ListN.{length}
-use Rattle.finder.specs.Outcomes.{searchOutcomeOf}
-use Rattle.finder.specs.Search.{searchOutcome}
+use Rattle.search.specs.Search.{searchOutcomeOf, searchOutcome}
 use Rattle.sequence.specs.Calls as calls
 use Rattle.script.proofs.CallLaws.{made}
 use borrow.Author.Needs.{needs}

@@ -1,0 +1,2 @@
+-- The laws of "next".
+pub mod NextLaws

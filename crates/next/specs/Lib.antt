@@ -1,0 +1,2 @@
+-- What "next" promises: the answer with every figure in it, and the answer table afterwards.
+pub mod Next

@@ -1,0 +1,61 @@
+-- "Next": the shortest accepting path that follows an earlier one.
+use Prim.Native.Nat.{ℕ}
+use mathlib.Core.Bool.{Bool, not}
+use mathlib.Core.List.{List, _∷_, _++_}
+use mathlib.Core.Option.{Option, some, none}
+use lib.ListN.{length}
+use Rattle.lasso.specs.Lists.{anyb}
+use Rattle.lasso.specs.Graph.{Graph, edges, loopStart}
+use Rattle.lasso.specs.Roll.{roll}
+use Rattle.lasso.specs.Following.{sameb, following}
+use Rattle.model.specs.Model.{graphOf}
+use Rattle.format.specs.Rules.{Reason, firstBroken}
+use Rattle.outcomes.specs.Outcome.{Outcome, refused, answered, outcome}
+use Rattle.outcomes.specs.Tables.{listReasons, unlessRefused, written}
+use Rattle.gate.specs.Gate.{commonRules}
+use Rattle.next.specs.declared.NextAnswer.{NextAnswer}
+use Rattle.next.specs.declared.NextAnswer.the-variants as NextAnswers
+
+-- A next not refused: found (L, k), or no more.
+pub data Followed : Type 0 where
+  found : (length loopStart : ℕ) → Followed
+  noMore : Followed
+
+-- which outcome each answer of the code's next is
+abbrev pub nextOutcomeOf : NextAnswer → Outcome Followed
+nextOutcomeOf (NextAnswers.Refused n) = refused n
+nextOutcomeOf (NextAnswers.Found l k) = answered (found (l .0) k)
+nextOutcomeOf NextAnswers.NoMore = answered noMore
+
+-- 13. the earlier list, with all its entries, is not a shortest accepting path of this model
+abbrev pub notShortest : Graph → List ℕ → Bool
+notShortest g earlier = not (anyb (sameb earlier) (roll g))
+
+-- found with the list's length and its loop start, or no more
+abbrev pub followed : Option (List ℕ) → Followed
+followed none = noMore
+followed (some xs) = found (edges xs) (loopStart xs)
+
+-- the reasons 13 to 15, where the list that is to be written is given
+abbrev pub dueReasons : List ℕ → List ℕ → Option (List ℕ) → ℕ → List Reason
+dueReasons f earlier due answer =
+    record { number = 13; holds = notShortest (graphOf f) earlier } ∷ listReasons f due answer
+
+-- the reasons that next applies, all of them: the list that is to be written is the one that follows the earlier one
+abbrev pub nextReasons : List ℕ → List ℕ → ℕ → ℕ → List Reason
+nextReasons f earlier answer work =
+    commonRules f work ++ dueReasons f earlier (following earlier (roll (graphOf f))) answer
+
+-- what next answers
+abbrev pub nextOutcome : List ℕ → List ℕ → ℕ → ℕ → Outcome Followed
+nextOutcome f earlier answer work =
+    outcome (firstBroken (nextReasons f earlier answer work)) (followed (following earlier (roll (graphOf f))))
+
+-- the list that next writes
+abbrev pub nextList : List ℕ → List ℕ → ℕ → ℕ → Option (List ℕ)
+nextList f earlier answer work =
+    unlessRefused (firstBroken (nextReasons f earlier answer work)) (following earlier (roll (graphOf f)))
+
+-- the answer table after next
+abbrev pub nextAnswer : List ℕ → List ℕ → List ℕ → ℕ → List ℕ
+nextAnswer f earlier a work = written (nextList f earlier (length a) work) a

@@ -1,0 +1,121 @@
+// Next: the shortest accepting path that follows an earlier one. It applies the reasons 1 to 15 in order, and leaves the
+// working table untouched after 1 to 12 and all zero otherwise.
+ghost use mathlib.Core.Path.{_≡_};
+ghost use mathlib.Core.Option.{some};
+ghost use Prim.Native.Nat.{_*_, _≤_};
+ghost use lib.ListN.{length};
+ghost use lib.ListN;
+ghost use Rattle.lasso.specs.Roll.{leastLength};
+ghost use Rattle.model.specs.Model.{graphIn};
+ghost use Rattle.model.specs.Values.{Valid};
+ghost use Rattle.gate.specs.Gate.{workOf};
+ghost use Rattle.rounds.specs.Promises.{RoundsReady};
+ghost use Rattle.next.specs.Next.{nextOutcomeOf, nextOutcome, nextAnswer};
+use cursor::Begun;
+use cursor::begin;
+use cursor::to_list;
+use cursor::to_next;
+use cursor::write_list;
+use gate::admit;
+use gate::leave;
+use lasso::Entries;
+use lasso::Transitions;
+use model::Checked;
+use model::Header;
+use paths::is_lasso;
+
+// The answer of next: refused with a number, found with the length and the loop's start, or no more.
+pub enum NextAnswer {
+    Refused(u16),
+    Found(Transitions, u16),
+    NoMore,
+}
+
+// An allowance that suffices for every model.
+const ALL_ROUNDS: u16 = 65535;
+
+// Writes the shortest accepting path after the earlier one, where their length is known.
+fn next_list(
+    file: &[u8],
+    h: Header,
+    length: Transitions,
+    earlier: &[u16],
+    answer: &mut [u16],
+    work: &mut [u16],
+) -> NextAnswer
+    requires { ⌜ RoundsReady (now file) h (now work) ⌝ }
+    requires { ⌜ leastLength (graphIn (now file) h) ≡ some (length .0) ⌝ }
+    ensures outcome { λ r. ⌜ nextOutcomeOf r
+        ≡ nextOutcome (now (file .entry)) (now (earlier .entry))
+        (lib.ListN.length (now (answer .entry)))
+        (lib.ListN.length (now (work .entry))) ⌝ }
+    ensures answer { λ _. ⌜ now (answer .exit)
+        ≡ nextAnswer (now (file .entry)) (now (earlier .entry)) (now (answer .entry))
+        (lib.ListN.length (now (work .entry))) ⌝ }
+    ensures kept { λ _. ⌜ lib.ListN.length (now (work .exit)) ≡ lib.ListN.length (now (work .entry)) ⌝ }
+{
+    if !is_lasso(file, h, earlier, length) {
+        return NextAnswer::Refused(13);
+    }
+    if 4096 < length.0 {
+        return NextAnswer::Refused(14);
+    }
+    to_list(file, h, length, earlier, work);
+    if !to_next(file, h, length, work) {
+        return NextAnswer::NoMore;
+    }
+    let entries = length.entries();
+    let room = Entries(answer.len());
+    if room.0 < entries.0 {
+        return NextAnswer::Refused(15);
+    }
+    let k = write_list(h, work, length, answer);
+    let loop_start = k as u16;
+    NextAnswer::Found(length, loop_start)
+}
+
+// All rounds and then, if there is an accepting path, the one after the earlier list. The rounds are never stopped.
+fn next_of_model(
+    file: &[u8],
+    h: Header,
+    earlier: &[u16],
+    answer: &mut [u16],
+    work: &mut [u16],
+) -> NextAnswer
+    requires { ⌜ Valid (now file) h ⌝ }
+    requires { ⌜ 6 * h .states ≤ lib.ListN.length (now work) ⌝ }
+    ensures outcome { λ r. ⌜ nextOutcomeOf r
+        ≡ nextOutcome (now (file .entry)) (now (earlier .entry))
+        (lib.ListN.length (now (answer .entry))) (lib.ListN.length (now (work .entry))) ⌝ }
+    ensures answer { λ _. ⌜ now (answer .exit)
+        ≡ nextAnswer (now (file .entry)) (now (earlier .entry)) (now (answer .entry))
+        (lib.ListN.length (now (work .entry))) ⌝ }
+    ensures kept { λ _. ⌜ lib.ListN.length (now (work .exit)) ≡ lib.ListN.length (now (work .entry)) ⌝ }
+{
+    let begun = begin(file, h, ALL_ROUNDS, work);
+    match begun {
+        Begun::Stopped(_) => NextAnswer::Refused(13),
+        Begun::Empty(_) => NextAnswer::Refused(13),
+        Begun::Length(length, _) => next_list(file, h, length, earlier, answer, work),
+    }
+}
+
+// The shortest accepting path that follows an earlier one, written to the answer table.
+pub fn next(file: &[u8], earlier: &[u16], answer: &mut [u16], work: &mut [u16]) -> NextAnswer
+    ensures outcome { λ r. ⌜ nextOutcomeOf r
+        ≡ nextOutcome (now (file .entry)) (now (earlier .entry)) (length (now (answer .entry)))
+        (length (now (work .entry))) ⌝ }
+    ensures answer { λ r. ⌜ now (answer .exit)
+        ≡ nextAnswer (now (file .entry)) (now (earlier .entry)) (now (answer .entry)) (length (now (work .entry))) ⌝ }
+    ensures work { λ r. ⌜ now (work .exit) ≡ workOf (now (file .entry)) (now (work .entry)) ⌝ }
+{
+    let checked = admit(file, work);
+    match checked {
+        Checked::Refused(number) => NextAnswer::Refused(number),
+        Checked::Accept(h) => {
+            let followed = next_of_model(file, h, earlier, answer, work);
+            leave(work);
+            followed
+        }
+    }
+}

@@ -1,0 +1,3 @@
+-- The laws of what calls answer and write.
+pub mod OutcomeLaws
+pub mod ReadBack

@@ -1,0 +1,53 @@
+-- A call's outcome and the list that it writes, from the first of its reasons that holds.
+use Prim.Native.Nat.{ℕ}
+use mathlib.Core.Path.{_≡_, refl, _∙_, ap}
+use mathlib.Core.Bool.{false}
+use mathlib.Core.List.{List}
+use mathlib.Core.Option.{Option, some, none}
+use native.Mathlib.Omega.{arith}
+use borrow.Author.Tests.{le-ltb}
+use Rattle.lasso.specs.Roll.{leastLength}
+use Rattle.lasso.proofs.RollLaws.{leastLength-range}
+use Rattle.format.specs.Rules.{Reason, firstBroken, Accepted}
+use Rattle.model.specs.Model.{graphOf}
+use Rattle.model.proofs.Laws.{accepted-facts}
+use Rattle.outcomes.specs.Outcome.{Outcome, refused, answered, outcome}
+use Rattle.outcomes.specs.Tables.{tooLong, unlessRefused, written}
+
+-- a call with these reasons, this finding and this list due has that outcome and writes that list
+pub record CallIs {A : Type 0} (reasons : List Reason) (found : A) (due : Option (List ℕ)) (o : Outcome A) (listed : Option (List ℕ)) : Type 0 where
+  pub outcome-is : outcome (firstBroken reasons) found ≡ o
+  pub list-is : unlessRefused (firstBroken reasons) due ≡ listed
+
+-- the answer table holds the list that is written
+pub call-answer : {A : Type 0} {reasons : List Reason} {found : A} {due : Option (List ℕ)} {o : Outcome A} {listed : Option (List ℕ)} (a : List ℕ)
+    → CallIs reasons found due o listed → written (unlessRefused (firstBroken reasons) due) a ≡ written listed a
+call-answer a s = ap (λ (l : Option (List ℕ)). written l a) (s .list-is)
+
+-- a reason holds: refused with the first, and nothing is written
+pub call-broken : {A : Type 0} (reasons : List Reason) (found : A) (due : Option (List ℕ)) (n : ℕ) → firstBroken reasons ≡ some n
+    → CallIs reasons found due (refused n) none
+call-broken reasons found due n e =
+    record {
+      outcome-is = ap (λ (o : Option ℕ). outcome o found) e;
+      list-is = ap (λ (o : Option ℕ). unlessRefused o due) e;
+    }
+
+-- no reason holds: what the call finds, and the list due
+pub call-kept : {A : Type 0} (reasons : List Reason) (found found' : A) (due due' : Option (List ℕ)) → firstBroken reasons ≡ none
+    → found ≡ found' → due ≡ due' → CallIs reasons found due (answered found') due'
+call-kept reasons found found' due due' e p q =
+    record {
+      outcome-is = ap (λ (o : Option ℕ). outcome o found) e ∙ ap answered p;
+      list-is = ap (λ (o : Option ℕ). unlessRefused o due) e ∙ q;
+    }
+
+-- the shortest accepting path of an accepted file never has more than 4,096 transitions
+pub never-too-long : (f : List ℕ) → Accepted f → tooLong (leastLength (graphOf f)) ≡ false
+never-too-long f a = go (leastLength (graphOf f)) refl
+  where
+    go : (o : Option ℕ) → leastLength (graphOf f) ≡ o → tooLong o ≡ false
+    go none e = refl
+    go (some l) e =
+        let facts = accepted-facts f a in
+        le-ltb 4096 l (omega (arith, leastLength-range (graphOf f) l e, facts .states-range))

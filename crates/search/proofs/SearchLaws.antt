@@ -1,0 +1,172 @@
+-- What a search on an accepted file with room in the working table answers and writes, case by case; and that its outcome
+-- loses nothing.
+use Prim.Native.Nat.{ℕ, suc, _+_, _*_, _≤_, _<_, min}
+use mathlib.Core.Path.{_≡_, refl, sym, _∙_, ap, subst}
+use mathlib.Core.Bool.{Bool, true, false}
+use mathlib.Core.List.{List, [], _∷_, _++_, head?, List·Memᴰ, List·Memᴰ·head}
+use mathlib.Core.Option.{Option, some, none}
+use native.Mathlib.Omega.{arith}
+use borrow.Author.Tests.{lt-ltb, le-ltb}
+use lib.ListN.{length, take, drop}
+use lib.Seq.{length-take-le}
+use Rattle.lasso.specs.Lists.{pick, someIf}
+use Rattle.lasso.specs.Graph.{Graph, edges, loopStart}
+use Rattle.lasso.specs.Roll.{leastLength, roll}
+use Rattle.lasso.specs.Rounds.{candidates, afterRounds}
+use Rattle.lasso.proofs.RollLaws.{roll-empty, roll-length}
+use Rattle.gate.specs.declared.Ask.{Ask}
+use Rattle.model.specs.Model.{graphOf}
+use Rattle.format.specs.Layout.{states}
+use Rattle.format.specs.Rules.{firstBroken, Accepted}
+use Rattle.outcomes.specs.Outcome.{Outcome, refused, answered}
+use Rattle.outcomes.specs.Tables.{noRoom, lengthDue, listReasons}
+use Rattle.outcomes.proofs.OutcomeLaws.{CallIs, call-answer, call-broken, call-kept, never-too-long}
+use Rattle.outcomes.proofs.ReadBack.{transitions, readRecord, readRecord-recordOf, read-injective}
+use Rattle.gate.specs.Gate.{commonRules}
+use Rattle.gate.proofs.GateLaws.{broken-append, clear-append, common-clear}
+use Rattle.search.specs.declared.SearchAnswer.{SearchAnswer}
+use Rattle.search.specs.declared.SearchAnswer.the-variants as SearchAnswers
+use Rattle.search.specs.Search.{Searched, stopped, empty, searchOutcomeOf, stopsb, firstOf, searched, firstDue, searchReasons, searchOutcome, searchAnswer}
+
+-- a search's outcome, and the list that it writes
+abbrev pub SearchIs : List ℕ → Ask → ℕ → ℕ → Outcome Searched → Option (List ℕ) → Type 0
+SearchIs f ask answer work o due =
+    CallIs (searchReasons f ask answer work) (searched (graphOf f) ask) (firstDue (graphOf f) ask) o due
+
+-- a search for which a reason holds is refused with the first, and writes nothing
+search-broken : (f : List ℕ) (ask : Ask) (answer work n : ℕ) → firstBroken (searchReasons f ask answer work) ≡ some n
+    → SearchIs f ask answer work (refused n) none
+search-broken f ask answer work n e =
+    call-broken (searchReasons f ask answer work) (searched (graphOf f) ask) (firstDue (graphOf f) ask) n e
+
+-- a search for which none holds: what it answers, and the list due
+search-kept : (f : List ℕ) (ask : Ask) (answer work : ℕ) (s : Searched) (due : Option (List ℕ))
+    → firstBroken (searchReasons f ask answer work) ≡ none → searched (graphOf f) ask ≡ s
+    → firstDue (graphOf f) ask ≡ due → SearchIs f ask answer work (answered s) due
+search-kept f ask answer work s due e p q =
+    call-kept (searchReasons f ask answer work) (searched (graphOf f) ask) s (firstDue (graphOf f) ask) due e p q
+
+-- refused with a reason of 1 to 12
+pub search-refused : (f : List ℕ) (ask : Ask) (answer work n : ℕ) → firstBroken (commonRules f work) ≡ some n
+    → SearchIs f ask answer work (refused n) none
+search-refused f ask answer work n e =
+    search-broken f ask answer work n (broken-append (commonRules f work) (listReasons f (firstDue (graphOf f) ask) answer) n e)
+
+-- the first of a list of lists decides between found and empty
+firstOf-head : (rs : List (List ℕ)) (xs : List ℕ) (rounds : ℕ) → head? rs ≡ some xs
+    → firstOf rs rounds ≡ Searched.found (edges xs) (loopStart xs) rounds
+firstOf-head [] xs rounds e = let z : _≡_ {A = ℕ} 0 1 = cc in absurd (omega arith)
+firstOf-head (r ∷ rs) xs rounds e =
+    let q : r ≡ xs = cc in ap (λ (zs : List ℕ). Searched.found (edges zs) (loopStart zs) rounds) q
+
+-- with a least length there is a first list, of that length
+pub roll-first : (g : Graph) (l : ℕ) → leastLength g ≡ some l → (xs : List ℕ) × (head? (roll g) ≡ some xs) × (length xs ≡ suc l)
+roll-first g l e = go (roll g) refl
+  where
+    go : (rs : List (List ℕ)) → roll g ≡ rs → (xs : List ℕ) × (head? rs ≡ some xs) × (length xs ≡ suc l)
+    go [] q = let n : leastLength g ≡ none = roll-empty g .0 q in let z : _≡_ {A = ℕ} 0 1 = cc in absurd (omega arith)
+    go (xs ∷ rs) q =
+        (xs, refl, roll-length g l e xs (subst (λ (zs : List (List ℕ)). List·Memᴰ xs zs) (sym q) (List·Memᴰ·head refl)))
+
+module _ (f : List ℕ) (accepted : Accepted f) (ask : Ask) (answer work : ℕ) (room : 6 * states f ≤ work) where
+  -- the graph of the file
+  abbrev g : Graph
+  g = graphOf f
+
+  -- only reason 15 is left to decide
+  search-reasons : firstBroken (searchReasons f ask answer work) ≡ someIf (noRoom (lengthDue (firstDue g ask)) answer) 15 none
+  search-reasons =
+      clear-append (commonRules f work) (listReasons f (firstDue g ask) answer) (common-clear f work accepted room)
+      ∙ ap (λ (b : Bool). someIf b 14 (someIf (noRoom (lengthDue (firstDue g ask)) answer) 15 none)) (never-too-long f accepted)
+
+  -- the list due has room or not
+  search-due : (due : Option (List ℕ)) (b : Bool) → firstDue g ask ≡ due → noRoom (lengthDue due) answer ≡ b
+      → firstBroken (searchReasons f ask answer work) ≡ someIf b 15 none
+  search-due due b q e =
+      search-reasons
+      ∙ ap (λ (d : Option (List ℕ)). someIf (noRoom (lengthDue d) answer) 15 none) q
+      ∙ ap (λ (x : Bool). someIf x 15 none) e
+
+  -- the allowance is less than the number of candidates: stopped with the record after that many rounds
+  pub search-stopped : ask .allowance < length (candidates g)
+      → SearchIs f ask answer work (answered (stopped (afterRounds g (ask .allowance)))) none
+  search-stopped less =
+      let stops : stopsb g (ask .allowance) ≡ true = lt-ltb (ask .allowance) (length (candidates g)) less in
+      let due : firstDue g ask ≡ none = ap (λ (b : Bool). pick b none (head? (roll g))) stops in
+      search-kept f ask answer work (stopped (afterRounds g (ask .allowance))) none (search-due none false due refl)
+      (ap (λ (b : Bool). pick b (stopped (afterRounds g (ask .allowance))) (firstOf (roll g) (length (candidates g)))) stops) due
+
+  -- the allowance suffices: the first of the roll decides
+  pub search-goes-on : length (candidates g) ≤ ask .allowance
+      → (searched g ask ≡ firstOf (roll g) (length (candidates g))) × (firstDue g ask ≡ head? (roll g))
+  search-goes-on enough =
+      let goes : stopsb g (ask .allowance) ≡ false = le-ltb (ask .allowance) (length (candidates g)) enough in (
+        ap (λ (b : Bool). pick b (stopped (afterRounds g (ask .allowance))) (firstOf (roll g) (length (candidates g)))) goes,
+        ap (λ (b : Bool). pick b none (head? (roll g))) goes,
+      )
+
+  -- there is no accepting path: empty, with the number of candidates
+  pub search-empty : length (candidates g) ≤ ask .allowance → leastLength g ≡ none
+      → SearchIs f ask answer work (answered (empty (length (candidates g)))) none
+  search-empty enough none-least =
+      let (answers, due) = search-goes-on enough in
+      let no-list : roll g ≡ [] = roll-empty g .1 none-least in
+      let nothing : firstDue g ask ≡ none = due ∙ ap (λ (rs : List (List ℕ)). head? rs) no-list in
+      search-kept f ask answer work (empty (length (candidates g))) none (search-due none false nothing refl)
+      (answers ∙ ap (λ (rs : List (List ℕ)). firstOf rs (length (candidates g))) no-list) nothing
+
+  -- the first of the roll has room: found, with its figures
+  pub search-found : length (candidates g) ≤ ask .allowance → (xs : List ℕ) → head? (roll g) ≡ some xs → edges xs + 1 ≤ answer
+      → SearchIs f ask answer work (answered (Searched.found (edges xs) (loopStart xs) (length (candidates g)))) (some xs)
+  search-found enough xs first fits =
+      let (answers, due) = search-goes-on enough in
+      search-kept f ask answer work (Searched.found (edges xs) (loopStart xs) (length (candidates g))) (some xs)
+      (search-due (some xs) false (due ∙ first) (le-ltb answer (edges xs + 1) fits))
+      (answers ∙ firstOf-head (roll g) xs (length (candidates g)) first) (due ∙ first)
+
+  -- it has no room: refused with 15
+  pub search-no-room : length (candidates g) ≤ ask .allowance → (l : ℕ) → leastLength g ≡ some l → answer < l + 1
+      → SearchIs f ask answer work (refused 15) none
+  search-no-room enough l least less =
+      let (xs, first, long) = roll-first g l least in
+      let (answers, due) = search-goes-on enough in
+      search-broken f ask answer work 15
+      (search-due (some xs) true (due ∙ first) (lt-ltb answer (edges xs + 1) (omega arith)))
+
+-- the first of the roll, which stands in region 0 behind the start, was written to the answer table: what a search with
+-- any allowance that suffices answers and writes
+pub first-written : (f : List ℕ) → Accepted f → (work : ℕ) → 6 * states f ≤ work → (a a' w : List ℕ) (s l k rounds : ℕ)
+    → s ≡ graphOf f .start → l ≤ length w → head? (roll (graphOf f)) ≡ some (graphOf f .start ∷ take l w) → l < length a
+    → k ≡ loopStart (s ∷ take l w) → rounds ≡ length (candidates (graphOf f)) → a' ≡ (s ∷ take l w) ++ drop (l + 1) a
+    → (ask : Ask) → rounds ≤ ask .allowance
+    → (answered (Searched.found l k rounds) ≡ searchOutcome f ask (length a) work) × (a' ≡ searchAnswer f ask a work)
+first-written f accepted work room a a' w s l k rounds at-start fits first free at-k all out ask enough =
+    let g : Graph = graphOf f in
+    let xs : List ℕ = s ∷ take l w in
+    let long : length (take l w) ≡ l = length-take-le l w fits in
+    let at-l : l ≡ edges xs = omega arith in
+    let first' : head? (roll g) ≡ some xs = subst (λ (x : ℕ). head? (roll g) ≡ some (x ∷ take l w)) (sym at-start) first in
+    let found = search-found f accepted ask (length a) work room (omega arith) xs first' (omega arith) in
+    let figures : answered (Searched.found l k rounds) ≡ answered (Searched.found (edges xs) (loopStart xs) (length (candidates g))) = cc in
+    let entries : l + 1 ≡ length xs = omega arith in (
+      figures ∙ sym (found .outcome-is),
+      out ∙ ap (λ (n : ℕ). xs ++ drop n a) entries ∙ sym (call-answer a found),
+    )
+
+-- the answer of a search with a given outcome
+abbrev readSearch : Outcome Searched → SearchAnswer
+readSearch (refused n) = SearchAnswers.Refused n
+readSearch (answered (stopped r)) = SearchAnswers.Stopped (readRecord r)
+readSearch (answered (Searched.found l k rounds)) = SearchAnswers.Found (transitions l) k rounds
+readSearch (answered (empty rounds)) = SearchAnswers.Empty rounds
+
+-- a search's answer is read off its outcome
+readSearch-searchOutcomeOf : (a : SearchAnswer) → readSearch (searchOutcomeOf a) ≡ a
+readSearch-searchOutcomeOf (SearchAnswers.Refused n) = refl
+readSearch-searchOutcomeOf (SearchAnswers.Stopped r) = ap SearchAnswers.Stopped (readRecord-recordOf r)
+readSearch-searchOutcomeOf (SearchAnswers.Found l k rounds) = refl
+readSearch-searchOutcomeOf (SearchAnswers.Empty rounds) = refl
+
+-- equal outcomes of a search are of equal answers
+pub searchOutcomeOf-injective : (a b : SearchAnswer) → searchOutcomeOf a ≡ searchOutcomeOf b → a ≡ b
+searchOutcomeOf-injective = read-injective searchOutcomeOf readSearch readSearch-searchOutcomeOf

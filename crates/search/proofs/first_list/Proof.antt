@@ -1,0 +1,107 @@
+-- `first_list` meets its contract: the length is never above 4,096; without room for the list the answer is 15
+-- and nothing is written; else the first of the roll is written with its figures.
+use mathlib.Core.Path.{_≡_, refl, sym, subst}
+use mathlib.Core.List.{head?}
+use mathlib.Core.Option.{some, none}
+use Prim.Native.Nat.{_≤_}
+use native.Mathlib.Omega.{arith}
+use borrow.Author.Needs.{needs}
+use lib.ListN.{length}
+use Rattle.lasso.specs.Graph.{Graph}
+use Rattle.lasso.specs.Roll.{leastLength, roll}
+use Rattle.lasso.specs.Rounds.{candidates}
+use Rattle.lasso.proofs.RollLaws.{leastLength-range}
+use Rattle.model.specs.Model.{graphIn}
+use Rattle.model.proofs.Laws.{valid-graph, valid-sizes}
+use Rattle.outcomes.specs.Outcome.{refused}
+use Rattle.gate.specs.declared.Ask.{Ask}
+use Rattle.outcomes.proofs.OutcomeLaws.{call-answer}
+use Rattle.gate.proofs.GateLaws.{valid-room}
+use Rattle.follow.specs.Follow.{upTo}
+use Rattle.cursor.proofs.RollPlaces.{stands-head}
+use Rattle.search.proofs.SearchLaws.{SearchIs, search-no-room, first-written}
+use Rattle.search.proofs.first_list.Statement.{statement}
+use Rattle.search.proofs.first_list.Tie as tie
+
+-- the function's start, and what was done before the list was written
+abbrev start : tie.After-entries → tie.Start
+start c = c .before .before .before .before .before .before
+
+abbrev roomy : tie.After-to-first → tie.Else2
+roomy c = c .before .before
+
+returns : tie.Need-returns
+returns c =
+    let s = c .before .before .before .before .before in
+    let sizes = valid-sizes (s .pre .0 .valid) in
+    absurd (omega (arith, leastLength-range (graphIn (s .args .file .now) (s .args .h)) (s .args .length .0) (s .pre .1 .0), c .if1 .taken))
+
+entries-requires : tie.Need-entries-requires
+entries-requires c κs = search needs
+
+returns-2 : tie.Need-returns-2
+returns-2 c =
+    let counted = c .before .before .before in
+    let s = start counted in
+    let a = s .args in
+    let v = s .pre .0 .valid in
+    let least = subst (λ (g : Graph). leastLength g ≡ some (a .length .0)) (valid-graph v) (s .pre .1 .0) in
+    let rounds-are = subst (λ (g : Graph). a .rounds ≡ length (candidates g)) (valid-graph v) (s .pre .1 .1) in
+    let is : (ask : Ask) → a .rounds ≤ ask .allowance → SearchIs (a .file .now) ask (length (a .answer .now)) (length (a .work .now)) (refused 15) none =
+    λ ask enough. search-no-room (a .file .now) (v .accepted) ask (length (a .answer .now)) (length (a .work .now)) (valid-room v (s .pre .0 .room)) (omega (arith, rounds-are)) (a .length .0) least (omega (arith, counted .entries .ensures, c .if2 .taken)) in (
+      λ ask enough. sym (is ask enough .outcome-is),
+      (λ ask enough. sym (call-answer (a .answer .now) (is ask enough)), refl),
+    )
+
+to-first-requires : tie.Need-to-first-requires
+to-first-requires c κs = search needs
+
+write-list-requires : tie.Need-write-list-requires
+write-list-requires c κs =
+    let listed = c .before .before .before .before in
+    let entered = roomy listed .before .before .before in
+    let s = start entered in
+    let sizes = valid-sizes (s .pre .0 .valid) in
+    omega (arith, leastLength-range (graphIn (s .args .file .now) (s .args .h)) (s .args .length .0) (s .pre .1 .0), s .pre .0 .room, listed .to-first .ensures .1, entered .entries .ensures, roomy listed .if2 .left)
+
+cast-loop-start : tie.Need-cast-loop-start
+cast-loop-start c = search needs
+
+same-length : tie.Need-same-length
+same-length c = search needs
+
+same-length-2 : tie.Need-same-length-2
+same-length-2 c = search needs
+
+returns-3 : tie.Need-returns-3
+returns-3 c =
+    let wrote = c .before .before in
+    let listed = wrote .before .before .before .before .before in
+    let entered = roomy listed .before .before .before in
+    let s = start entered in
+    let a = s .args in
+    let v = s .pre .0 .valid in
+    let sizes = valid-sizes v in
+    let range = leastLength-range (graphIn (a .file .now) (a .h)) (a .length .0) (s .pre .1 .0) in
+    let kept = listed .to-first .ensures .1 in
+    let rounds-are = subst (λ (g : Graph). a .rounds ≡ length (candidates g)) (valid-graph v) (s .pre .1 .1) in
+    let first = subst (λ (g : Graph). head? (roll g) ≡ some (upTo g (listed .to-first .last .1 .1 .1 .0) (a .length .0))) (valid-graph v) (stands-head (listed .to-first .ensures .0 .current)) in
+    let both =
+    first-written (a .file .now) (v .accepted) (length (a .work .now)) (valid-room v (s .pre .0 .room)) (a .answer .now) _ _ (a .h .start) (a .length .0) (wrote .write-list .result) (a .rounds)
+    (sizes .start-is) (omega (arith, kept, s .pre .0 .room)) first (omega (arith, entered .entries .ensures, roomy listed .if2 .left))
+    (wrote .write-list .ensures .0 .0) rounds-are (wrote .write-list .ensures .1) in
+    (λ ask enough. both ask enough .0, (λ ask enough. both ask enough .1, kept))
+
+pub first-list-spec : {M : Type 1} → statement M
+first-list-spec =
+    tie.close
+    (tie.spec
+    returns
+    entries-requires
+    returns-2
+    to-first-requires
+    write-list-requires
+    cast-loop-start
+    same-length
+    same-length-2
+    returns-3)

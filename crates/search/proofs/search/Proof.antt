@@ -1,0 +1,83 @@
+-- `search` meets its contract: refused by the gate with both tables untouched, else what the operation
+-- on the admitted file answers and writes, with the working table cleared.
+use mathlib.Core.Path.{sym}
+use borrow.Author.Needs.{needs}
+use lib.ListN.{length}
+use Rattle.gate.specs.Gate.{Passed}
+use Rattle.outcomes.proofs.OutcomeLaws.{call-answer}
+use Rattle.gate.proofs.GateLaws.{gate-refused, gate-passed, work-refused, work-left}
+use Rattle.search.proofs.SearchLaws.{search-refused}
+use Rattle.search.proofs.search.Statement.{statement}
+use Rattle.search.proofs.search.Tie as tie
+
+-- the function's start, from the gate
+abbrev start : tie.After-admit → tie.Start
+start c = c .before .before .before .before .before
+
+-- an admitted file, with its header
+admitted : (c : tie.After-checked2)
+    → let a = start (c .before .before) .args in Passed (a .file .now) (length (a .work .now)) (c .checked2 .given .0 .0)
+admitted c =
+    let a = start (c .before .before) .args in
+    gate-passed (a .file .now) (length (a .work .now)) (c .before .before .admit .ensures) (c .checked2 .given .1)
+
+admit-requires : tie.Need-admit-requires
+admit-requires c κs = search needs
+
+enum-known-checked : tie.Need-enum-known-checked
+enum-known-checked c = search needs
+
+enum-known-checked-2 : tie.Need-enum-known-checked-2
+enum-known-checked-2 c = search needs
+
+search-model-requires : tie.Need-search-model-requires
+search-model-requires c κs = let is = admitted (c .before .before .before) in (is .valid, is .room)
+
+leave-requires : tie.Need-leave-requires
+leave-requires c κs = search needs
+
+same-length : tie.Need-same-length
+same-length c = search needs
+
+returns : tie.Need-returns
+returns c =
+    let refused = c .before in
+    let gated = refused .before .before in
+    let a = start gated .args in
+    let broken = gate-refused (a .file .now) (length (a .work .now)) (gated .admit .ensures) (refused .checked .given .1) in
+    let is = search-refused (a .file .now) (a .ask) (length (a .answer .now)) (length (a .work .now)) _ broken in
+    (sym (is .outcome-is), (sym (call-answer (a .answer .now) is), work-refused (a .file .now) _ _ broken))
+
+same-length-2 : tie.Need-same-length-2
+same-length-2 c = search needs
+
+same-length-3 : tie.Need-same-length-3
+same-length-3 c = search needs
+
+returns-2 : tie.Need-returns-2
+returns-2 c =
+    let left = c .before .before in
+    let done = left .before .before .before .before .before .before in
+    let accepted = done .before .before .before .before in
+    let a = start (accepted .before .before) .args in (
+      done .search-model .ensures .0,
+      (
+        done .search-model .ensures .1 .0,
+        work-left (a .file .now) (a .work .now) (admitted accepted .clear) (done .search-model .ensures .1 .1) (left .leave .ensures),
+      ),
+    )
+
+pub search-spec : {M : Type 1} → statement M
+search-spec =
+    tie.close
+    (tie.spec
+    admit-requires
+    enum-known-checked
+    enum-known-checked-2
+    search-model-requires
+    leave-requires
+    same-length
+    returns
+    same-length-2
+    same-length-3
+    returns-2)

@@ -1,0 +1,115 @@
+// A search: the first of the shortest accepting paths. It applies the reasons 1 to 12, 14 and 15 in order, and leaves the
+// working table untouched after 1 to 12 and all zero otherwise.
+ghost use mathlib.Core.Path.{_≡_};
+ghost use mathlib.Core.Option.{some};
+ghost use Prim.Native.Nat.{_*_, _≤_};
+ghost use lib.ListN.{length};
+ghost use lib.ListN;
+ghost use Rattle.lasso.specs.Roll.{leastLength};
+ghost use Rattle.lasso.specs.Rounds.{candidates};
+ghost use Rattle.model.specs.Model.{graphIn};
+ghost use Rattle.model.specs.Values.{Valid};
+ghost use Rattle.gate.specs.declared.Ask.{Ask};
+ghost use Rattle.gate.specs.Gate.{workOf};
+ghost use Rattle.rounds.specs.Promises.{RoundsReady};
+ghost use Rattle.search.specs.Search.{searchOutcomeOf, searchOutcome, searchAnswer};
+use cursor::Begun;
+use cursor::begin;
+use cursor::to_first;
+use cursor::write_list;
+use gate::Ask;
+use gate::admit;
+use gate::leave;
+use lasso::Entries;
+use lasso::RoundRecord;
+use lasso::Transitions;
+use model::Checked;
+use model::Header;
+
+// The answer of a search: refused with a number; stopped with the record after the rounds that the allowance admits;
+// found with the length, the loop's start and the rounds; or empty with the rounds.
+pub enum SearchAnswer {
+    Refused(u16),
+    Stopped(RoundRecord),
+    Found(Transitions, u16, u16),
+    Empty(u16),
+}
+
+// Writes the first of the shortest accepting paths, whose length is known. All rounds are done, so that the answer is
+// that of a search with any allowance that suffices.
+fn first_list(
+    file: &[u8],
+    h: Header,
+    length: Transitions,
+    rounds: u16,
+    answer: &mut [u16],
+    work: &mut [u16],
+) -> SearchAnswer
+    requires { ⌜ RoundsReady (now file) h (now work) ⌝ }
+    requires { ⌜ leastLength (graphIn (now file) h) ≡ some (length .0) ⌝ }
+    requires { ⌜ rounds ≡ lib.ListN.length (candidates (graphIn (now file) h)) ⌝ }
+    ensures outcome { λ r. ⌜ ((ask : Ask) → rounds ≤ ask .allowance
+        → searchOutcomeOf r
+        ≡ searchOutcome (now (file .entry)) ask
+        (lib.ListN.length (now (answer .entry))) (lib.ListN.length (now (work .entry)))) ⌝ }
+    ensures answer { λ _. ⌜ ((ask : Ask) → rounds ≤ ask .allowance
+        → now (answer .exit)
+        ≡ searchAnswer (now (file .entry)) ask (now (answer .entry)) (lib.ListN.length (now (work .entry)))) ⌝ }
+    ensures kept { λ _. ⌜ lib.ListN.length (now (work .exit)) ≡ lib.ListN.length (now (work .entry)) ⌝ }
+{
+    if 4096 < length.0 {
+        return SearchAnswer::Refused(14);
+    }
+    let entries = length.entries();
+    let room = Entries(answer.len());
+    if room.0 < entries.0 {
+        return SearchAnswer::Refused(15);
+    }
+    to_first(file, h, length, work);
+    let k = write_list(h, work, length, answer);
+    let loop_start = k as u16;
+    SearchAnswer::Found(length, loop_start, rounds)
+}
+
+// The rounds that the allowance admits and, if it suffices, the first of the shortest accepting paths.
+fn search_model(
+    file: &[u8],
+    h: Header,
+    ask: Ask,
+    answer: &mut [u16],
+    work: &mut [u16],
+) -> SearchAnswer
+    requires { ⌜ Valid (now file) h ⌝ }
+    requires { ⌜ 6 * h .states ≤ length (now work) ⌝ }
+    ensures outcome { λ r. ⌜ searchOutcomeOf r
+        ≡ searchOutcome (now (file .entry)) ask (length (now (answer .entry))) (length (now (work .entry))) ⌝ }
+    ensures answer { λ _. ⌜ now (answer .exit)
+        ≡ searchAnswer (now (file .entry)) ask (now (answer .entry)) (length (now (work .entry))) ⌝ }
+    ensures kept { λ _. ⌜ length (now (work .exit)) ≡ length (now (work .entry)) ⌝ }
+{
+    let begun = begin(file, h, ask.allowance, work);
+    match begun {
+        Begun::Stopped(record) => SearchAnswer::Stopped(record),
+        Begun::Empty(rounds) => SearchAnswer::Empty(rounds),
+        Begun::Length(length, rounds) => first_list(file, h, length, rounds, answer, work),
+    }
+}
+
+// The first of the shortest accepting paths, written to the answer table.
+pub fn search(file: &[u8], ask: Ask, answer: &mut [u16], work: &mut [u16]) -> SearchAnswer
+    ensures outcome { λ r. ⌜ searchOutcomeOf r
+        ≡ searchOutcome (now (file .entry)) ask (length (now (answer .entry))) (length (now (work .entry))) ⌝ }
+    ensures answer { λ r. ⌜ now (answer .exit)
+        ≡ searchAnswer (now (file .entry)) ask (now (answer .entry)) (length (now (work .entry))) ⌝ }
+    ensures work { λ r. ⌜ now (work .exit) ≡ workOf (now (file .entry)) (now (work .entry)) ⌝ }
+{
+    let checked = admit(file, work);
+    match checked {
+        Checked::Refused(number) => SearchAnswer::Refused(number),
+        Checked::Accept(h) => {
+            let searched = search_model(file, h, ask, answer, work);
+            leave(work);
+            searched
+        }
+    }
+}

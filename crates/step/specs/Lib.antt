@@ -1,0 +1,2 @@
+-- What a step promises: the answer with every figure in it.
+pub mod Step

@@ -1,0 +1,59 @@
+// One step: the record after one more round. It applies the reasons 1 to 12 in order, and leaves the working table
+// untouched after one of them and all zero otherwise.
+ghost use mathlib.Core.Path.{_≡_};
+ghost use Prim.Native.Nat.{_*_, _≤_};
+ghost use lib.ListN.{length};
+ghost use Rattle.lasso.specs.Values.{recordOf};
+ghost use Rattle.model.specs.Values.{Valid};
+ghost use Rattle.gate.specs.Gate.{workOf};
+ghost use Rattle.step.specs.Step.{stepOutcomeOf, stepOutcome};
+use gate::admit;
+use gate::leave;
+use lasso::RoundRecord;
+use model::Checked;
+use model::Header;
+use rounds::count_candidates;
+use rounds::next_round;
+use rounds::start_distances;
+
+// The answer of a step: refused with a number, or the record, the same or after one more round.
+pub enum StepAnswer {
+    Refused(u16),
+    Finished(RoundRecord),
+    Advanced(RoundRecord),
+}
+
+// The record after one more round, or the same if no candidate is left.
+fn step_model(file: &[u8], h: Header, so_far: RoundRecord, work: &mut [u16]) -> StepAnswer
+    requires { ⌜ Valid (now file) h ⌝ }
+    requires { ⌜ 6 * h .states ≤ length (now work) ⌝ }
+    ensures outcome { λ r. ⌜ stepOutcomeOf r
+        ≡ stepOutcome (now (file .entry)) (recordOf «so_far») (length (now (work .entry))) ⌝ }
+    ensures kept { λ _. ⌜ length (now (work .exit)) ≡ length (now (work .entry)) ⌝ }
+{
+    start_distances(file, h, work);
+    let count = count_candidates(file, h, work);
+    let place = so_far.done as usize;
+    if count <= place {
+        return StepAnswer::Finished(so_far);
+    }
+    let after = next_round(file, h, work, so_far);
+    StepAnswer::Advanced(after)
+}
+
+// The record after one more round, for any record at all.
+pub fn step(file: &[u8], so_far: RoundRecord, work: &mut [u16]) -> StepAnswer
+    ensures outcome { λ r. ⌜ stepOutcomeOf r
+        ≡ stepOutcome (now (file .entry)) (recordOf «so_far») (length (now (work .entry))) ⌝ }
+    ensures work { λ r. ⌜ now (work .exit) ≡ workOf (now (file .entry)) (now (work .entry)) ⌝ }
+{
+    let checked = admit(file, work);
+    match checked {
+        Checked::Refused(number) => StepAnswer::Refused(number),
+        Checked::Accept(h) => {
+            let stepped = step_model(file, h, so_far, work);
+            leave(work);
+            stepped
+        }
+    }
+}
