@@ -11,7 +11,7 @@ use lib.Dec.{eqb}
 use Rattle.lasso.specs.Lists.{pick}
 use Rattle.sequence.specs.Calls.{Call, Result, finderAt, foundLength, copyOf, received}
 use Rattle.script.specs.Commands.{commandLength, overb, callOf}
-use Rattle.script.specs.Log.{entriesOf, Made}
+use Rattle.logged.specs.Log.{entriesOf, Made}
 use Rattle.player.specs.Played.{keepCopy, callsOf}
 
 module _ (f s copy a w : List ℕ) where

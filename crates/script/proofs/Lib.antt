@@ -1,3 +1,2 @@
--- The laws of a script: its commands, and one call.
+-- The laws of a script's commands.
 pub mod CommandLaws
-pub mod CallLaws

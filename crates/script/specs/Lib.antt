@@ -1,3 +1,2 @@
--- The commands of a script, the call that each asks for, and its numbers in the log.
+-- The commands of a script, and the call that each asks for.
 pub mod Commands
-pub mod Log

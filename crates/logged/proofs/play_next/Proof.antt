@@ -1,13 +1,13 @@
--- `calls::play_next` meets its contract: the next is made, and its report is its row of the log.
+-- `play_next` meets its contract: the next is made, and its report is its row of the log.
 use native.Mathlib.Omega.{arith}
 use mathlib.Core.Path.{ap}
 use lib.ListN.{length}
 use Rattle.next.specs.Next.{nextOutcomeOf, nextOutcome}
 use Rattle.sequence.specs.Calls as calls
-use Rattle.script.proofs.CallLaws.{made}
+use Rattle.logged.proofs.CallLaws.{made}
 use borrow.Author.Needs.{needs}
-use Rattle.script.proofs.calls.play_next.Statement.{statement}
-use Rattle.script.proofs.calls.play_next.Tie as tie
+use Rattle.logged.proofs.play_next.Statement.{statement}
+use Rattle.logged.proofs.play_next.Tie as tie
 
 next-requires : tie.Need-next-requires
 next-requires c κs = search needs

@@ -1,8 +1,8 @@
--- `calls::next_entries` meets its contract, answer by answer.
-use Rattle.script.proofs.CallLaws.{next-entries-known}
+-- `next_entries` meets its contract, answer by answer.
+use Rattle.logged.proofs.CallLaws.{next-entries-known}
 use borrow.Author.Needs.{needs}
-use Rattle.script.proofs.calls.next_entries.Statement.{statement}
-use Rattle.script.proofs.calls.next_entries.Tie as tie
+use Rattle.logged.proofs.next_entries.Statement.{statement}
+use Rattle.logged.proofs.next_entries.Tie as tie
 
 enum-told : tie.Need-enum-told
 enum-told c = search needs

@@ -1,10 +1,10 @@
--- `calls::put_row` meets its contract: the four numbers stand one after another.
+-- `put_row` meets its contract: the four numbers stand one after another.
 use native.Mathlib.Omega.{arith}
 use lib.ListN.{length-set}
-use Rattle.script.proofs.CallLaws.{row-stored}
+use Rattle.logged.proofs.CallLaws.{row-stored}
 use borrow.Author.Needs.{needs}
-use Rattle.script.proofs.calls.put_row.Statement.{statement}
-use Rattle.script.proofs.calls.put_row.Tie as tie
+use Rattle.logged.proofs.put_row.Statement.{statement}
+use Rattle.logged.proofs.put_row.Tie as tie
 
 shared-slice-read-first : tie.Need-shared-slice-read-first
 shared-slice-read-first c = search needs

@@ -1,11 +1,11 @@
--- `commands::command_size` meets its contract, test by test.
+-- `command_size` meets its contract, test by test.
 use native.Mathlib.Omega.{arith}
 use mathlib.Core.Path.{_∙_, ap}
 use Prim.Native.Nat.{ℕ, _+_}
 use Rattle.script.proofs.CommandLaws.{size-short, size-two, size-unknown, size-cut, size-list}
 use borrow.Author.Needs.{needs}
-use Rattle.script.proofs.commands.command_size.Statement.{statement}
-use Rattle.script.proofs.commands.command_size.Tie as tie
+use Rattle.script.proofs.command_size.Statement.{statement}
+use Rattle.script.proofs.command_size.Tie as tie
 
 returns : tie.Need-returns
 returns c = size-short (c .before .before .args .script .now) (omega arith)

@@ -1,13 +1,13 @@
--- `calls::play_search` meets its contract: the search is made, and its report is its row of the log.
+-- `play_search` meets its contract: the search is made, and its report is its row of the log.
 use native.Mathlib.Omega.{arith}
 use mathlib.Core.Path.{ap}
 use lib.ListN.{length}
 use Rattle.search.specs.Search.{searchOutcomeOf, searchOutcome}
 use Rattle.sequence.specs.Calls as calls
-use Rattle.script.proofs.CallLaws.{made}
+use Rattle.logged.proofs.CallLaws.{made}
 use borrow.Author.Needs.{needs}
-use Rattle.script.proofs.calls.play_search.Statement.{statement}
-use Rattle.script.proofs.calls.play_search.Tie as tie
+use Rattle.logged.proofs.play_search.Statement.{statement}
+use Rattle.logged.proofs.play_search.Tie as tie
 
 search-requires : tie.Need-search-requires
 search-requires c κs = search needs

@@ -29,7 +29,7 @@ use Rattle.next.specs.declared.NextAnswer.the-variants as NextAnswers
 use Rattle.gate.specs.Gate.{commonRules}
 use Rattle.answers.specs.Kinds.{figuresIn}
 use Rattle.sequence.specs.Calls.{Call, search, next, Answer, ofSearch, ofNext, finderAt, foundLength}
-use Rattle.script.specs.Log.{reportOf, reportRow, row, entriesOf, Made}
+use Rattle.logged.specs.Log.{reportOf, reportRow, row, entriesOf, Made}
 
 -- the four numbers are stored one after another
 pub row-stored : (log figures : List ℕ) (place kind : ℕ) → length figures ≡ 3 → place + 4 ≤ length log

@@ -1,14 +1,12 @@
-// One call of a script: it is made, its answer goes to the log as four numbers, and the entries received are counted.
+// One call, made and logged: its answer goes to the log as four numbers, and the entries received are counted.
 ghost use mathlib.Core.Path.{_≡_};
-ghost use mathlib.Core.Bool.{false};
 ghost use mathlib.Core.List.{_∷_, _++_};
 ghost use Prim.Native.Nat.{_+_, _≤_};
 ghost use lib.ListN.{length, take, drop};
 ghost use Rattle.search.specs.Search.{searchOutcomeOf};
 ghost use Rattle.next.specs.Next.{nextOutcomeOf};
 ghost use Rattle.sequence.specs.Calls.{ofSearch, ofNext, foundLength};
-ghost use Rattle.script.specs.Commands.{overb, callOf};
-ghost use Rattle.script.specs.Log.{entriesOf, Made};
+ghost use Rattle.logged.specs.Log.{entriesOf, Made};
 use answers::report_next;
 use answers::report_search;
 use gate::Ask;
@@ -16,7 +14,6 @@ use next::NextAnswer;
 use next::next;
 use search::SearchAnswer;
 use search::search;
-use table::get;
 
 // Writes the four numbers of a call.
 fn put_row(log: &mut [u16], place: usize, kind: u16, figures: &[u16])
@@ -64,7 +61,7 @@ fn next_entries(answer: NextAnswer) -> usize
 }
 
 // A search, with its numbers put into the log.
-fn play_search(
+pub fn play_search(
     file: &[u8],
     ask: Ask,
     answer: &mut [u16],
@@ -85,7 +82,7 @@ fn play_search(
 }
 
 // A next, with its numbers put into the log.
-fn play_next(
+pub fn play_next(
     file: &[u8],
     earlier: &[u16],
     answer: &mut [u16],
@@ -103,34 +100,4 @@ fn play_next(
     let kind = report_next(result, &mut figures);
     put_row(log, place, kind, &figures);
     next_entries(result)
-}
-
-// The call that the first command of a script asks for.
-pub fn play_one(
-    file: &[u8],
-    script: &[u16],
-    copy: &[u16],
-    answer: &mut [u16],
-    work: &mut [u16],
-    log: &mut [u16],
-    place: usize,
-) -> usize
-    requires { ⌜ overb (now script) ≡ false ⌝ }
-    requires { ⌜ place + 4 ≤ length (now log) ⌝ }
-    ensures { λ r. ⌜ Made (now (file .entry))
-        (callOf (now (script .entry)) (now (copy .entry)) (now (answer .entry)) (now (work .entry)))
-        place (now (log .entry)) (now (answer .exit)) (now (work .exit)) (now (log .exit)) r ⌝ }
-{
-    let action = get(script, 0);
-    let argument = get(script, 1);
-    if action == 0 {
-        let allowance = argument as u16;
-        let ask = Ask { allowance };
-        return play_search(file, ask, answer, work, log, place);
-    }
-    if action == 1 {
-        return play_next(file, copy, answer, work, log, place);
-    }
-    let end = argument + 2;
-    play_next(file, &script[2..end], answer, work, log, place)
 }

@@ -1,10 +1,10 @@
--- `calls::play_one` meets its contract: the call that is made is the one that the first command asks for.
+-- `play_one` meets its contract: the call that is made is the one that the first command asks for.
 use native.Mathlib.Omega.{arith}
 use Rattle.script.proofs.CommandLaws.{two-there, list-there, called-search, called-copy, called-list}
-use Rattle.script.proofs.CallLaws.{made-as}
+use Rattle.logged.proofs.CallLaws.{made-as}
 use borrow.Author.Needs.{needs}
-use Rattle.script.proofs.calls.play_one.Statement.{statement}
-use Rattle.script.proofs.calls.play_one.Tie as tie
+use Rattle.script.proofs.play_one.Statement.{statement}
+use Rattle.script.proofs.play_one.Tie as tie
 
 -- the function's start
 abbrev start : tie.After-slice-known3 → tie.Start

@@ -1,0 +1,2 @@
+-- The laws of one call.
+pub mod CallLaws

@@ -1,0 +1,2 @@
+-- The numbers of one call in the log.
+pub mod Log
