@@ -18,6 +18,15 @@ is-short out a b h = ap (λ (t : Bool). pick t a b) (sym (lt-ltb (length out) 4 
 pub is-enough : {A : Type 0} (out : List ℕ) (a b : A) {c : A} → 4 ≤ length out → c ≡ b → c ≡ ifShort out a b
 is-enough out a b h e = e ∙ ap (λ (t : Bool). pick t a b) (sym (le-ltb (length out) 4 h))
 
+-- with too few entries the answer table and the working table stay as they are
+pub tables-short : (out a w a-due w-due : List ℕ) → length out < 4 → (a ≡ ifShort out a a-due) × (w ≡ ifShort out w w-due)
+tables-short out a w a-due w-due h = (is-short out a a-due h, is-short out w w-due h)
+
+-- with enough entries both are as is due
+pub tables-enough : (out a w : List ℕ) {a' w' a-due w-due : List ℕ} → 4 ≤ length out → a' ≡ a-due → w' ≡ w-due
+    → (a' ≡ ifShort out a a-due) × (w' ≡ ifShort out w w-due)
+tables-enough out a w h p q = (is-enough out a _ h p, is-enough out w _ h q)
+
 -- a call with too few entries reports 100 and leaves the table
 pub reports-short : (out : List ℕ) (r : Report) → length out < 4
     → (100 ≡ ifShort out outTooShort r .kind) × (out ≡ figuresIn out (ifShort out outTooShort r))

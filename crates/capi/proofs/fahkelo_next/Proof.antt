@@ -8,7 +8,7 @@ use Rattle.outcomes.specs.Outcome.{Outcome}
 use Rattle.next.specs.Next.{Followed, nextOutcomeOf, nextOutcome, nextAnswer}
 use Rattle.gate.specs.Gate.{workOf}
 use Rattle.answers.specs.Kinds.{nextReport}
-use Rattle.capi.proofs.CallLaws.{is-short, is-enough, reports-short, reports-enough}
+use Rattle.capi.proofs.CallLaws.{tables-short, tables-enough, reports-short, reports-enough}
 use Rattle.capi.proofs.fahkelo_next.Statement.{statement}
 use Rattle.capi.proofs.fahkelo_next.Tie as tie
 
@@ -31,16 +31,8 @@ returns c =
     let s = start (c .before) in
     let out = s .args .out .now in
     let few : length out < 4 = omega (arith, c .if1 .taken) in
-    let r = reports-short out (nextReport (due s)) few in (
-      r .0,
-      (
-        r .1,
-        (
-          is-short out (s .args .answer .now) (answer-due s) few,
-          is-short out (s .args .work .now) (work-due s) few,
-        ),
-      ),
-    )
+    let r = reports-short out (nextReport (due s)) few in
+    (r .0, (r .1, tables-short out (s .args .answer .now) (s .args .work .now) (answer-due s) (work-due s) few))
 
 next-requires : tie.Need-next-requires
 next-requires c κs = search needs
@@ -65,16 +57,8 @@ returns-2 c =
     let s = start (else .before) in
     let out = s .args .out .now in
     let enough : 4 ≤ length out = omega (arith, else .if1 .left) in
-    let r = reports-enough nextReport out (nextOutcomeOf (done .next .result)) (due s) enough (done .next .ensures .0) (reported .report-next .ensures .0) (reported .report-next .ensures .1) in (
-      r .0,
-      (
-        r .1,
-        (
-          is-enough out (s .args .answer .now) (answer-due s) enough (done .next .ensures .1 .0),
-          is-enough out (s .args .work .now) (work-due s) enough (done .next .ensures .1 .1),
-        ),
-      ),
-    )
+    let r = reports-enough nextReport out (nextOutcomeOf (done .next .result)) (due s) enough (done .next .ensures .0) (reported .report-next .ensures .0) (reported .report-next .ensures .1) in
+    (r .0, (r .1, tables-enough out (s .args .answer .now) (s .args .work .now) enough (done .next .ensures .1 .0) (done .next .ensures .1 .1)))
 
 pub fahkelo-next-spec : {M : Type 1} → statement M
 fahkelo-next-spec =
