@@ -6,7 +6,7 @@ use lib.ListN.{length}
 use Rattle.model.specs.declared.Header.{Header}
 use Rattle.model.specs.Values.{Valid}
 use Rattle.model.specs.Model.{graphIn}
-use Rattle.rounds.specs.Promises.{StartDistancesPut, RoundsReady}
+use Rattle.candidates.specs.Promises.{StartDistancesPut, RoundsReady}
 
 -- with the distances from the start the table is ready
 pub ready-started : {f : List ℕ} {h : Header} {w w' : List ℕ} → Valid f h → 6 * h .states ≤ length w

@@ -6,7 +6,7 @@ ghost use lib.ListN;
 ghost use Rattle.lasso.specs.Roll.{leastLength};
 ghost use Rattle.model.specs.Model.{graphIn};
 ghost use Rattle.model.specs.Values.{Valid};
-ghost use Rattle.rounds.specs.Promises.{RoundsReady};
+ghost use Rattle.candidates.specs.Promises.{RoundsReady};
 ghost use Rattle.finder.specs.Outcomes.{nextOutcomeOf};
 ghost use Rattle.finder.specs.Next.{nextOutcome, nextAnswer};
 use crate::NextAnswer;

@@ -8,7 +8,7 @@ ghost use Rattle.lasso.specs.Rounds.{candidates};
 ghost use Rattle.model.specs.Model.{graphIn};
 ghost use Rattle.model.specs.Values.{Valid};
 ghost use Rattle.gate.specs.declared.Ask.{Ask};
-ghost use Rattle.rounds.specs.Promises.{RoundsReady};
+ghost use Rattle.candidates.specs.Promises.{RoundsReady};
 ghost use Rattle.finder.specs.Outcomes.{searchOutcomeOf};
 ghost use Rattle.finder.specs.Search.{searchOutcome, searchAnswer};
 use crate::SearchAnswer;

@@ -7,11 +7,11 @@ ghost use Rattle.model.specs.Values.{Valid};
 ghost use Rattle.finder.specs.Outcomes.{stepOutcomeOf};
 ghost use Rattle.finder.specs.Step.{stepOutcome};
 use crate::StepAnswer;
+use candidates::count_candidates;
+use candidates::start_distances;
 use lasso::RoundRecord;
 use model::Header;
-use rounds::count_candidates;
 use rounds::next_round;
-use rounds::start_distances;
 
 // The record after one more round, or the same if no candidate is left.
 pub fn step_model(file: &[u8], h: Header, so_far: RoundRecord, work: &mut [u16]) -> StepAnswer

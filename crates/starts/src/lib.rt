@@ -9,7 +9,7 @@ ghost use Rattle.model.specs.Values.{Valid};
 ghost use Rattle.model.specs.Model.{graphIn};
 ghost use Rattle.table.specs.Changes.{SameOutside};
 ghost use Rattle.frontier.specs.Regions.{entryOf};
-ghost use Rattle.rounds.specs.Promises.{RoundsReady};
+ghost use Rattle.candidates.specs.Promises.{RoundsReady};
 ghost use Rattle.starts.specs.LoopStarts.{startLoop, StartLoops};
 ghost use Rattle.starts.specs.Flags.{FlagsRow, FlagsStarts};
 use lasso::Transitions;
