@@ -72,11 +72,11 @@ module _ {A : Type 0} (most : ℕ) (small : most ≤ 99) (out : List ℕ) where
     value-told = value-decided (ltb (length out) 4) refl
 
 -- the answer table of a call that tells no answer
-answer-kept : {A : Type 0} (report : Outcome A → Report) → Tells report → (x : A) (due : Option (List ℕ)) (a : List ℕ) (short : Bool) (broken : Option ℕ)
+answer-untold : {A : Type 0} (report : Outcome A → Report) → Tells report → (x : A) (due : Option (List ℕ)) (a : List ℕ) (short : Bool) (broken : Option ℕ)
     → pick short outTooShort (report (outcome broken x)) .kind ≤ 100 → pick short a (written (unlessRefused broken due) a) ≡ a
-answer-kept report tells x due a true broken l = refl
-answer-kept report tells x due a false (some n) l = refl
-answer-kept report tells x due a false none l = absurd (omega (arith, tells .kinds x))
+answer-untold report tells x due a true broken l = refl
+answer-untold report tells x due a false (some n) l = refl
+answer-untold report tells x due a false none l = absurd (omega (arith, tells .kinds x))
 
 -- a refused call changes nothing that was lent but the working table
 pub refusals-change-nothing : RefusalsChangeNothing
@@ -90,9 +90,9 @@ refusals-change-nothing = record {
       value-told 15 (omega arith) out nextReport (nothing-lost .next) (nextOutcome f earlier (length a) (length w))
       (nothing-lost .next-numbers f earlier (length a) (length w));
   search-answer = λ f ask a w out.
-      answer-kept searchReport (nothing-lost .search) (searched (graphOf f) ask) (firstDue (graphOf f) ask) a
+      answer-untold searchReport (nothing-lost .search) (searched (graphOf f) ask) (firstDue (graphOf f) ask) a
       (ltb (length out) 4) (firstBroken (searchReasons f ask (length a) (length w)));
   next-answer = λ f earlier a w out.
-      answer-kept nextReport (nothing-lost .next) (followed (following earlier (roll (graphOf f)))) (following earlier (roll (graphOf f))) a
+      answer-untold nextReport (nothing-lost .next) (followed (following earlier (roll (graphOf f)))) (following earlier (roll (graphOf f))) a
       (ltb (length out) 4) (firstBroken (nextReasons f earlier (length a) (length w)));
 }

@@ -17,7 +17,7 @@ use trials::wrong_work;
 
 // What a case says in numbers: the least and the greatest size of the file that is lent, the search's allowance, the
 // entries of the answer table and of the working table that are lent; and whether the answers are printed.
-pub struct Figures {
+pub struct CaseNumbers {
     pub from: usize,
     pub size: usize,
     pub allowance: u16,
@@ -72,7 +72,7 @@ fn told(code: u64, table: &[u16], shown: bool) -> u64 {
 }
 
 // A step from the record that a search starts from.
-fn step(file: &[u8], f: Figures) -> u64
+fn step(file: &[u8], f: CaseNumbers) -> u64
     requires { ⌜ f .entries ≤ 24576 ⌝ }
 {
     let mut work = [0u16; 24576];
@@ -81,7 +81,7 @@ fn step(file: &[u8], f: Figures) -> u64
 }
 
 // A search.
-fn search(file: &[u8], f: Figures) -> u64
+fn search(file: &[u8], f: CaseNumbers) -> u64
     requires { ⌜ (f .room ≤ 4097) × (f .entries ≤ 24576) ⌝ }
 {
     let mut answer = [0u16; 4097];
@@ -91,7 +91,7 @@ fn search(file: &[u8], f: Figures) -> u64
 }
 
 // A call of next.
-fn next(file: &[u8], earlier: &[u16], f: Figures) -> u64
+fn next(file: &[u8], earlier: &[u16], f: CaseNumbers) -> u64
     requires { ⌜ (f .room ≤ 4097) × (f .entries ≤ 24576) ⌝ }
 {
     let mut answer = [0u16; 4097];
@@ -101,7 +101,7 @@ fn next(file: &[u8], earlier: &[u16], f: Figures) -> u64
 }
 
 // The three calls.
-pub fn try_all(file: &[u8], earlier: &[u16], f: Figures) -> Answers
+pub fn try_all(file: &[u8], earlier: &[u16], f: CaseNumbers) -> Answers
     requires { ⌜ (f .room ≤ 4097) × (f .entries ≤ 24576) ⌝ }
 {
     let first = step(file, f);

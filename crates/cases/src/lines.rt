@@ -2,14 +2,14 @@
 // lent. What a step, a search and next answer is printed, or counted where the line stands for many calls.
 ghost use Prim.Native.Nat.{_≤_, _<_};
 ghost use lib.ListN.{length};
-use crate::calls::Figures;
+use crate::calls::CaseNumbers;
 use crate::judged::Judged;
 use crate::model::File;
 use crate::model::put_model;
 use crate::sweeps::changes;
 use crate::sweeps::lengths;
 use crate::sweeps::once;
-use harness::Reading;
+use harness::NumberRead;
 use harness::byte_at;
 use harness::digits;
 use harness::find;
@@ -36,7 +36,7 @@ fn within(value: usize, most: usize) -> usize
 }
 
 // A case's size, allowance and entries, from four places of a line.
-fn figures_at(line: &[u8], from: usize, size: usize, shown: bool) -> Figures
+fn figures_at(line: &[u8], from: usize, size: usize, shown: bool) -> CaseNumbers
     requires { ⌜ (size ≤ length (now line)) ⌝ }
     ensures { λ r. ⌜ (r .size ≤ 25200) × (r .room ≤ 4097) × (r .entries ≤ 24576) ⌝ }
 {
@@ -44,7 +44,7 @@ fn figures_at(line: &[u8], from: usize, size: usize, shown: bool) -> Figures
     let allowance = next_number(line, bytes.next);
     let room = next_number(line, allowance.next);
     let entries = next_number(line, room.next);
-    Figures {
+    CaseNumbers {
         from: from,
         size: within(bytes.value, 25200),
         allowance: (allowance.value % 65536) as u16,
@@ -153,7 +153,7 @@ fn run_lent(
     file: &mut File,
     list: &List,
     count: usize,
-    f: Figures,
+    f: CaseNumbers,
     before: Judged,
 ) -> Judged
     requires { ⌜ (f .size ≤ 25200) × (f .room ≤ 4097) × (f .entries ≤ 24576) ⌝ }
@@ -167,7 +167,7 @@ fn run_lent(
 }
 
 // Runs a case whose model, changes and list stand at places of its line.
-fn run_parts(line: &[u8], colon: usize, end: usize, f: Figures, before: Judged) -> Judged
+fn run_parts(line: &[u8], colon: usize, end: usize, f: CaseNumbers, before: Judged) -> Judged
     requires { ⌜ (colon ≤ length (now line)) × (end ≤ length (now line)) ⌝ }
     requires { ⌜ (f .size ≤ 25200) × (f .room ≤ 4097) × (f .entries ≤ 24576) ⌝ }
 {
@@ -203,14 +203,14 @@ fn many(mark: u8) -> usize {
 }
 
 // The least length and the place behind it; only the cases with every length have one.
-fn least_length(line: &[u8], colon: usize, mark: u8) -> Reading
+fn least_length(line: &[u8], colon: usize, mark: u8) -> NumberRead
     requires { ⌜ colon ≤ length (now line) ⌝ }
     ensures { λ r. ⌜ r .next ≤ length (now (line .entry)) ⌝ }
 {
     if mark == b'+' {
         return next_number(line, colon);
     }
-    Reading {
+    NumberRead {
         value: 0,
         next: colon,
     }

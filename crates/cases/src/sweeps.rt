@@ -2,7 +2,7 @@
 // are counted by call and number.
 ghost use Prim.Native.Nat.{_≤_, _<_};
 use crate::calls::Answers;
-use crate::calls::Figures;
+use crate::calls::CaseNumbers;
 use crate::calls::try_all;
 use crate::judged::Judged;
 use crate::judged::and;
@@ -71,7 +71,7 @@ fn show_counts(counts: &Counts) {
 }
 
 // The three calls on the first bytes of a buffer, on a line.
-pub fn once(file: &File, earlier: &[u16], f: Figures, before: Judged) -> Judged
+pub fn once(file: &File, earlier: &[u16], f: CaseNumbers, before: Judged) -> Judged
     requires { ⌜ (f .size ≤ 25200) × (f .room ≤ 4097) × (f .entries ≤ 24576) ⌝ }
 {
     let answers = try_all(part(file, 0, f.size), earlier, f);
@@ -80,7 +80,7 @@ pub fn once(file: &File, earlier: &[u16], f: Figures, before: Judged) -> Judged
 }
 
 // The first bytes of a buffer, at every length from the least up to the greatest.
-pub fn lengths(file: &File, earlier: &[u16], f: Figures, before: Judged) -> Judged
+pub fn lengths(file: &File, earlier: &[u16], f: CaseNumbers, before: Judged) -> Judged
     requires { ⌜ (f .size ≤ 25200) × (f .room ≤ 4097) × (f .entries ≤ 24576) ⌝ }
 {
     let mut counts = [0u64; 48];
@@ -103,7 +103,7 @@ fn with_value(
     value: usize,
     old: usize,
     earlier: &[u16],
-    f: Figures,
+    f: CaseNumbers,
 ) -> Answers
     requires { ⌜ (f .size ≤ 25200) × (f .room ≤ 4097) × (f .entries ≤ 24576) ⌝ }
 {
@@ -114,7 +114,7 @@ fn with_value(
 }
 
 // Every one of the first bytes of a buffer changed to every other value.
-pub fn changes(file: &mut File, earlier: &[u16], f: Figures, before: Judged) -> Judged
+pub fn changes(file: &mut File, earlier: &[u16], f: CaseNumbers, before: Judged) -> Judged
     requires { ⌜ (f .size ≤ 25200) × (f .room ≤ 4097) × (f .entries ≤ 24576) ⌝ }
 {
     let mut counts = [0u64; 48];

@@ -22,7 +22,7 @@ use Rattle.gate.specs.Gate.{commonRules, workAfter, workOf}
 use Rattle.conditions.specs.Reasons.{numbersOf}
 use Rattle.conditions.specs.Condition1.{stepNumbers, searchNumbers, nextNumbers, Refuses, AnswerKept, WorkLeft, Condition1Holds}
 use Rattle.gate.proofs.GateLaws.{clear-append, broken-append}
-use Rattle.conditions.proofs.FirstLaws.{none-clear, clear-none, broken-first, first-broken, betweenb, broken-between, refused-some, answered-none}
+use Rattle.conditions.proofs.FirstLaws.{noneHolds-firstBroken, clear-none, broken-first, first-broken, betweenb, broken-between, refused-some, answered-none}
 
 -- a refusal is no answer
 refused-answered : {A : Type 0} {n : ℕ} {x : A} → refused n ≡ answered x → ⊥
@@ -40,7 +40,7 @@ refuses reasons numbers x are ascend = record {
   );
   answered-exactly = (
     λ p. clear-none reasons (answered-none (firstBroken reasons) x (p .0) (p .1)),
-    λ h. (x, ap (λ (o : Option ℕ). outcome o x) (none-clear reasons h)),
+    λ h. (x, ap (λ (o : Option ℕ). outcome o x) (noneHolds-firstBroken reasons h)),
   );
   not-both = λ n y e q. refused-answered (sym e ∙ q);
 }
@@ -79,9 +79,9 @@ first-decides w common early rest late x (some m) q =
     }
 
 -- so it is with a call's own reasons behind the common ones
-work-left : {A : Type 0} (f w : List ℕ) (rest : List Reason) (x : A) → T (betweenb 13 15 (numbersOf rest))
+work-left-behind : {A : Type 0} (f w : List ℕ) (rest : List Reason) (x : A) → T (betweenb 13 15 (numbersOf rest))
     → WorkLeft (outcome (firstBroken (commonRules f (length w) ++ rest)) x) w (workOf f w)
-work-left f w rest x late =
+work-left-behind f w rest x late =
     first-decides w (commonRules f (length w)) tt rest late x (firstBroken (commonRules f (length w))) refl
 
 -- condition 1
@@ -89,7 +89,7 @@ pub condition-1 : Condition1Holds
 condition-1 = record {
   step = λ f rec w. record {
     refuses = refuses (commonRules f (length w)) stepNumbers (stepped (graphOf f) rec) refl tt;
-    work = work-left f w [] (stepped (graphOf f) rec) tt;
+    work = work-left-behind f w [] (stepped (graphOf f) rec) tt;
   };
   search = λ f ask a w.
       let x = searched (graphOf f) ask in
@@ -97,7 +97,7 @@ condition-1 = record {
       record {
         refuses = refuses reasons searchNumbers x refl tt;
         answer = answer-kept (firstBroken reasons) x (firstDue (graphOf f) ask) a;
-        work = work-left f w (listReasons f (firstDue (graphOf f) ask) (length a)) x tt;
+        work = work-left-behind f w (listReasons f (firstDue (graphOf f) ask) (length a)) x tt;
       };
   next = λ f earlier a w.
       let due = following earlier (roll (graphOf f)) in
@@ -105,6 +105,6 @@ condition-1 = record {
       record {
         refuses = refuses reasons nextNumbers (followed due) refl tt;
         answer = answer-kept (firstBroken reasons) (followed due) due a;
-        work = work-left f w (dueReasons f earlier due (length a)) (followed due) tt;
+        work = work-left-behind f w (dueReasons f earlier due (length a)) (followed due) tt;
       };
 }

@@ -16,7 +16,7 @@ use Rattle.lasso.specs.Rounds.{Record, candidates}
 use Rattle.lasso.proofs.Least.{IsLeast}
 use Rattle.lasso.proofs.Lasso.{AcceptingLength, loop-start}
 use Rattle.lasso.proofs.Sorted.{Sorted, all-mem}
-use Rattle.lasso.proofs.Tests.{parts, lt-or-ge, anyb-some, below-lt}
+use Rattle.lasso.proofs.Tests.{parts, lt-or-ge, anyb-some, below-lt, head-mem}
 use Rattle.lasso.proofs.OrderLaws.{Before}
 use Rattle.lasso.proofs.RollLaws.{leastLength-least, in-roll, roll-strict}
 use Rattle.lasso.proofs.RoundLaws.{afterRounds-done}
@@ -34,7 +34,7 @@ use Rattle.gate.specs.Gate.{commonRules}
 use Rattle.conditions.specs.Reasons.{NoneHolds}
 use Rattle.conditions.specs.Condition2.{SomePath, FirstShortest, Searches, SearchPasses, SearchPassesExactly, Condition2Holds}
 use Rattle.gate.proofs.GateLaws.{tableReason}
-use Rattle.conditions.proofs.FirstLaws.{none-clear, clear-none, none-parts, answered-none}
+use Rattle.conditions.proofs.FirstLaws.{noneHolds-firstBroken, clear-none, none-parts, answered-none}
 
 -- the first list of an ordered roll stands before every other one
 head-before : (rs : List (List ℕ)) (xs ys : List ℕ) → Sorted Before rs → head? rs ≡ some xs → List·Memᴰ ys rs → (ys ≡ xs → ⊥)
@@ -46,11 +46,6 @@ head-before (r ∷ rs) xs ys s e m apart =
       | inl here ↦ absurd (apart (here ∙ q))
       | inr later ↦ subst (λ (zs : List ℕ). Before zs ys) q (all-mem (Before r) ys rs (s .0) later)
     ]
-
--- the first entry is an entry
-head-mem : (rs : List (List ℕ)) (xs : List ℕ) → head? rs ≡ some xs → List·Memᴰ xs rs
-head-mem [] xs e = let z : _≡_ {A = ℕ} 0 1 = cc in absurd (omega arith)
-head-mem (r ∷ rs) xs e = let q : xs ≡ r = cc in List·Memᴰ·head q
 
 -- the first of the roll is the first of the shortest accepting paths
 pub roll-firstShortest : (g : Graph) → WellFormed g → (xs : List ℕ) → head? (roll g) ≡ some xs → FirstShortest g xs
@@ -138,13 +133,13 @@ module _ (f : List ℕ) (accepted : Accepted f) (ask : Ask) (a : List ℕ) (work
       }
 
 -- no reason of a search holds: what that says
-none-passes : (f : List ℕ) (ask : Ask) (answer work : ℕ) → NoneHolds (searchReasons f ask answer work)
+noneHolds-says : (f : List ℕ) (ask : Ask) (answer work : ℕ) → NoneHolds (searchReasons f ask answer work)
     → SearchPasses f ask answer work
-none-passes f ask answer work h =
+noneHolds-says f ask answer work h =
     let g : Graph = graphOf f in
     let (common, list) = none-parts (commonRules f work) (listReasons f (firstDue g ask) answer) h in
     let (file, table) = none-parts (rules f) (tableReason f work) common in
-    let accepted : Accepted f = none-clear (rules f) file in
+    let accepted : Accepted f = noneHolds-firstBroken (rules f) file in
     let room : 6 * states f ≤ work = ltb-false work (6 * states f) (table .0) in
     record {
       accepted = accepted;
@@ -180,12 +175,12 @@ passes-none f ask answer work passes =
 
 -- when no reason of a search holds
 pub passes-exactly : SearchPassesExactly
-passes-exactly f ask answer work = (none-passes f ask answer work, passes-none f ask answer work)
+passes-exactly f ask answer work = (noneHolds-says f ask answer work, passes-none f ask answer work)
 
 -- condition 2
 pub condition-2 : Condition2Holds
 condition-2 f ask a work h =
-    let passes : SearchPasses f ask (length a) work = none-passes f ask (length a) work h in
+    let passes : SearchPasses f ask (length a) work = noneHolds-says f ask (length a) work h in
     record {
       suffices = λ enough. by-least passes enough (leastLength (graphOf f)) refl;
       short = λ less.

@@ -14,9 +14,9 @@ use Rattle.conditions.specs.Reasons.{numbersOf, NoneHolds, FirstHolds}
 use Rattle.gate.proofs.GateLaws.{clear-append}
 
 -- none is found if none holds
-pub none-clear : (rs : List Reason) → NoneHolds rs → firstBroken rs ≡ none
-none-clear [] h = refl
-none-clear (r ∷ rs) h = ap (λ (b : Bool). someIf b (r .number) (firstBroken rs)) (h .0) ∙ none-clear rs (h .1)
+pub noneHolds-firstBroken : (rs : List Reason) → NoneHolds rs → firstBroken rs ≡ none
+noneHolds-firstBroken [] h = refl
+noneHolds-firstBroken (r ∷ rs) h = ap (λ (b : Bool). someIf b (r .number) (firstBroken rs)) (h .0) ∙ noneHolds-firstBroken rs (h .1)
 
 -- none holds if none is found
 pub clear-none : (rs : List Reason) → firstBroken rs ≡ none → NoneHolds rs
@@ -58,7 +58,7 @@ broken-first (r ∷ rs) n e = by-test (broken-first rs n) (r .holds) refl e
 pub first-broken : (rs : List Reason) (n : ℕ) → FirstHolds rs n → firstBroken rs ≡ some n
 first-broken rs n h =
     ap firstBroken (h .split)
-    ∙ clear-append (h .before) (h .reason ∷ h .after) (none-clear (h .before) (h .none-before))
+    ∙ clear-append (h .before) (h .reason ∷ h .after) (noneHolds-firstBroken (h .before) (h .none-before))
     ∙ ap (λ (b : Bool). someIf b (h .reason .number) (firstBroken (h .after))) (h .it-holds)
     ∙ ap some (h .number-is)
 

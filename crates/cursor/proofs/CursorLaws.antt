@@ -13,7 +13,7 @@ use Rattle.lasso.specs.Rounds.{Record, candidates, bestLength, afterRounds, aft
 use Rattle.lasso.proofs.RoundLaws.{afterRounds-done, afterRounds-leastLength}
 use Rattle.model.specs.declared.Header.{Header}
 use Rattle.model.specs.Model.{graphIn}
-use Rattle.rounds.specs.Promises.{RoundsReady}
+use Rattle.candidates.specs.Promises.{RoundsReady}
 use Rattle.starts.specs.LoopStarts.{StartLoops}
 use Rattle.follow.specs.Follow.{Prepared, upTo}
 use Rattle.listing.specs.Places.{Kept, Replaced}

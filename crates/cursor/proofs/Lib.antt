@@ -1,5 +1,4 @@
 -- The laws of the way through the roll.
-pub mod ReadyLaws
 pub mod LoadLaws
 pub mod RollPlaces
 pub mod TableLaws

@@ -13,7 +13,7 @@ use Rattle.lasso.proofs.RollLaws.{leastLength-range, roll-length, roll-lasso}
 use Rattle.model.specs.declared.Header.{Header}
 use Rattle.model.specs.Model.{graphIn}
 use Rattle.model.proofs.Laws.{valid-sizes}
-use Rattle.rounds.specs.Promises.{RoundsReady}
+use Rattle.candidates.specs.Promises.{RoundsReady}
 use Rattle.starts.specs.LoopStarts.{StartLoops}
 use Rattle.follow.specs.Follow.{Prepared, upTo}
 use Rattle.cursor.proofs.LoadLaws.{loaded, loaded-list, loaded-after, loaded-length}

@@ -43,8 +43,8 @@ module _ (f : List ℕ) (accepted : Accepted f) where
           outcome-answered (inputRefusal f) (searched (graphOf f) sheetAsk) _ (is .outcome-is)
 
 -- a refused file is refused with its own number
-refused-same : (f : List ℕ) (n : ℕ) → firstBroken (rules f) ≡ some n → inputRefusal f ≡ some n
-refused-same f n e =
+input-refused : (f : List ℕ) (n : ℕ) → firstBroken (rules f) ≡ some n → inputRefusal f ≡ some n
+input-refused f n e =
     broken-append (commonRules f workEntries) (listReasons f (firstDue (graphOf f) sheetAsk) answerEntries) n (common-refused f workEntries n e)
 
 -- an input is refused exactly as its file is
@@ -53,7 +53,7 @@ only-the-file-refuses f = go (firstBroken (rules f)) refl
   where
     go : (o : Option ℕ) → firstBroken (rules f) ≡ o → inputRefusal f ≡ firstBroken (rules f)
     go none e = accepted-kept f e ∙ sym e
-    go (some n) e = refused-same f n e ∙ sym e
+    go (some n) e = input-refused f n e ∙ sym e
 
 -- only 1 to 11 are printed behind `refused`
 pub refused-up-to-eleven : RefusedUpToEleven

@@ -18,7 +18,7 @@ use Rattle.lasso.proofs.Walk.{Walk, walk-append, walk-length, walk-end-state, s
 use Rattle.lasso.proofs.Distance.{dist-le, dist-walk}
 use Rattle.lasso.proofs.Lasso.{walk-ends}
 use Rattle.lasso.specs.Extends.{Extends}
-use Rattle.lasso.proofs.Extend.{Ahead, MarkAhead, Passed, CompletesWithin, joined-passed, extends-least-iff}
+use Rattle.lasso.proofs.Extend.{Ahead, MarkAhead, BothPassed, CompletesWithin, joined-passed, extends-least-iff}
 use Rattle.frontier.specs.Regions.{entry, entryOf}
 use Rattle.walks.specs.Through.{viaMark, loopLength}
 use Rattle.walks.proofs.ThroughLaws.{ViaMark, viaMark-least, loopLength-least}
@@ -116,7 +116,7 @@ module _ {g : Graph} {l place : ℕ} {q : List ℕ} {t : ℕ} (o : Beginning g l
       )
 
   -- a loop start and a mark that are both passed are found
-  passed-marked : {n : ℕ} {w : List ℕ} → n ≤ l → Holds g l place q (dist g t) w → Passed g n q t → ClosesMarked g (g .size) (g .start) w place (l - (place + 1))
+  passed-marked : {n : ℕ} {w : List ℕ} → n ≤ l → Holds g l place q (dist g t) w → BothPassed g n q t → ClosesMarked g (g .size) (g .start) w place (l - (place + 1))
   passed-marked {w = w} b h p =
       let high : p .r ≤ place = omega (arith, p .r-lt, o .places) in
       let (a, at, low) = dist-le (o .well-formed) next-state (p .back) in

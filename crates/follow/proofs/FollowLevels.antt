@@ -7,7 +7,7 @@ use mathlib.Core.Option.{Option, some}
 use native.Mathlib.Omega.{arith}
 use Rattle.lasso.specs.Graph.{Graph, WellFormed}
 use Rattle.lasso.specs.Distance.{dist}
-use Rattle.spread.specs.declared.Answer.{Answer}
+use Rattle.spread.specs.declared.SpreadAnswer.{SpreadAnswer}
 use Rattle.frontier.specs.Regions.{entry, valueOf}
 use Rattle.lasso.specs.Limit.{under}
 use Rattle.spread.specs.Promises.{SpreadFrom}
@@ -43,5 +43,5 @@ module _ {g : Graph} {t limit : ℕ} {w v : List ℕ} (d : DistancesWithin g t l
       }
 
   -- and, after the search on from the marked states, the least lengths from t through a mark
-  pub marks-levels : WellFormed g → (u : List ℕ) (r : Answer) → SpreadFrom g (markedSources g limit v) limit (g .size) v u r → LevelsBelow (g .size) limit u (viaMark g t)
+  pub marks-levels : WellFormed g → (u : List ℕ) (r : SpreadAnswer) → SpreadFrom g (markedSources g limit v) limit (g .size) v u r → LevelsBelow (g .size) limit u (viaMark g t)
   marks-levels wf u r sp = record { below = viaMark-nothing d u wf r sp .2 }

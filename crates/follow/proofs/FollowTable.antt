@@ -1,4 +1,4 @@
--- What the listing is asked of a next state, and what the working table then holds after each search: the list, the loop
+-- What is asked of a next state, and what the working table then holds after each search: the list, the loop
 -- lengths, and the levels.
 use Prim.Native.Nat.{ℕ, zero, suc, _+_, _*_, _-_, _≤_, _<_}
 use mathlib.Core.Path.{_≡_, refl, sym, _∙_, ap}
@@ -17,7 +17,7 @@ use Rattle.model.specs.Model.{graphIn}
 use Rattle.model.proofs.Laws.{Sizes, valid-sizes, valid-well-formed}
 use Rattle.table.specs.Changes.{SameOutside}
 use Rattle.table.proofs.Laws.{sameOutside-trans}
-use Rattle.spread.specs.declared.Answer.{Answer}
+use Rattle.spread.specs.declared.SpreadAnswer.{SpreadAnswer}
 use Rattle.spread.specs.Promises.{SpreadFrom}
 use Rattle.walks.specs.Through.{markedSources, DistancesWithin}
 use Rattle.spread.proofs.SearchLaws.{spread-sameOutside}
@@ -38,7 +38,7 @@ module _ (g : Graph) (w v : List ℕ) (same : SameOutside (2 * g .size) (6 * g .
   list-same place b zero h = refl
   list-same place b (suc k) h = same .same-before k (omega arith) ∙ sym (getD-take place w k 0 (omega arith))
 
--- what the listing is asked of state t after the list up to a place: the two are a path
+-- what is asked of state t after the list up to a place: the two are a path
 pub record Asked (f : List ℕ) (h : Header) (w : List ℕ) (l place t : ℕ) : Type 0 where
   pub prepared : Prepared f h w l
   pub within : place < l
@@ -97,11 +97,11 @@ module _ {f : List ℕ} {h : Header} {w : List ℕ} {l place t : ℕ} (asked : A
     marked-follows x = marked-extends asked-beginning near x
 
     -- what the search on from the marked states leaves, if its limit is that of the search from t and it has no target
-    abbrev SearchedOn : List ℕ → Answer → Type 0
+    abbrev SearchedOn : List ℕ → SpreadAnswer → Type 0
     SearchedOn u r = SpreadFrom (graphIn f h) (markedSources (graphIn f h) (l - (place + 1) + 1) v) (l - (place + 1) + 1) (h .states) v u r
 
     -- both searches change regions 2 to 5 only
-    pub searched-outside : (u : List ℕ) (r : Answer) → SearchedOn u r → SameOutside (2 * graphIn f h .size) (6 * graphIn f h .size) w u
+    pub searched-outside : (u : List ℕ) (r : SpreadAnswer) → SearchedOn u r → SameOutside (2 * graphIn f h .size) (6 * graphIn f h .size) w u
     searched-outside u r sp =
         sameOutside-trans (D .outside) (spread-sameOutside (graphIn f h) (markedSources (graphIn f h) (l - (place + 1) + 1) v) (l - (place + 1) + 1) (h .states) r sp)
 
@@ -113,7 +113,7 @@ module _ {f : List ℕ} {h : Header} {w : List ℕ} {l place t : ℕ} (asked : A
           closes-not-extends asked-beginning near no-start no-mark far
 
       -- the search on from the marked states decides whether t may follow
-      pub via-decides : (u : List ℕ) (r : Answer) → SearchedOn u r → (b : Bool) → Decides (ClosesStart (h .states) (h .start) u place (l - (place + 1))) b → Decides (MayFollow (graphIn f h) l w place t) b
+      pub via-decides : (u : List ℕ) (r : SpreadAnswer) → SearchedOn u r → (b : Bool) → Decides (ClosesStart (h .states) (h .start) u place (l - (place + 1))) b → Decides (MayFollow (graphIn f h) l w place t) b
       via-decides u r sp b known =
           let levels = marks-levels D (asked-beginning .well-formed) u r sp in
           closes-decides asked-beginning near no-start no-mark (asked-holds u (searched-outside u r sp) levels) b known

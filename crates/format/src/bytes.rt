@@ -14,7 +14,7 @@ pub fn word(file: &[u8], at: usize) -> usize
 }
 
 // The entry at place k of the table of 16-bit numbers that starts at a byte place.
-pub fn entry(file: &[u8], table: usize, k: usize) -> usize
+pub fn entry_at(file: &[u8], table: usize, k: usize) -> usize
     requires { ⌜ table + 2 * k + 1 < length (now file) ⌝ }
     ensures { λ r. ⌜ (r ≡ Rattle.format.specs.Bytes.word (now (file .entry)) (table + 2 * k)) × (r < 65536) ⌝ }
 {

@@ -4,7 +4,7 @@ ghost use mathlib.Core.Path.{_≡_};
 ghost use Prim.Native.Nat.{_+_, _*_, _≤_, _<_};
 ghost use lib.ListN.{length};
 ghost use Rattle.format.specs.Layout.{rowsAt, edgesAt, marksAt, markBytes, totalOf, rowEntry};
-use crate::bytes::entry;
+use crate::bytes::entry_at;
 
 // The offset of the row table.
 const ROWS_AT: usize = 24;
@@ -46,5 +46,5 @@ pub fn row_entry(file: &[u8], s: usize) -> usize
     requires { ⌜ rowsAt + 2 * s + 1 < length (now file) ⌝ }
     ensures { λ r. ⌜ (r ≡ rowEntry (now (file .entry)) s) × (r < 65536) ⌝ }
 {
-    entry(file, ROWS_AT, s)
+    entry_at(file, ROWS_AT, s)
 }

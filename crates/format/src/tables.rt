@@ -9,7 +9,7 @@ ghost use Rattle.format.specs.Bytes.{words};
 ghost use Rattle.format.specs.Layout.{states, edgeCount, edgesAt, rowEntry, rowTargets, HasTables};
 ghost use Rattle.format.specs.Rules.{badOffsets, badRows, badTargets, badOrder, badSpare};
 use crate::bytes::bit;
-use crate::bytes::entry;
+use crate::bytes::entry_at;
 use crate::bytes::long;
 use crate::bytes::word;
 use crate::layout::edges_at;
@@ -79,7 +79,7 @@ pub fn targets_broken(file: &[u8], n: usize, m: usize) -> bool
     let base = edges_at(n);
     let mut e = 0;
     while e < m {
-        if n <= entry(file, base, e) {
+        if n <= entry_at(file, base, e) {
             return true;
         }
         e += 1;

@@ -13,7 +13,7 @@ pub struct Ask {
 }
 
 // Applies the reasons 1 to 12 in order: the number of the first that holds, or the file's header.
-pub fn admit(file: &[u8], work: &[u16]) -> Checked
+pub fn enter(file: &[u8], work: &[u16]) -> Checked
     ensures { λ r. ⌜ r ≡ gateOf (now (file .entry)) (length (now (work .entry))) ⌝ }
 {
     let checked = check(file);

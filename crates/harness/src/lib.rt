@@ -36,7 +36,7 @@ pub use print::NONE;
 pub use print::entries;
 pub use print::say;
 pub use print::text;
-pub use reading::Reading;
+pub use reading::NumberRead;
 pub use reading::byte_at;
 pub use reading::digits;
 pub use reading::find;

@@ -3,7 +3,7 @@ ghost use Prim.Native.Nat.{_≤_, _<_};
 ghost use lib.ListN.{length};
 
 // A number that was read, and the place behind it.
-pub struct Reading {
+pub struct NumberRead {
     pub value: usize,
     pub next: usize,
 }
@@ -70,7 +70,7 @@ pub fn skip(words: &[u8], from: usize) -> usize
 }
 
 // The digits from a place on, read as a number below 100,000.
-pub fn digits(words: &[u8], from: usize) -> Reading
+pub fn digits(words: &[u8], from: usize) -> NumberRead
     requires { ⌜ from ≤ length (now words) ⌝ }
     ensures { λ r. ⌜ (r .value < 100000) × (from ≤ r .next) × (r .next ≤ length (now (words .entry))) ⌝ }
 {
@@ -79,19 +79,19 @@ pub fn digits(words: &[u8], from: usize) -> Reading
     while i < words.len() {
         let d = digit(words[i]);
         if 10 <= d {
-            return Reading { value, next: i };
+            return NumberRead { value, next: i };
         }
         if 10000 <= value {
-            return Reading { value, next: i };
+            return NumberRead { value, next: i };
         }
         value = 10 * value + d;
         i += 1;
     }
-    Reading { value, next: i }
+    NumberRead { value, next: i }
 }
 
 // The next number of a text, behind whatever stands before it.
-pub fn next_number(words: &[u8], from: usize) -> Reading
+pub fn next_number(words: &[u8], from: usize) -> NumberRead
     requires { ⌜ from ≤ length (now words) ⌝ }
     ensures { λ r. ⌜ (r .value < 100000) × (from ≤ r .next) × (r .next ≤ length (now (words .entry))) ⌝ }
 {

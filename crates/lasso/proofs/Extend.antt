@@ -46,7 +46,7 @@ pub record MarkAhead (g : Graph) (l : ℕ) (q : List ℕ) (t : ℕ) : Type 0 whe
   pub total : length q + a + b ≡ l
 
 -- Both the loop start and the mark are passed, at the places k and r: from t a walk to the loop start.
-pub record Passed (g : Graph) (l : ℕ) (q : List ℕ) (t : ℕ) : Type 0 where
+pub record BothPassed (g : Graph) (l : ℕ) (q : List ℕ) (t : ℕ) : Type 0 where
   pub k : ℕ
   pub r : ℕ
   pub a : ℕ
@@ -58,7 +58,7 @@ pub record Passed (g : Graph) (l : ℕ) (q : List ℕ) (t : ℕ) : Type 0 where
 
 -- one of the three ways to complete q, t to a lasso of l edges
 abbrev pub Completes : Graph → ℕ → List ℕ → ℕ → Type 0
-Completes g l q t = Ahead g l q t ⊎ (MarkAhead g l q t ⊎ Passed g l q t)
+Completes g l q t = Ahead g l q t ⊎ (MarkAhead g l q t ⊎ BothPassed g l q t)
 
 -- one of the three ways to complete q, t to a lasso of at most l edges
 abbrev pub CompletesWithin : Graph → ℕ → List ℕ → ℕ → Type 0
@@ -153,7 +153,7 @@ module _ (g : Graph) (q : List ℕ) (t : ℕ) (us : List ℕ) (x : ℕ) (o : Las
   }
 
   -- its mark is before t
-  lasso-passed : o .r < length q → Passed g (edges (q ++ t ∷ us)) q t
+  lasso-passed : o .r < length q → BothPassed g (edges (q ++ t ∷ us)) q t
   lasso-passed high = record {
     k = o .k;
     r = o .r;
@@ -217,7 +217,7 @@ module _ (g : Graph) (q : List ℕ) (t : ℕ) (path : T (pathb g (q ++ t ∷ [])
       (omega arith) (omega arith) (omega arith) (joined-passed q t (us ++ vs) (o .k) (o .k-lt)) (rw at-mark (o .marked))
 
   -- the way back to a state passed at or before a mark makes a lasso
-  passed-extends : (l : ℕ) → Passed g l q t → Extends g l (q ++ t ∷ [])
+  passed-extends : (l : ℕ) → BothPassed g l q t → Extends g l (q ++ t ∷ [])
   passed-extends l o =
       let us : List ℕ = o .back .0 in
       joined-lasso us l (o .k) (o .r) (o .back .1) (omega arith) (o .k-le) (omega arith) (omega arith)

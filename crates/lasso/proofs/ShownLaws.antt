@@ -83,8 +83,8 @@ to-be-shown g wf = record {
 }
 
 -- a path that goes on from a place leaves its state by an edge
-path-edge : (g : Graph) (xs : List ℕ) (j : ℕ) → T (pathb g xs) → j < edges xs → (t : ℕ) × T (edgeb g (getD xs j 0) t)
-path-edge g xs j h less =
+path-goes-on : (g : Graph) (xs : List ℕ) (j : ℕ) → T (pathb g xs) → j < edges xs → (t : ℕ) × T (edgeb g (getD xs j 0) t)
+path-goes-on g xs j h less =
     let w = seg g xs h j (j + 1) (omega arith) (omega arith) in
     let (t, e, rest) = walk-uncons {m = 0} (walk-length (omega arith) w) in
     (t, e)
@@ -93,7 +93,7 @@ path-edge g xs j h less =
 path-ends : (g : Graph) (s : ℕ) → g .succs s ≡ [] → (xs : List ℕ) → T (pathb g xs) → (j : ℕ) → getD xs j 0 ≡ s
     → j < edges xs → ⊥
 path-ends g s none xs h j at less =
-    let (t, e) = path-edge g xs j h less in
+    let (t, e) = path-goes-on g xs j h less in
     let e' : T (edgeb g s t) = subst (λ (x : ℕ). T (edgeb g x t)) at e in
     subst (λ (ts : List ℕ). T (memb t ts)) none e'
 

@@ -4,7 +4,8 @@ use Prim.Native.Nat.{ℕ, zero, suc, _+_, _≤_, _<_}
 use mathlib.Core.Path.{_≡_, refl, sym, subst}
 use mathlib.Core.Logic.{_⊎_, inl, inr}
 use mathlib.Core.Bool.{Bool, true, false, _&&_, _||_, not}
-use mathlib.Core.List.{List, [], _∷_, List·Memᴰ, List·Memᴰ·head, List·Memᴰ·tail, List·Memᴰ·not-nil, List·Memᴰ·cases-cons}
+use mathlib.Core.List.{List, [], _∷_, head?, List·Memᴰ, List·Memᴰ·head, List·Memᴰ·tail, List·Memᴰ·not-nil, List·Memᴰ·cases-cons}
+use mathlib.Core.Option.{some}
 use native.Mathlib.Omega.{arith}
 use lib.ListN.{length, getD}
 use lib.Dec.{T, eqb, ltb, eqb→eq, eqb-refl, ltb→lt, nltb→le, T-not}
@@ -39,6 +40,16 @@ or-l false b h = absurd h
 pub or-r : (a b : Bool) → T b → T (a || b)
 or-r true b h = tt
 or-r false b h = h
+
+-- a conjunction with true is its first part
+pub and-true : (a : Bool) → a && true ≡ a
+and-true true = refl
+and-true false = refl
+
+-- a conjunction with false is false
+pub and-false : (a : Bool) → a && false ≡ false
+and-false true = refl
+and-false false = refl
 
 pub ruleset parts = (fst, snd)
 
@@ -103,6 +114,11 @@ memb-mem x (y ∷ ys) h =
 pub mem-memb : {x : ℕ} {xs : List ℕ} → List·Memᴰ x xs → T (memb x xs)
 mem-memb {x} (List·Memᴰ·head {x = y} {xs = ys} e) = or-l (eqb x y) (memb x ys) (eq→eqb x y e)
 mem-memb {x} (List·Memᴰ·tail {x = y} {xs = ys} m) = or-r (eqb x y) (memb x ys) (mem-memb m)
+
+-- the first entry is an entry
+pub head-mem : {A : Type 0} (xs : List A) (x : A) → head? xs ≡ some x → List·Memᴰ x xs
+head-mem [] x e = let z : _≡_ {A = ℕ} 0 1 = cc in absurd (omega arith)
+head-mem (y ∷ ys) x e = let q : x ≡ y = cc in List·Memᴰ·head q
 
 -- some entry passes the test: it and its membership
 pub anyb-some : {A : Type 0} (p : A → Bool) (xs : List A) → T (anyb p xs) → (x : A) × List·Memᴰ x xs × T (p x)

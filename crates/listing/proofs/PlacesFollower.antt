@@ -20,7 +20,7 @@ use Rattle.table.proofs.Laws.{sameOutside-refl, sameOutside-trans}
 use Rattle.follow.specs.Follow.{upTo}
 use Rattle.listing.specs.Places.{LeastFollower}
 use Rattle.listing.proofs.PlacesExtend.{extends-edge, extends-step}
-use Rattle.listing.proofs.PlacesRow.{Row, successor-state}
+use Rattle.listing.proofs.PlacesRow.{StateRead, successor-state}
 
 -- the rest of an ascending list ascends
 ascending-tail : (x : ℕ) (xs : List ℕ) → T (ascendingb (x ∷ xs)) → T (ascendingb xs)
@@ -74,7 +74,7 @@ tried-more {g} {n} {l} {q} {bound} {ts} {k = k} t tried s at here =
     }
 
 -- The successors of s, the last state of the list up to a place.
-module _ {f w : List ℕ} {h : Header} {l place s : ℕ} (r : Row f h w l place s) where
+module _ {f w : List ℕ} {h : Header} {l place s : ℕ} (r : StateRead f h w l place s) where
   -- a state that may stand after the list is one of the successors
   follower-place : (y : ℕ) → Extends (graphIn f h) l (upTo (graphIn f h) w place ++ y ∷ []) → (j : ℕ) × (j < length (graphIn f h .succs s)) × (getD (graphIn f h .succs s) j 0 ≡ y)
   follower-place y x =

@@ -21,7 +21,7 @@ use Rattle.listing.proofs.PlacesExtend.{path-snoc}
 use Rattle.listing.proofs.PlacesTable.{length-fits, prepared-kept, same-kept, same-take, upTo-last}
 
 -- what is known of the state s at a place of the list, which is its last state up to there
-pub record Row (f : List ℕ) (h : Header) (w : List ℕ) (l place s : ℕ) : Type 0 where
+pub record StateRead (f : List ℕ) (h : Header) (w : List ℕ) (l place s : ℕ) : Type 0 where
   pub prepared : Prepared f h w l
   pub inside : place < l
   pub path : T (pathb (graphIn f h) (upTo (graphIn f h) w place))
@@ -32,7 +32,7 @@ pub record Row (f : List ℕ) (h : Header) (w : List ℕ) (l place s : ℕ) : Ty
   pub state : s < h .states
 
 -- the state that stands at the last place of a path is its last state
-pub read-row : {f w : List ℕ} {h : Header} {l place s : ℕ} → Prepared f h w l → place < l → T (pathb (graphIn f h) (upTo (graphIn f h) w place)) → s ≡ getD (h .start ∷ w) place 0 → Row f h w l place s
+pub read-row : {f w : List ℕ} {h : Header} {l place s : ℕ} → Prepared f h w l → place < l → T (pathb (graphIn f h) (upTo (graphIn f h) w place)) → s ≡ getD (h .start ∷ w) place 0 → StateRead f h w l place s
 read-row {f} {w} {h} {l} {place} {s} p inside path at =
     record { prepared = p; inside = inside; path = path; sizes = sizes; fits = length-fits p; long = long; last = last; state = state }
   where
@@ -55,15 +55,15 @@ read-row {f} {w} {h} {l} {place} {s} p inside path at =
     state = omega (arith, last, sizes, path-states (graphIn f h) (upTo (graphIn f h) w place) wf path (wf .start-state) (length (take place w)) (omega arith))
 
 -- the successor at place k is joined to s by an edge
-successor-edge : {f w : List ℕ} {h : Header} {l place s k : ℕ} (t : ℕ) → Row f h w l place s → k < length (graphIn f h .succs s) → t ≡ getD (graphIn f h .succs s) k 0 → T (edgeb (graphIn f h) s t)
+successor-edge : {f w : List ℕ} {h : Header} {l place s k : ℕ} (t : ℕ) → StateRead f h w l place s → k < length (graphIn f h .succs s) → t ≡ getD (graphIn f h .succs s) k 0 → T (edgeb (graphIn f h) s t)
 successor-edge {f} {h = h} {s = s} {k = k} t r inside at = subst (λ (u : ℕ). T (edgeb (graphIn f h) s u)) (sym at) (at-memb (graphIn f h .succs s) k inside)
 
 -- the successor at place k is a state
-pub successor-state : {f w : List ℕ} {h : Header} {l place s k : ℕ} (t : ℕ) → Row f h w l place s → k < length (graphIn f h .succs s) → t ≡ getD (graphIn f h .succs s) k 0 → t < h .states
+pub successor-state : {f w : List ℕ} {h : Header} {l place s k : ℕ} (t : ℕ) → StateRead f h w l place s → k < length (graphIn f h .succs s) → t ≡ getD (graphIn f h .succs s) k 0 → t < h .states
 successor-state {s = s} t r inside at = omega (arith, r .sizes, valid-well-formed (r .prepared .valid) .edge-states s t (successor-edge t r inside at))
 
 -- what the test of the successor t at place k asks, after tests of others
-pub test-asks : {f w w' : List ℕ} {h : Header} {l place s k : ℕ} (t : ℕ) → Row f h w l place s → SameOutside (2 * h .states) (6 * h .states) w w' → k < length (graphIn f h .succs s) → t ≡ getD (graphIn f h .succs s) k 0
+pub test-asks : {f w w' : List ℕ} {h : Header} {l place s k : ℕ} (t : ℕ) → StateRead f h w l place s → SameOutside (2 * h .states) (6 * h .states) w w' → k < length (graphIn f h .succs s) → t ≡ getD (graphIn f h .succs s) k 0
     → Prepared f h w' l × ((place < l) × ((t < h .states) × T (pathb (graphIn f h) (upTo (graphIn f h) w' place ++ t ∷ []))))
 test-asks {f} {w} {w'} {h} {l} {place} {s} {k} t r same inside at = (prepared-kept (r .prepared) (same-kept (h .states) same), (r .inside, (successor-state t r inside at, path)))
   where
@@ -73,7 +73,7 @@ test-asks {f} {w} {w'} {h} {l} {place} {s} {k} t r same inside at = (prepared-ke
         (path-snoc (graphIn f h) (graphIn f h .start) (take place w) t (r .path) (subst (λ (u : ℕ). T (edgeb (graphIn f h) u t)) (r .last) (successor-edge t r inside at)))
 
 -- the test's answer is about the list as it was before other tests
-pub test-answers : {f w w' : List ℕ} {h : Header} {l place s : ℕ} (t : ℕ) (b : Bool) → Row f h w l place s → SameOutside (2 * h .states) (6 * h .states) w w' → Decides (Extends (graphIn f h) l (upTo (graphIn f h) w' place ++ t ∷ [])) b
+pub test-answers : {f w w' : List ℕ} {h : Header} {l place s : ℕ} (t : ℕ) (b : Bool) → StateRead f h w l place s → SameOutside (2 * h .states) (6 * h .states) w w' → Decides (Extends (graphIn f h) l (upTo (graphIn f h) w' place ++ t ∷ [])) b
     → Decides (Extends (graphIn f h) l (upTo (graphIn f h) w place ++ t ∷ [])) b
 test-answers {f} {h = h} {l = l} {place = place} t b r same d =
     subst (λ (xs : List ℕ). Decides (Extends (graphIn f h) l (graphIn f h .start ∷ xs ++ t ∷ [])) b) (same-take (h .states) place same (omega (arith, r .inside, r .fits))) d

@@ -15,6 +15,7 @@ use Rattle.lasso.specs.Roll.{leastLength, roll}
 use Rattle.lasso.specs.Rounds.{Record, candidates, afterRounds}
 use Rattle.lasso.specs.declared.Transitions.{Transitions}
 use Rattle.lasso.specs.Following.{sameb, following}
+use Rattle.lasso.proofs.Tests.{head-mem}
 use Rattle.lasso.proofs.RollLaws.{roll-empty, roll-lasso}
 use Rattle.model.specs.Model.{graphOf}
 use Rattle.format.specs.Rules.{Reason, firstBroken}
@@ -29,7 +30,7 @@ use Rattle.next.specs.declared.NextAnswer.the-variants as NextAnswers
 use Rattle.gate.specs.Gate.{commonRules}
 use Rattle.answers.specs.Kinds.{figuresIn}
 use Rattle.sequence.specs.Calls.{Call, search, next, Answer, ofSearch, ofNext, finderAt, foundLength}
-use Rattle.logged.specs.Log.{reportOf, reportRow, row, entriesOf, Made}
+use Rattle.logged.specs.Log.{reportOf, reportRow, callRow, entriesOf, Made}
 
 -- the four numbers are stored one after another
 pub row-stored : (log figures : List ℕ) (place kind : ℕ) → length figures ≡ 3 → place + 4 ≤ length log
@@ -117,11 +118,6 @@ search-fits f ask answer work = go (firstBroken (searchReasons f ask answer work
         searched-fits (roll g) (stopsb g (ask .allowance)) (afterRounds g (ask .allowance)) (length (candidates g)) answer
         (λ xs q m. due-fits f xs answer (subst (λ (due : Option (List ℕ)). firstBroken (listReasons f due answer) ≡ none) q (clear-behind (commonRules f work) (listReasons f (firstDue g ask) answer) e)) m)
 
--- the first of some lists is one of them
-head-mem : (rs : List (List ℕ)) (xs : List ℕ) → head? rs ≡ some xs → List·Memᴰ xs rs
-head-mem [] xs e = let z : _≡_ {A = ℕ} 0 1 = cc in absurd (omega arith)
-head-mem (r ∷ rs) xs e = let q : xs ≡ r = cc in List·Memᴰ·head q
-
 -- the list that follows one of some lists is one of them
 following-mem : (p : List ℕ) (rs : List (List ℕ)) (xs : List ℕ) → following p rs ≡ some xs → List·Memᴰ xs rs
 following-mem p [] xs e = let z : _≡_ {A = ℕ} 0 1 = cc in absurd (omega arith)
@@ -171,7 +167,7 @@ pub made : (f : List ℕ) (c : Call) (place : ℕ) {log a' w' log' : List ℕ} {
     → Made f c place log a' w' log' got
 made f c place {log} {a'} {w'} {log'} {got} answer {kind} {figures} e at-a at-w same at-kind at-figures at-log at-got =
     let line : (kind ∷ figures) ≡ reportRow (reportOf answer) = cc in
-    let row-is : (kind ∷ figures) ≡ row (finderAt f c) = line ∙ ap (λ (x : Answer). reportRow (reportOf x)) e in
+    let row-is : (kind ∷ figures) ≡ callRow (finderAt f c) = line ∙ ap (λ (x : Answer). reportRow (reportOf x)) e in
     let got-is : got ≡ entriesOf (foundLength (finderAt f c .answer)) = at-got ∙ ap (λ (x : Answer). entriesOf (foundLength x)) e in
     let (in-table, small) = call-fits f c in
     record {

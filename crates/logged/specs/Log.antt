@@ -18,8 +18,8 @@ abbrev pub reportRow : Report → List ℕ
 reportRow r = r .kind ∷ figuresIn (0 ∷ 0 ∷ 0 ∷ []) r
 
 -- the four numbers of a call
-abbrev pub row : Result → List ℕ
-row r = reportRow (reportOf (r .answer))
+abbrev pub callRow : Result → List ℕ
+callRow r = reportRow (reportOf (r .answer))
 
 -- the entries of the list that an answer brings: one more than its length, 0 if it brings none
 abbrev pub entriesOf : Option ℕ → ℕ
@@ -31,7 +31,7 @@ entriesOf (some l) = suc l
 pub record Made (f : List ℕ) (c : Call) (place : ℕ) (log a' w' log' : List ℕ) (got : ℕ) : Type 0 where
   pub answer : a' ≡ finderAt f c .table
   pub work : w' ≡ finderAt f c .work
-  pub log-row : log' ≡ take place log ++ row (finderAt f c) ++ drop (place + 4) log
+  pub log-row : log' ≡ take place log ++ callRow (finderAt f c) ++ drop (place + 4) log
   pub entries : got ≡ entriesOf (foundLength (finderAt f c .answer))
   pub in-answer : got ≤ length a'
   pub in-copy : got ≤ 4097

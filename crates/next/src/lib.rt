@@ -9,14 +9,14 @@ ghost use Rattle.lasso.specs.Roll.{leastLength};
 ghost use Rattle.model.specs.Model.{graphIn};
 ghost use Rattle.model.specs.Values.{Valid};
 ghost use Rattle.gate.specs.Gate.{workOf};
-ghost use Rattle.rounds.specs.Promises.{RoundsReady};
+ghost use Rattle.candidates.specs.Promises.{RoundsReady};
 ghost use Rattle.next.specs.Next.{nextOutcomeOf, nextOutcome, nextAnswer};
 use cursor::Begun;
 use cursor::begin;
 use cursor::to_list;
 use cursor::to_next;
 use cursor::write_list;
-use gate::admit;
+use gate::enter;
 use gate::leave;
 use lasso::Entries;
 use lasso::Transitions;
@@ -109,7 +109,7 @@ pub fn next(file: &[u8], earlier: &[u16], answer: &mut [u16], work: &mut [u16]) 
         ≡ nextAnswer (now (file .entry)) (now (earlier .entry)) (now (answer .entry)) (length (now (work .entry))) ⌝ }
     ensures work { λ r. ⌜ now (work .exit) ≡ workOf (now (file .entry)) (now (work .entry)) ⌝ }
 {
-    let checked = admit(file, work);
+    let checked = enter(file, work);
     match checked {
         Checked::Refused(number) => NextAnswer::Refused(number),
         Checked::Accept(h) => {

@@ -9,7 +9,7 @@ use lib.ListN.{length, getD}
 use lib.Dec.{T, eqb, leb, eqb→eq, le→leb, not-T}
 use Rattle.lasso.specs.Lists.{anyb, upFrom, below}
 use Rattle.lasso.specs.Graph.{Graph, edges, pathb, loopsb, lassob}
-use Rattle.lasso.proofs.Tests.{parts, join, T-true, T-false, eq→eqb, anyb-some, some-anyb, below-lt, lt-below}
+use Rattle.lasso.proofs.Tests.{parts, join, and-false, T-true, T-false, eq→eqb, anyb-some, some-anyb, below-lt, lt-below}
 use Rattle.lasso.proofs.RollLaws.{lasso-edges}
 
 -- the numbers from k - 1 up to n: k - 1 in front of those from k on
@@ -19,11 +19,6 @@ anyb-down p n k low high =
     let e : n - (k - 1) ≡ suc (n - k) = omega arith in
     let q : suc (k - 1) ≡ k = omega arith in
     rw (e, q)
-
--- a conjunction with a second part that fails fails
-and-false : (a : Bool) → (a && false) ≡ false
-and-false true = refl
-and-false false = refl
 
 -- the state at a place of the list is marked
 abbrev pub markAt : Graph → List ℕ → ℕ → Bool

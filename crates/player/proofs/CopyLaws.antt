@@ -11,9 +11,9 @@ use lib.Dec.{eqb}
 use Rattle.lasso.specs.Lists.{pick}
 
 -- one more entry is copied
-pub copied-more : (t copy : List ℕ) (i v : ℕ) → v ≡ getD t i 0 → i < length t → i < length copy → take i copy ≡ take i t
+pub entry-copied : (t copy : List ℕ) (i v : ℕ) → v ≡ getD t i 0 → i < length t → i < length copy → take i copy ≡ take i t
     → (length (set copy i v) ≡ length copy) × (take (i + 1) (set copy i v) ≡ take (i + 1) t)
-copied-more t copy i v at-v in-t in-copy same = (
+entry-copied t copy i v at-v in-t in-copy same = (
   length-set copy i v,
   ap (λ (n : ℕ). take n (set copy i v)) (add-one i)
       ∙ take-suc-set copy i v in-copy

@@ -14,7 +14,7 @@ use Rattle.next.specs.Next.{noMore, Followed}
 use Rattle.sequence.specs.Calls.{Call, Answer, ofSearch, ofNext, Result, finderAt, received}
 use Rattle.sequence.proofs.Sequence.{condition-3}
 use Rattle.script.specs.Commands.{commandLength, overb, sizeOf, callOf}
-use Rattle.logged.specs.Log.{reportOf, reportRow, row, Made}
+use Rattle.logged.specs.Log.{reportOf, reportRow, callRow, Made}
 use Rattle.script.proofs.CommandLaws.{size-over, size-goes-on, command-there, rest-of}
 use Rattle.player.specs.Played.{keepCopy, callsOf, played, results}
 use Rattle.player.specs.Log.{rows, logAfterAll, answerAfterAll, workAfterAll, BookPlayed}

@@ -28,8 +28,8 @@ use Rattle.player.specs.Played.{keepCopy, callsOf, played, results, copi
 use Rattle.player.proofs.PlayedLaws.{calls-over, calls-more}
 
 -- the empty list is no shortest accepting path
-empty-refused : (g : Graph) → T (notShortest g [])
-empty-refused g = rw (notShortest-apart g [] (λ m. omega (arith, roll-entries g [] m))) tt
+empty-notShortest : (g : Graph) → T (notShortest g [])
+empty-notShortest g = rw (notShortest-apart g [] (λ m. omega (arith, roll-entries g [] m))) tt
 
 -- the copy that the player lends is the copy last received, or empty
 abbrev lentCopy : Option (List ℕ) → List ℕ
@@ -37,7 +37,7 @@ lentCopy o = keepCopy o []
 
 -- a next with that copy is proper
 copy-lent : (f : List ℕ) (o : Option (List ℕ)) (a w : List ℕ) → Lent f o (next (lentCopy o) a w)
-copy-lent f none a w = inr (empty-refused (graphOf f))
+copy-lent f none a w = inr (empty-notShortest (graphOf f))
 copy-lent f (some xs) a w = inl refl
 
 -- the copy after a call is the list last received then

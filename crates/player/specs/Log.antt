@@ -9,7 +9,7 @@ use Rattle.format.specs.Rules.{Accepted}
 use Rattle.sequence.specs.Calls.{Result}
 use Rattle.sequence.specs.Book.{bookResults}
 use Rattle.sequence.specs.Claim.{Proper}
-use Rattle.logged.specs.Log.{row}
+use Rattle.logged.specs.Log.{callRow}
 use Rattle.player.specs.Played.{played}
 
 -- the numbers of some calls, four for each, one after another

@@ -6,7 +6,7 @@ ghost use Prim.Native.Nat.{_+_, _≤_, _<_};
 ghost use lib.ListN.{length, drop};
 ghost use Rattle.lasso.specs.Roll.{leastLength, roll};
 ghost use Rattle.model.specs.Model.{graphIn};
-ghost use Rattle.rounds.specs.Promises.{RoundsReady};
+ghost use Rattle.candidates.specs.Promises.{RoundsReady};
 ghost use Rattle.current.specs.Current.{listIn};
 ghost use Rattle.outcomes.specs.Tables.{written};
 ghost use Rattle.text.specs.Writing.{Wrote};

@@ -1,5 +1,3 @@
--- The laws of candidates and rounds.
-pub mod Laws
-pub mod CandidateLaws
-pub mod TableLaws
+-- The laws of the rounds of a search.
+pub mod LimitLaws
 pub mod RecordLaws

@@ -7,7 +7,7 @@ use native.Mathlib.Omega.{arith}
 use lib.ListN.{length}
 use Rattle.lasso.specs.Graph.{Graph}
 use Rattle.lasso.specs.Rounds.{candidateb, candidates, Record, afterRound, afterRounds, afterAllowed}
-use Rattle.rounds.proofs.CandidateLaws.{Counted, counted-none, counted-yes, counted-no, counted-all, counted-le}
+use Rattle.candidates.proofs.CandidateLaws.{Counted, counted-none, counted-yes, counted-no, counted-all, counted-le}
 
 -- the rounds for the candidates below s are done, and there are no more of them than allowed
 pub record Underway (g : Graph) (allowance s : ℕ) (rec : Record) : Type 0 where

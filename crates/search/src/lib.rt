@@ -11,14 +11,14 @@ ghost use Rattle.model.specs.Model.{graphIn};
 ghost use Rattle.model.specs.Values.{Valid};
 ghost use Rattle.gate.specs.declared.Ask.{Ask};
 ghost use Rattle.gate.specs.Gate.{workOf};
-ghost use Rattle.rounds.specs.Promises.{RoundsReady};
+ghost use Rattle.candidates.specs.Promises.{RoundsReady};
 ghost use Rattle.search.specs.Search.{searchOutcomeOf, searchOutcome, searchAnswer};
 use cursor::Begun;
 use cursor::begin;
 use cursor::to_first;
 use cursor::write_list;
 use gate::Ask;
-use gate::admit;
+use gate::enter;
 use gate::leave;
 use lasso::Entries;
 use lasso::RoundRecord;
@@ -103,7 +103,7 @@ pub fn search(file: &[u8], ask: Ask, answer: &mut [u16], work: &mut [u16]) -> Se
         ≡ searchAnswer (now (file .entry)) ask (now (answer .entry)) (length (now (work .entry))) ⌝ }
     ensures work { λ r. ⌜ now (work .exit) ≡ workOf (now (file .entry)) (now (work .entry)) ⌝ }
 {
-    let checked = admit(file, work);
+    let checked = enter(file, work);
     match checked {
         Checked::Refused(number) => SearchAnswer::Refused(number),
         Checked::Accept(h) => {

@@ -39,21 +39,21 @@ copyAt rs (suc i) = getElem? rs i
 
 -- Where a sequence stands between two calls: h lists of the roll were received since the last search that found one. They
 -- are the first h, and the last of them is the copy.
-record Stands (rs : List (List ℕ)) (copy : Option (List ℕ)) (lists : List (List ℕ)) (h : ℕ) : Type 0 where
+record StandsBetween (rs : List (List ℕ)) (copy : Option (List ℕ)) (lists : List (List ℕ)) (h : ℕ) : Type 0 where
   at-copy : copy ≡ copyAt rs h
   at-lists : lists ≡ take h rs
   within : h ≤ length rs
 
 -- where it stands after a call that brought the list given, or none
 abbrev After : List (List ℕ) → Option (List ℕ) → List (List ℕ) → Call → Option (List ℕ) → ℕ → Type 0
-After rs copy lists c list h = Stands rs (lastReceived list copy) (addReceived c list lists) h
+After rs copy lists c list h = StandsBetween rs (lastReceived list copy) (addReceived c list lists) h
 
 -- what the lists of the roll are: one entry more than edges
-abbrev Entries : List (List ℕ) → Type 0
-Entries rs = (xs : List ℕ) → List·Memᴰ xs rs → suc (edges xs) ≡ length xs
+abbrev EntriesCounted : List (List ℕ) → Type 0
+EntriesCounted rs = (xs : List ℕ) → List·Memᴰ xs rs → suc (edges xs) ≡ length xs
 
 -- the copy that a next brings is the list due, unless the call is refused
-next-received : (rs : List (List ℕ)) → Entries rs → (h : ℕ) (first : Option ℕ) (a : List ℕ)
+next-received : (rs : List (List ℕ)) → EntriesCounted rs → (h : ℕ) (first : Option ℕ) (a : List ℕ)
     → copyOf (foundLength (ofNext (outcome first (followed (getElem? rs h))))) (written (unlessRefused first (getElem? rs h)) a)
     ≡ unlessRefused first (getElem? rs h)
 next-received rs entries h (some n) a = refl
@@ -64,7 +64,7 @@ next-received rs entries h none a = go (getElem? rs h) refl
     go (some xs) e = ap (λ (zs : List ℕ). some zs) (copy-written xs a (entries xs (getElem-mem rs h e)))
 
 -- the copy that a search brings is the first list, unless it is refused or stopped
-search-received : (rs : List (List ℕ)) → Entries rs → (first : Option ℕ) (stops : Bool) (rec : Record) (rounds : ℕ) (a : List ℕ)
+search-received : (rs : List (List ℕ)) → EntriesCounted rs → (first : Option ℕ) (stops : Bool) (rec : Record) (rounds : ℕ) (a : List ℕ)
     → copyOf (foundLength (ofSearch (outcome first (pick stops (stopped rec) (firstOf rs rounds)))))
     (written (unlessRefused first (pick stops none (head? rs))) a)
     ≡ unlessRefused first (pick stops none (head? rs))
@@ -75,7 +75,7 @@ search-received (xs ∷ rs) entries none false rec rounds a =
     ap (λ (zs : List ℕ). some zs) (copy-written xs a (entries xs (List·Memᴰ·head refl)))
 
 -- a search that is refused, stopped or empty leaves all as it stands; one that finds the first list begins anew
-search-stands : (rs : List (List ℕ)) {copy : Option (List ℕ)} {lists : List (List ℕ)} {h : ℕ} → Stands rs copy lists h
+search-stands : (rs : List (List ℕ)) {copy : Option (List ℕ)} {lists : List (List ℕ)} {h : ℕ} → StandsBetween rs copy lists h
     → (first : Option ℕ) (stops : Bool) (rec : Record) (ask : Ask) (rounds : ℕ) (a w : List ℕ)
     → After rs copy lists (search ask a w) (unlessRefused first (pick stops none (head? rs)))
     (unlessRefusedℕ first h (afterSearch h (pick stops (stopped rec) (firstOf rs rounds))))
@@ -86,7 +86,7 @@ search-stands (xs ∷ rs) s none false rec ask rounds a w =
     record { at-copy = refl; at-lists = refl; within = omega arith }
 
 -- a next that is refused or has no more leaves all as it stands; one that finds a list adds it
-next-stands : (rs : List (List ℕ)) {copy : Option (List ℕ)} {lists : List (List ℕ)} {h : ℕ} → Stands rs copy lists h
+next-stands : (rs : List (List ℕ)) {copy : Option (List ℕ)} {lists : List (List ℕ)} {h : ℕ} → StandsBetween rs copy lists h
     → (first : Option ℕ) (earlier a w : List ℕ)
     → After rs copy lists (next earlier a w) (unlessRefused first (getElem? rs h))
     (unlessRefusedℕ first h (afterNext h (getElem? rs h)))
@@ -141,7 +141,7 @@ copy-due rs zero earlier s e = let z : _≡_ {A = ℕ} 0 1 = cc in absurd (omega
 copy-due rs (suc i) earlier s e = following-getElem rs i s e
 
 -- what the finder does at a next is on the book's page
-next-page : (f : List ℕ) {copy : Option (List ℕ)} {lists : List (List ℕ)} {h : ℕ} → Stands (roll (graphOf f)) copy lists h
+next-page : (f : List ℕ) {copy : Option (List ℕ)} {lists : List (List ℕ)} {h : ℕ} → StandsBetween (roll (graphOf f)) copy lists h
     → (earlier a w : List ℕ) → Lent f copy (next earlier a w) → finderAt f (next earlier a w) ≡ page f h (next earlier a w) .result
 next-page f {copy} {lists} {h} s earlier a w lent =
     let rs : List (List ℕ) = roll (graphOf f) in
@@ -153,13 +153,13 @@ next-page f {copy} {lists} {h} s earlier a w lent =
     ]
 
 -- what the finder does at a call is on the book's page
-call-page : (f : List ℕ) {copy : Option (List ℕ)} {lists : List (List ℕ)} {h : ℕ} → Stands (roll (graphOf f)) copy lists h
+call-page : (f : List ℕ) {copy : Option (List ℕ)} {lists : List (List ℕ)} {h : ℕ} → StandsBetween (roll (graphOf f)) copy lists h
     → (c : Call) → Lent f copy c → finderAt f c ≡ page f h c .result
 call-page f s (search ask a w) lent = refl
 call-page f s (next earlier a w) lent = next-page f s earlier a w lent
 
 -- what stands before a call stands after it, for the list that the page brings and the page's h
-page-stands : (f : List ℕ) {copy : Option (List ℕ)} {lists : List (List ℕ)} {h : ℕ} → Stands (roll (graphOf f)) copy lists h
+page-stands : (f : List ℕ) {copy : Option (List ℕ)} {lists : List (List ℕ)} {h : ℕ} → StandsBetween (roll (graphOf f)) copy lists h
     → (c : Call) → After (roll (graphOf f)) copy lists c (received (page f h c .result)) (page f h c .after)
 page-stands f {copy} {lists} {h} s (search ask a w) =
     let g : Graph = graphOf f in
@@ -189,7 +189,7 @@ record ComesTo (f : List ℕ) (lists : List (List ℕ)) (h : ℕ) (cs : List Cal
   within : bookEnd f h cs ≤ length (roll (graphOf f))
 
 -- call by call, a sequence comes to that
-sequence-comes-to : (f : List ℕ) {copy : Option (List ℕ)} {lists : List (List ℕ)} {h : ℕ} → Stands (roll (graphOf f)) copy lists h
+sequence-comes-to : (f : List ℕ) {copy : Option (List ℕ)} {lists : List (List ℕ)} {h : ℕ} → StandsBetween (roll (graphOf f)) copy lists h
     → (cs : List Call) → Proper f copy cs → ComesTo f lists h cs
 sequence-comes-to f s [] proper = record { results = refl; at-lists = s .at-lists; within = s .within }
 sequence-comes-to f {copy} {lists} {h} s (c ∷ cs) (lent, proper) =
@@ -204,7 +204,7 @@ sequence-comes-to f {copy} {lists} {h} s (c ∷ cs) (lent, proper) =
     }
 
 -- at the start no list has been received
-at-start : (rs : List (List ℕ)) → Stands rs none [] 0
+at-start : (rs : List (List ℕ)) → StandsBetween rs none [] 0
 at-start rs = record { at-copy = refl; at-lists = refl; within = omega arith }
 
 -- condition 3: for every sequence of calls on one accepted file the answers and tables are the book's, and the lists

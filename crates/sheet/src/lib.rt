@@ -10,7 +10,7 @@ ghost use Rattle.sheet.specs.Sheet.{head, sheetText, sheetAnswer, sheetR
 ghost use Rattle.sheet.specs.Sheet.{sheetWritten, sheetAnswered, sheetWorked};
 use cursor::Begun;
 use cursor::begin;
-use gate::admit;
+use gate::enter;
 use gate::leave;
 use lasso::Entries;
 use model::Checked;
@@ -100,7 +100,7 @@ pub fn sheet(input: &[u8], answer: &mut [u16], work: &mut [u16], text: &mut [u8]
     if text.len() < SHEET_ROOM {
         return 0;
     }
-    let checked = admit(input, work);
+    let checked = enter(input, work);
     match checked {
         Checked::Refused(number) => write_refusal(text, number as usize),
         Checked::Accept(h) => {

@@ -48,7 +48,7 @@ planned-state l fits P =
 
 -- The search while the successors of s, the queue's state at `at`, are looked at: the first k are in and none of them
 -- is the target.
-pub record Row (n : ℕ) (succs : ℕ → List ℕ) (limit target : ℕ) (w₀ : List ℕ) (v at end count s k : ℕ) (w : List ℕ) : Type 0 where
+pub record InRow (n : ℕ) (succs : ℕ → List ℕ) (limit target : ℕ) (w₀ : List ℕ) (v at end count s k : ℕ) (w : List ℕ) : Type 0 where
   pub state : State n succs limit target w₀ v at end count w
   pub turn : at < end
   pub here : entry 3 n w at ≡ s
@@ -56,7 +56,7 @@ pub record Row (n : ℕ) (succs : ℕ → List ℕ) (limit target : ℕ) (w₀ :
   pub missed : (j : ℕ) → j < k → getD (succs s) j 0 ≡ target → ⊥
 
 -- before the first successor
-pub row-start : {n limit target v at end count s : ℕ} {succs : ℕ → List ℕ} {w₀ w : List ℕ} → at < end → s ≡ entry 3 n w at → State n succs limit target w₀ v at end count w → Row n succs limit target w₀ v at end count s 0 w
+pub row-start : {n limit target v at end count s : ℕ} {succs : ℕ → List ℕ} {w₀ w : List ℕ} → at < end → s ≡ entry 3 n w at → State n succs limit target w₀ v at end count w → InRow n succs limit target w₀ v at end count s 0 w
 row-start l e S =
     record {
       state = S;
@@ -66,7 +66,7 @@ row-start l e S =
       missed = λ j h q. absurd (omega arith);
     }
 
-module _ {n limit target at end count s k : ℕ} {succs : ℕ → List ℕ} {w₀ w : List ℕ} (level : ℕ) (R : Row n succs limit target w₀ (level + 1) at end count s k w) where
+module _ {n limit target at end count s k : ℕ} {succs : ℕ → List ℕ} {w₀ w : List ℕ} (level : ℕ) (R : InRow n succs limit target w₀ (level + 1) at end count s k w) where
   -- the queue has a state at its turn
   row-queued : at < count
   row-queued = omega (arith, R .turn, R .state .end-count)
@@ -84,7 +84,7 @@ module _ {n limit target at end count s k : ℕ} {succs : ℕ → List ℕ} {w�
   row-hit = R .state .sound level s row-inside (omega (arith, row-level))
 
   -- one more successor is reached
-  pub row-step : {r : ℕ} {w' : List ℕ} (t : ℕ) → t ≡ getD (succs s) k 0 → k < length (succs s) → t < n → (t ≡ target → ⊥) → Reached n t (level + 1 + 1) count w w' r → Row n succs limit target w₀ (level + 1) at end r s (k + 1) w'
+  pub row-step : {r : ℕ} {w' : List ℕ} (t : ℕ) → t ≡ getD (succs s) k 0 → k < length (succs s) → t < n → (t ≡ target → ⊥) → Reached n t (level + 1 + 1) count w w' r → InRow n succs limit target w₀ (level + 1) at end r s (k + 1) w'
   row-step t e l i d Q =
       record {
         state = reach-state t (level + 1 + 1) (R .state) i (omega arith) (step row-hit (rw e (at-memb (succs s) k l)) (omega arith)) Q;

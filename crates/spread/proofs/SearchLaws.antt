@@ -12,8 +12,8 @@ use Rattle.lasso.proofs.Least.{isLeast-unique}
 use Rattle.lasso.proofs.Walk.{Walk, walk-end-state}
 use Rattle.table.specs.Changes.{SameOutside}
 use Rattle.table.proofs.Laws.{sameOutside-trans}
-use Rattle.spread.specs.declared.Answer.{Answer}
-use Rattle.spread.specs.declared.Answer.the-variants.{Length, Nothing}
+use Rattle.spread.specs.declared.SpreadAnswer.{SpreadAnswer}
+use Rattle.spread.specs.declared.SpreadAnswer.the-variants.{Length, Nothing}
 use Rattle.frontier.specs.Regions.{entry, valueOf, entryOf}
 use Rattle.lasso.specs.Limit.{under}
 use Rattle.spread.specs.Hit.{hitLevel, hitLength}
@@ -41,7 +41,7 @@ hitLength-outside g wf source =
     isLeast-unique (Timed (g .size) source (λ s m. (1 ≤ m) × Walk g s (g .size) m)) (hitLength g source (g .size)) none (hitLength-least wf source (g .size)) (λ k h. omega (arith, walk-end-state wf (h .3) (h .5 .1)))
 
 -- a search with a target that is no state answers that there is no walk into it
-pub spread-nothing : {g : Graph} (source : ℕ → Option ℕ) {limit : ℕ} {w w' : List ℕ} → WellFormed g → (r : Answer)
+pub spread-nothing : {g : Graph} (source : ℕ → Option ℕ) {limit : ℕ} {w w' : List ℕ} → WellFormed g → (r : SpreadAnswer)
     → SpreadFrom g source limit (g .size) w w' r
     → (count : ℕ) × (r ≡ Nothing count) × ExhaustedFrom g source limit (g .size) w w' count
 spread-nothing {g} source {limit} wf (Length l) found =
@@ -51,7 +51,7 @@ spread-nothing {g} source {limit} wf (Length l) found =
 spread-nothing source wf (Nothing count) none-found = (count, refl, none-found)
 
 -- a search changes regions 2 to 5 only
-pub spread-sameOutside : (g : Graph) (source : ℕ → Option ℕ) (limit target : ℕ) {w w' : List ℕ} → (r : Answer)
+pub spread-sameOutside : (g : Graph) (source : ℕ → Option ℕ) (limit target : ℕ) {w w' : List ℕ} → (r : SpreadAnswer)
     → SpreadFrom g source limit target w w' r → SameOutside (2 * g .size) (6 * g .size) w w'
 spread-sameOutside g source limit target (Length l) found = found .outside
 spread-sameOutside g source limit target (Nothing count) ex = ex .outside
@@ -60,7 +60,7 @@ spread-sameOutside g source limit target (Nothing count) ex = ex .outside
 module _ (g : Graph) (source source' : ℕ → Option ℕ) (same : (s : ℕ) → s < g .size → source s ≡ source' s) where
   -- what one leaves is what the other leaves, also after a change of the regions that a search uses
   pub spread-same : (limit target : ℕ) {v w : List ℕ} (w' : List ℕ) → SameOutside (2 * g .size) (6 * g .size) v w
-      → (r : Answer) → SpreadFrom g source limit target w w' r → SpreadFrom g source' limit target v w' r
+      → (r : SpreadAnswer) → SpreadFrom g source limit target w w' r → SpreadFrom g source' limit target v w' r
   spread-same limit target w' before (Length l) found =
       record {
         outside = sameOutside-trans before (found .outside);

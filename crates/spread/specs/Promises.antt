@@ -5,8 +5,8 @@ use mathlib.Core.List.{List}
 use mathlib.Core.Option.{Option, some, none}
 use Rattle.lasso.specs.Graph.{Graph}
 use Rattle.table.specs.Changes.{SameOutside}
-use Rattle.spread.specs.declared.Answer.{Answer}
-use Rattle.spread.specs.declared.Answer.the-variants.{Length, Nothing}
+use Rattle.spread.specs.declared.SpreadAnswer.{SpreadAnswer}
+use Rattle.spread.specs.declared.SpreadAnswer.the-variants.{Length, Nothing}
 use Rattle.frontier.specs.Regions.{entry, entryOf}
 use Rattle.frontier.specs.Buckets.{sources, Planned}
 use Rattle.frontier.specs.Search.{Queue}
@@ -28,16 +28,16 @@ pub record ExhaustedFrom (g : Graph) (source : ℕ → Option ℕ) (limit target
   pub queue : Queue (g .size) count w'
 
 -- what a search from the sources leaves, by its answer
-abbrev pub SpreadFrom : Graph → (ℕ → Option ℕ) → ℕ → ℕ → List ℕ → List ℕ → Answer → Type 0
+abbrev pub SpreadFrom : Graph → (ℕ → Option ℕ) → ℕ → ℕ → List ℕ → List ℕ → SpreadAnswer → Type 0
 SpreadFrom g source limit target w w' (Length l) = FoundFrom g source limit target w w' l
 SpreadFrom g source limit target w w' (Nothing count) = ExhaustedFrom g source limit target w w' count
 
 -- what the search from the start levels in region 2 leaves, by its answer
-abbrev pub Spread : Graph → ℕ → ℕ → List ℕ → List ℕ → Answer → Type 0
+abbrev pub Spread : Graph → ℕ → ℕ → List ℕ → List ℕ → SpreadAnswer → Type 0
 Spread g limit target w w' r = SpreadFrom g (sources (g .size) limit w) limit target w w' r
 
 -- whatever table the plan was made from, the search from the listed sources leaves what one from that table's start
 -- levels does
-abbrev pub SearchedFromPlan : Graph → ℕ → ℕ → List ℕ → List ℕ → Answer → Type 0
+abbrev pub SearchedFromPlan : Graph → ℕ → ℕ → List ℕ → List ℕ → SpreadAnswer → Type 0
 SearchedFromPlan g limit target w w' r =
     (origin : List ℕ) → Planned (g .size) limit origin w → Spread g limit target origin w' r

@@ -17,7 +17,7 @@ use table::get;
 
 // The answer of a search: the length at which an edge into the target was found, or that there is none, with the
 // number of states reached.
-pub enum Answer {
+pub enum SpreadAnswer {
     Length(usize),
     Nothing(usize),
 }
@@ -31,7 +31,7 @@ pub fn search_planned(
     work: &mut [u16],
     limit: usize,
     target: usize,
-) -> Answer
+) -> SpreadAnswer
     requires { ⌜ Valid (now file) h ⌝ }
     requires { ⌜ limit ≤ h .states ⌝ }
     requires { ⌜ 6 * h .states ≤ length (now work) ⌝ }
@@ -47,7 +47,7 @@ pub fn search_planned(
     'levels: loop {
         if limit <= level {
             let count = tail - queue;
-            return Answer::Nothing(count);
+            return SpreadAnswer::Nothing(count);
         }
         tail = admit(work, n, level, tail);
         let end = tail;
@@ -69,12 +69,12 @@ pub fn search_planned(
         level += 1;
     }
     let length = level + 1;
-    Answer::Length(length)
+    SpreadAnswer::Length(length)
 }
 
 // Searches from the sources whose start levels stand in region 2, level by level below the limit, until the first edge
 // into the target.
-pub fn spread(file: &[u8], h: Header, work: &mut [u16], limit: usize, target: usize) -> Answer
+pub fn spread(file: &[u8], h: Header, work: &mut [u16], limit: usize, target: usize) -> SpreadAnswer
     requires { ⌜ Valid (now file) h ⌝ }
     requires { ⌜ limit ≤ h .states ⌝ }
     requires { ⌜ 6 * h .states ≤ length (now work) ⌝ }

@@ -11,7 +11,7 @@ use Rattle.lasso.specs.Distance.{dist}
 use Rattle.frontier.specs.Regions.{entryOf}
 use Rattle.lasso.specs.Limit.{under}
 use Rattle.walks.specs.Through.{loopLength}
-use Rattle.rounds.specs.Promises.{StartDistances}
+use Rattle.candidates.specs.Promises.{StartDistances}
 use Rattle.starts.specs.LoopStarts.{startLoop}
 use Rattle.starts.proofs.StartLaws.{loopLength-closed, dist-state, startLoop-iff}
 

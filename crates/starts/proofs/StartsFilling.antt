@@ -16,7 +16,7 @@ use Rattle.model.proofs.Laws.{valid-sizes}
 use Rattle.table.specs.Changes.{SameOutside}
 use Rattle.table.proofs.Laws.{sameOutside-refl, sameOutside-widen, sameOutside-trans, sameOutside-set}
 use Rattle.frontier.specs.Regions.{entryOf}
-use Rattle.rounds.specs.Promises.{StartDistances, RoundsReady}
+use Rattle.candidates.specs.Promises.{StartDistances, RoundsReady}
 use Rattle.starts.specs.LoopStarts.{startLoop, StartLoops}
 use Rattle.starts.specs.Flags.{FlagsStarts}
 use Rattle.starts.proofs.StartLaws.{dist-state, startLoop-entered}

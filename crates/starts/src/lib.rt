@@ -9,7 +9,7 @@ ghost use Rattle.model.specs.Values.{Valid};
 ghost use Rattle.model.specs.Model.{graphIn};
 ghost use Rattle.table.specs.Changes.{SameOutside};
 ghost use Rattle.frontier.specs.Regions.{entryOf};
-ghost use Rattle.rounds.specs.Promises.{RoundsReady};
+ghost use Rattle.candidates.specs.Promises.{RoundsReady};
 ghost use Rattle.starts.specs.LoopStarts.{startLoop, StartLoops};
 ghost use Rattle.starts.specs.Flags.{FlagsRow, FlagsStarts};
 use lasso::Transitions;
@@ -17,7 +17,7 @@ use model::Header;
 use model::degree;
 use model::row_part;
 use model::successor;
-use spread::Answer;
+use spread::SpreadAnswer;
 use table::clear;
 use table::get;
 use table::put;
@@ -80,8 +80,8 @@ fn start_loop(file: &[u8], h: Header, work: &mut [u16], length: Transitions, s: 
     }
     let answer = loop_length(file, h, work, s, most + 1 - reached);
     match answer {
-        Answer::Length(transitions) => transitions + 1,
-        Answer::Nothing(_) => 0,
+        SpreadAnswer::Length(transitions) => transitions + 1,
+        SpreadAnswer::Nothing(_) => 0,
     }
 }
 

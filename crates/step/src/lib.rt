@@ -7,14 +7,14 @@ ghost use Rattle.lasso.specs.Values.{recordOf};
 ghost use Rattle.model.specs.Values.{Valid};
 ghost use Rattle.gate.specs.Gate.{workOf};
 ghost use Rattle.step.specs.Step.{stepOutcomeOf, stepOutcome};
-use gate::admit;
+use candidates::count_candidates;
+use candidates::start_distances;
+use gate::enter;
 use gate::leave;
 use lasso::RoundRecord;
 use model::Checked;
 use model::Header;
-use rounds::count_candidates;
 use rounds::next_round;
-use rounds::start_distances;
 
 // The answer of a step: refused with a number, or the record, the same or after one more round.
 pub enum StepAnswer {
@@ -47,7 +47,7 @@ pub fn step(file: &[u8], so_far: RoundRecord, work: &mut [u16]) -> StepAnswer
         ≡ stepOutcome (now (file .entry)) (recordOf «so_far») (length (now (work .entry))) ⌝ }
     ensures work { λ r. ⌜ now (work .exit) ≡ workOf (now (file .entry)) (now (work .entry)) ⌝ }
 {
-    let checked = admit(file, work);
+    let checked = enter(file, work);
     match checked {
         Checked::Refused(number) => StepAnswer::Refused(number),
         Checked::Accept(h) => {

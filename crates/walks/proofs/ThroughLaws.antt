@@ -13,8 +13,8 @@ use Rattle.lasso.proofs.Tests.{T-true}
 use Rattle.lasso.proofs.Least.{IsLeast, isLeast-by}
 use Rattle.lasso.proofs.Walk.{Walk, walk-here, walk-zero, walk-end-state, walk-to}
 use Rattle.lasso.proofs.Distance.{dist-walk, dist-le, dist-below}
-use Rattle.spread.specs.declared.Answer.{Answer}
-use Rattle.spread.specs.declared.Answer.the-variants.{Length, Nothing}
+use Rattle.spread.specs.declared.SpreadAnswer.{SpreadAnswer}
+use Rattle.spread.specs.declared.SpreadAnswer.the-variants.{Length, Nothing}
 use Rattle.frontier.specs.Regions.{entry, valueOf, entryOf}
 use Rattle.lasso.specs.Limit.{under}
 use Rattle.spread.specs.Promises.{ExhaustedFrom, SpreadFrom}
@@ -99,14 +99,14 @@ module _ {g : Graph} {x limit : ℕ} {w w' : List ℕ} (d : DistancesWithin g x 
   viaMark-levels ex = exhausted-levels g limit (markedSources g limit w') (markedDist g x) markedSources-dist ex
 
   -- with a target that is no state its answer is Nothing, and it leaves the least lengths through a mark
-  pub viaMark-nothing : (w'' : List ℕ) → WellFormed g → (r : Answer)
+  pub viaMark-nothing : (w'' : List ℕ) → WellFormed g → (r : SpreadAnswer)
       → SpreadFrom g (markedSources g limit w') limit (g .size) w' w'' r
       → (count : ℕ) × (r ≡ Nothing count) × ((s : ℕ) → s < g .size → under limit (valueOf (entry 2 (g .size) w'' s)) ≡ under limit (viaMark g x s))
   viaMark-nothing w'' wf r sp =
       let n = spread-nothing (markedSources g limit w') wf r sp in (n .0, n .1, viaMark-levels (n .2))
 
   -- with target x its answer is the loop length of x
-  pub loopLength-answer : (w'' : List ℕ) → (r : Answer) → SpreadFrom g (markedSources g limit w') limit x w' w'' r
+  pub loopLength-answer : (w'' : List ℕ) → (r : SpreadAnswer) → SpreadFrom g (markedSources g limit w') limit x w' w'' r
       → LoopLength g x limit r
   loopLength-answer w'' (Length l) found =
       sym (searched-length g limit (markedSources g limit w') (markedDist g x) markedSources-dist x) ∙ found .length

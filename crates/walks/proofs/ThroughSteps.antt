@@ -15,7 +15,7 @@ use Rattle.lasso.specs.Graph.{Graph, WellFormed}
 use Rattle.lasso.proofs.Tests.{lt-or-ge}
 use Rattle.table.specs.Changes.{SameOutside, Cleared}
 use Rattle.table.proofs.Laws.{sameOutside-refl, set-sameOutside, sameOutside-set, sameOutside-trans, sameOutside-widen}
-use Rattle.spread.specs.declared.Answer.{Answer}
+use Rattle.spread.specs.declared.SpreadAnswer.{SpreadAnswer}
 use Rattle.frontier.specs.Regions.{entry, valueOf}
 use Rattle.lasso.specs.Limit.{under}
 use Rattle.frontier.specs.Buckets.{sources}
@@ -201,7 +201,7 @@ started-single l st =
 
 -- a search from one source with a target that is no state leaves the distances up to the limit
 pub started-distances : {g : Graph} {x limit : ℕ} {w u : List ℕ} (w' : List ℕ) → WellFormed g → x < g .size
-    → 1 ≤ limit → (r : Answer) → OneSource (g .size) x w u → Spread g limit (g .size) u w' r
+    → 1 ≤ limit → (r : SpreadAnswer) → OneSource (g .size) x w u → Spread g limit (g .size) u w' r
     → DistancesWithin g x limit w w'
 started-distances {g} {x} {limit} {w} {u} w' wf l p r st sp =
     let ex = spread-nothing (sources (g .size) limit u) wf r sp .2 in
@@ -216,7 +216,7 @@ pick-value true e = refl
 pick-value false e = refl
 
 -- a search from the kept levels is a search from the marked states
-pub kept-spread : {g : Graph} (limit target : ℕ) {w k : List ℕ} (w' : List ℕ) → (r : Answer) → KeptMarked g w k
+pub kept-spread : {g : Graph} (limit target : ℕ) {w k : List ℕ} (w' : List ℕ) → (r : SpreadAnswer) → KeptMarked g w k
     → Spread g limit target k w' r → SpreadFrom g (markedSources g limit w) limit target w w' r
 kept-spread {g} limit target {w} {k} w' r kept sp =
     spread-same g (sources (g .size) limit k) (markedSources g limit w) same limit target w' (region-within (g .size) (kept .outside)) r sp

@@ -8,8 +8,8 @@ use Rattle.lasso.specs.Lists.{pick}
 use Rattle.lasso.specs.Graph.{Graph}
 use Rattle.lasso.specs.Distance.{dist}
 use Rattle.table.specs.Changes.{SameOutside}
-use Rattle.spread.specs.declared.Answer.{Answer}
-use Rattle.spread.specs.declared.Answer.the-variants.{Length, Nothing}
+use Rattle.spread.specs.declared.SpreadAnswer.{SpreadAnswer}
+use Rattle.spread.specs.declared.SpreadAnswer.the-variants.{Length, Nothing}
 use Rattle.frontier.specs.Regions.{entry, valueOf, entryOf}
 use Rattle.lasso.specs.Limit.{under}
 use Rattle.spread.specs.Hit.{hitLevel, hitLength}
@@ -44,11 +44,11 @@ abbrev pub markedSources : Graph → ℕ → List ℕ → ℕ → Option ℕ
 markedSources g limit w q = under limit (onlyIf (g .marked q) (valueOf (entry 2 (g .size) w q)))
 
 -- what a search from the marked states leaves, by its answer
-abbrev pub SpreadFromMarks : Graph → ℕ → ℕ → List ℕ → List ℕ → Answer → Type 0
+abbrev pub SpreadFromMarks : Graph → ℕ → ℕ → List ℕ → List ℕ → SpreadAnswer → Type 0
 SpreadFromMarks g limit target w w' r = SpreadFrom g (markedSources g limit w) limit target w w' r
 
 -- the answer of a search for the loop length of x
-abbrev pub LoopLength : Graph → ℕ → ℕ → Answer → Type 0
+abbrev pub LoopLength : Graph → ℕ → ℕ → SpreadAnswer → Type 0
 LoopLength g x limit (Length l) = under (suc limit) (loopLength g x) ≡ some l
 LoopLength g x limit (Nothing count) = under (suc limit) (loopLength g x) ≡ none
 

@@ -9,7 +9,7 @@ ghost use Rattle.walks.specs.Through.{DistancesWithin, SpreadFromMarks, 
 use frontier::list_source;
 use model::Header;
 use model::is_marked;
-use spread::Answer;
+use spread::SpreadAnswer;
 use spread::search_planned;
 use spread::spread;
 use table::clear;
@@ -61,7 +61,13 @@ pub fn distances(file: &[u8], h: Header, work: &mut [u16], x: usize, limit: usiz
 }
 
 // Searches on from the marked states, at the levels that region 2 holds for them.
-pub fn from_marks(file: &[u8], h: Header, work: &mut [u16], limit: usize, target: usize) -> Answer
+pub fn from_marks(
+    file: &[u8],
+    h: Header,
+    work: &mut [u16],
+    limit: usize,
+    target: usize,
+) -> SpreadAnswer
     requires { ⌜ Valid (now file) h ⌝ }
     requires { ⌜ limit ≤ h .states ⌝ }
     requires { ⌜ 6 * h .states ≤ length (now work) ⌝ }
@@ -73,7 +79,7 @@ pub fn from_marks(file: &[u8], h: Header, work: &mut [u16], limit: usize, target
 }
 
 // The loop length of x, the least length of a closed walk from x through a mark, if it is at most the limit.
-pub fn loop_length(file: &[u8], h: Header, work: &mut [u16], x: usize, limit: usize) -> Answer
+pub fn loop_length(file: &[u8], h: Header, work: &mut [u16], x: usize, limit: usize) -> SpreadAnswer
     requires { ⌜ Valid (now file) h ⌝ }
     requires { ⌜ x < h .states ⌝ }
     requires { ⌜ 1 ≤ limit ⌝ }

@@ -10,9 +10,8 @@ use Rattle.lasso.specs.Rounds.{candidates, bestLength, afterRounds}
 use Rattle.lasso.specs.Values.{bestOf, recordOf}
 use Rattle.model.specs.Model.{graphIn}
 use Rattle.model.proofs.Laws.{valid-well-formed}
-use Rattle.rounds.specs.Promises.{RoundsReady}
-use Rattle.rounds.proofs.TableLaws.{ready-kept}
-use Rattle.cursor.proofs.ReadyLaws.{ready-started}
+use Rattle.candidates.specs.Promises.{RoundsReady}
+use Rattle.candidates.proofs.DistanceLaws.{ready-started, ready-kept}
 use Rattle.cursor.proofs.CursorLaws.{all-rounds}
 use Rattle.cursor.proofs.begin.Statement.{statement}
 use Rattle.cursor.proofs.begin.Tie as tie

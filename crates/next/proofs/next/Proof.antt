@@ -1,5 +1,5 @@
 -- `next` meets its contract: refused by the gate with both tables untouched, else what the operation
--- on the admitted file answers and writes, with the working table cleared.
+-- on the file that passed answers and writes, with the working table cleared.
 use mathlib.Core.Path.{sym}
 use borrow.Author.Needs.{needs}
 use lib.ListN.{length}
@@ -11,18 +11,18 @@ use Rattle.next.proofs.next.Statement.{statement}
 use Rattle.next.proofs.next.Tie as tie
 
 -- the function's start, from the gate
-abbrev start : tie.After-admit → tie.Start
+abbrev start : tie.After-enter → tie.Start
 start c = c .before .before .before .before .before .before
 
--- an admitted file, with its header
-admitted : (c : tie.After-checked2)
+-- the file has passed the gate, with its header
+passed : (c : tie.After-checked2)
     → let a = start (c .before .before) .args in Passed (a .file .now) (length (a .work .now)) (c .checked2 .given .0 .0)
-admitted c =
+passed c =
     let a = start (c .before .before) .args in
-    gate-passed (a .file .now) (length (a .work .now)) (c .before .before .admit .ensures) (c .checked2 .given .1)
+    gate-passed (a .file .now) (length (a .work .now)) (c .before .before .enter .ensures) (c .checked2 .given .1)
 
-admit-requires : tie.Need-admit-requires
-admit-requires c κs = search needs
+enter-requires : tie.Need-enter-requires
+enter-requires c κs = search needs
 
 enum-known-checked : tie.Need-enum-known-checked
 enum-known-checked c = search needs
@@ -31,7 +31,7 @@ enum-known-checked-2 : tie.Need-enum-known-checked-2
 enum-known-checked-2 c = search needs
 
 next-of-model-requires : tie.Need-next-of-model-requires
-next-of-model-requires c κs = let is = admitted (c .before .before .before) in (is .valid, is .room)
+next-of-model-requires c κs = let is = passed (c .before .before .before) in (is .valid, is .room)
 
 leave-requires : tie.Need-leave-requires
 leave-requires c κs = search needs
@@ -44,7 +44,7 @@ returns c =
     let refused = c .before in
     let gated = refused .before .before in
     let a = start gated .args in
-    let broken = gate-refused (a .file .now) (length (a .work .now)) (gated .admit .ensures) (refused .checked .given .1) in
+    let broken = gate-refused (a .file .now) (length (a .work .now)) (gated .enter .ensures) (refused .checked .given .1) in
     let is = next-refused (a .file .now) (a .earlier .now) (length (a .answer .now)) (length (a .work .now)) _ broken in
     (sym (is .outcome-is), (sym (call-answer (a .answer .now) is), work-refused (a .file .now) _ _ broken))
 
@@ -63,7 +63,7 @@ returns-2 c =
       done .next-of-model .ensures .0,
       (
         done .next-of-model .ensures .1 .0,
-        work-left (a .file .now) (a .work .now) (admitted accepted .clear) (done .next-of-model .ensures .1 .1) (left .leave .ensures),
+        work-left (a .file .now) (a .work .now) (passed accepted .clear) (done .next-of-model .ensures .1 .1) (left .leave .ensures),
       ),
     )
 
@@ -71,7 +71,7 @@ pub next-spec : {M : Type 1} → statement M
 next-spec =
     tie.close
     (tie.spec
-    admit-requires
+    enter-requires
     enum-known-checked
     enum-known-checked-2
     next-of-model-requires

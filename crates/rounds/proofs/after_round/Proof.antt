@@ -9,7 +9,7 @@ use Rattle.lasso.specs.Values.{recordOf}
 use Rattle.lasso.proofs.RoundLaws.{candidates-length-le, candidate-at-state}
 use Rattle.model.specs.Model.{graphIn}
 use Rattle.model.proofs.Laws.{valid-sizes, valid-well-formed}
-use Rattle.rounds.proofs.Laws.{limit-le, withRound-limit, roundLength-le}
+use Rattle.rounds.proofs.LimitLaws.{limit-le, withRound-limit, roundLength-le}
 use Rattle.rounds.proofs.after_round.Statement.{statement}
 use Rattle.rounds.proofs.after_round.Tie as tie
 

@@ -9,8 +9,8 @@ use Rattle.model.specs.Model.{graphIn}
 use Rattle.model.proofs.Laws.{valid-sizes}
 use Rattle.table.specs.Changes.{SameOutside}
 use Rattle.table.proofs.Laws.{sameOutside-refl, sameOutside-trans}
-use Rattle.rounds.proofs.TableLaws.{ready-kept}
-use Rattle.rounds.proofs.CandidateLaws.{counted-left, counted-at}
+use Rattle.candidates.proofs.DistanceLaws.{ready-kept}
+use Rattle.candidates.proofs.CandidateLaws.{counted-left, counted-at}
 use Rattle.rounds.proofs.RecordLaws.{Underway, underway-none, underway-yes, underway-no, underway-stopped, underway-all}
 use Rattle.rounds.proofs.run_rounds.Statement.{statement}
 use Rattle.rounds.proofs.run_rounds.Tie as tie

@@ -1,14 +1,13 @@
 -- `sheet` meets its contract: nothing without room for a text; else one line for a file that the gate refuses, or the sheet of
--- an admitted file, with the working table cleared.
-use mathlib.Core.Path.{_≡_, sym, _∙_}
+-- a file that passes, with the working table cleared.
+use mathlib.Core.Path.{_≡_}
 use mathlib.Core.Option.{some}
 use native.Mathlib.Omega.{arith}
 use borrow.Author.Needs.{needs}
 use lib.ListN.{length}
 use Rattle.format.specs.Rules.{firstBroken}
-use Rattle.model.specs.declared.Checked.the-variants.{Refused, Accept}
 use Rattle.gate.specs.Gate.{commonRules, Passed}
-use Rattle.gate.proofs.GateLaws.{gate-says, work-left}
+use Rattle.gate.proofs.GateLaws.{gate-refused, gate-passed, work-left}
 use Rattle.text.proofs.DecimalLaws.{decimal-five}
 use Rattle.text.proofs.FigureLaws.{figure-length}
 use Rattle.sheet.specs.Words.{refusedWord}
@@ -17,10 +16,10 @@ use Rattle.sheet.proofs.sheet.Statement.{statement}
 use Rattle.sheet.proofs.sheet.Tie as tie
 
 -- the function's start, from the gate, and that the text has room
-abbrev roomy : tie.After-admit → tie.Else1
+abbrev roomy : tie.After-enter → tie.Else1
 roomy c = c .before .before
 
-abbrev start : tie.After-admit → tie.Start
+abbrev start : tie.After-enter → tie.Start
 start c = roomy c .before .before .before .before .before
 
 -- the gate's refusal
@@ -29,22 +28,22 @@ broken : (c : tie.After-checked)
     firstBroken (commonRules (a .input .now) (length (a .work .now))) ≡ some (c .checked .given .0 .0)
 broken c =
     let a = start (c .before .before) .args in
-    gate-says (a .input .now) (length (a .work .now)) (Refused _) (sym (c .checked .given .1) ∙ c .before .before .admit .ensures)
+    gate-refused (a .input .now) (length (a .work .now)) (c .before .before .enter .ensures) (c .checked .given .1)
 
--- an admitted file, with its header
-admitted : (c : tie.After-checked2)
+-- the file has passed the gate, with its header
+passed : (c : tie.After-checked2)
     → let a = start (c .before .before) .args in Passed (a .input .now) (length (a .work .now)) (c .checked2 .given .0 .0)
-admitted c =
+passed c =
     let a = start (c .before .before) .args in
-    gate-says (a .input .now) (length (a .work .now)) (Accept _) (sym (c .checked2 .given .1) ∙ c .before .before .admit .ensures)
+    gate-passed (a .input .now) (length (a .work .now)) (c .before .before .enter .ensures) (c .checked2 .given .1)
 
 returns : tie.Need-returns
 returns c =
     let a = c .before .before .before .before .before .args in
     leaves-short (a .input .now) (a .text .now) (a .answer .now) (a .work .now) (c .if1 .taken)
 
-admit-requires : tie.Need-admit-requires
-admit-requires c κs = search needs
+enter-requires : tie.Need-enter-requires
+enter-requires c κs = search needs
 
 enum-known-checked : tie.Need-enum-known-checked
 enum-known-checked c = search needs
@@ -64,7 +63,7 @@ enum-known-checked-2 c = search needs
 sheet-model-requires : tie.Need-sheet-model-requires
 sheet-model-requires c κs =
     let accepted = c .before .before .before .before in
-    let is = admitted accepted in
+    let is = passed accepted in
     (is .valid, (is .room, roomy (accepted .before .before) .if1 .left))
 
 leave-requires : tie.Need-leave-requires
@@ -100,14 +99,14 @@ returns-3 c =
     let a = start (accepted .before .before) .args in
     leaves-sheet (a .input .now) (a .text .now) (a .answer .now) (a .work .now) (roomy (accepted .before .before) .if1 .left)
     (done .sheet-model .ensures .0) (done .sheet-model .ensures .1 .0)
-    (work-left (a .input .now) (a .work .now) (admitted accepted .clear) (done .sheet-model .ensures .1 .1) (left .leave .ensures))
+    (work-left (a .input .now) (a .work .now) (passed accepted .clear) (done .sheet-model .ensures .1 .1) (left .leave .ensures))
 
 pub sheet-spec : {M : Type 1} → statement M
 sheet-spec =
     tie.close
     (tie.spec
     returns
-    admit-requires
+    enter-requires
     enum-known-checked
     cast-write-refusal
     write-refusal-requires

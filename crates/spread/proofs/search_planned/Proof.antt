@@ -15,7 +15,7 @@ use Rattle.frontier.specs.Regions.{entry, queued}
 use Rattle.frontier.specs.Buckets.{Planned, HasPlan}
 use Rattle.frontier.specs.Search.{State}
 use Rattle.frontier.proofs.PushLaws.{queue-room}
-use Rattle.spread.proofs.RowLaws.{Row, queued-entry, planned-state, row-start, row-inside, row-hit, row-step, row-done, level-done}
+use Rattle.spread.proofs.RowLaws.{InRow, queued-entry, planned-state, row-start, row-inside, row-hit, row-step, row-done, level-done}
 use Rattle.spread.proofs.EndLaws.{found, exhausted}
 use Rattle.spread.proofs.search_planned.Statement.{statement}
 use Rattle.spread.proofs.search_planned.Tie as tie
@@ -23,8 +23,8 @@ use Rattle.spread.proofs.search_planned.Tie as tie
 abbrev Inv-loop2 : tie.InvT-loop2
 Inv-loop2 file h work₀ limit target n queue level at tail₀ end s part d k₀ work tail k =
     (tail₀ ≤ tail) ×
-    ((w : List ℕ) → Row n (graphIn file h .succs) limit target w (level + 1) (queued n at) (queued n end) (queued n tail₀) s k₀ work₀ →
-    Row n (graphIn file h .succs) limit target w (level + 1) (queued n at) (queued n end) (queued n tail) s k work)
+    ((w : List ℕ) → InRow n (graphIn file h .succs) limit target w (level + 1) (queued n at) (queued n end) (queued n tail₀) s k₀ work₀ →
+    InRow n (graphIn file h .succs) limit target w (level + 1) (queued n at) (queued n end) (queued n tail) s k work)
 
 abbrev μ-loop2 : tie.MeasureT-loop2
 μ-loop2 file h work₀ limit target n queue level at tail₀ end s part d k₀ work tail k = d - k
@@ -168,7 +168,7 @@ row-first : (c : After-get) →
     let q = c .before .before .before in
     let a = start (level-of q) .args in
     (w : List ℕ) → State (a .h .states) (graph (start (level-of q)) .succs) (a .limit) (a .target) w (level-of q .levels .level + 1) (queued (a .h .states) (q .loop .at)) (queued (a .h .states) (end-of q)) (queued (a .h .states) (q .loop .tail)) (q .loop .work) →
-    Row (a .h .states) (graph (start (level-of q)) .succs) (a .limit) (a .target) w (level-of q .levels .level + 1) (queued (a .h .states) (q .loop .at)) (queued (a .h .states) (end-of q)) (queued (a .h .states) (q .loop .tail)) (c .get .result) 0 (q .loop .work)
+    InRow (a .h .states) (graph (start (level-of q)) .succs) (a .limit) (a .target) w (level-of q .levels .level + 1) (queued (a .h .states) (q .loop .at)) (queued (a .h .states) (end-of q)) (queued (a .h .states) (q .loop .tail)) (c .get .result) 0 (q .loop .work)
 row-first c w S = row-start (omega (arith, queue-places (c .before .before .before) .0)) (queue-told c) S
 
 -- the search at a successor's turn
@@ -176,13 +176,13 @@ row-from : (c : At-loop2) (w : List ℕ) →
     let a = row-entry c .args in
     let l = c .loop2 in
     Planned (a .h .states) (a .limit) w (a .work .now) →
-    Row (a .h .states) (graph (row-entry c) .succs) (a .limit) (a .target) w (level-of (queue-of c) .levels .level + 1) (queued (a .h .states) (queue-of c .loop .at)) (queued (a .h .states) (end-of (queue-of c))) (queued (a .h .states) (l .tail)) (row-s c) (l .k) (l .work)
+    InRow (a .h .states) (graph (row-entry c) .succs) (a .limit) (a .target) w (level-of (queue-of c) .levels .level + 1) (queued (a .h .states) (queue-of c .loop .at)) (queued (a .h .states) (end-of (queue-of c))) (queued (a .h .states) (l .tail)) (row-s c) (l .k) (l .work)
 row-from c w P = c .loop2 .inv .1 w (row-first (c .before .before .before) w (queue-from (queue-of c) w P))
 
 row-state : (c : At-loop2) →
     let a = row-entry c .args in
     let l = c .loop2 in
-    Row (a .h .states) (graph (row-entry c) .succs) (a .limit) (a .target) (plan (row-entry c) .origin) (level-of (queue-of c) .levels .level + 1) (queued (a .h .states) (queue-of c .loop .at)) (queued (a .h .states) (end-of (queue-of c))) (queued (a .h .states) (l .tail)) (row-s c) (l .k) (l .work)
+    InRow (a .h .states) (graph (row-entry c) .succs) (a .limit) (a .target) (plan (row-entry c) .origin) (level-of (queue-of c) .levels .level + 1) (queued (a .h .states) (queue-of c .loop .at)) (queued (a .h .states) (end-of (queue-of c))) (queued (a .h .states) (l .tail)) (row-s c) (l .k) (l .work)
 row-state c = row-from c (plan (row-entry c) .origin) (plan (row-entry c) .planned)
 
 -- the queue's end at a successor's turn

@@ -10,7 +10,7 @@ use Rattle.model.specs.Model.{graphIn}
 use Rattle.model.proofs.Laws.{valid-sizes, valid-well-formed}
 use Rattle.table.specs.Changes.{SameOutside}
 use Rattle.table.proofs.Laws.{sameOutside-widen, sameOutside-trans}
-use Rattle.rounds.specs.Promises.{RoundsReady}
+use Rattle.candidates.specs.Promises.{RoundsReady}
 use Rattle.starts.proofs.StartsFilling.{Filling, flags-start, filling-put, filling-pass, filling-done, ready-same}
 use Rattle.starts.proofs.prepare.Statement.{statement}
 use Rattle.starts.proofs.prepare.Tie as tie

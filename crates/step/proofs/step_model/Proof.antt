@@ -11,7 +11,7 @@ use Rattle.lasso.specs.Values.{recordOf}
 use Rattle.model.specs.Model.{graphIn}
 use Rattle.model.proofs.Laws.{valid-graph}
 use Rattle.gate.proofs.GateLaws.{valid-clear}
-use Rattle.cursor.proofs.ReadyLaws.{ready-started}
+use Rattle.candidates.proofs.DistanceLaws.{ready-started}
 use Rattle.step.proofs.StepLaws.{step-finished, step-advanced}
 use Rattle.step.proofs.step_model.Statement.{statement}
 use Rattle.step.proofs.step_model.Tie as tie

@@ -25,12 +25,12 @@ abbrev μ-loop : tie.MeasureT-loop
 μ-loop file n m base e₀ e = m - e
 
 -- the target that a turn of the loop reads
-target-read : (c : tie.After-entry Inv-loop μ-loop) →
+target-read : (c : tie.After-entry-at Inv-loop μ-loop) →
     let start = c .before .before .before .before .before in
-    c .entry .result ≡ target (now (start .args .file)) (c .before .before .loop .e)
+    c .entry-at .result ≡ target (now (start .args .file)) (c .before .before .loop .e)
 target-read c =
     let base = c .before .before .before in
-    rw (base .edges-at .ensures, base .before .before .pre .states-are) at (c .entry .ensures .0)
+    rw (base .edges-at .ensures, base .before .before .pre .states-are) at (c .entry-at .ensures .0)
 
 edges-at-requires : tie.Need-edges-at-requires Inv-loop μ-loop
 edges-at-requires c κs = search needs
@@ -38,8 +38,8 @@ edges-at-requires c κs = search needs
 loop-holds : tie.Need-loop-holds Inv-loop μ-loop
 loop-holds c = rw (c .before .before .pre .edges-are) (left-below (outside (now (c .before .before .args .file))) _)
 
-entry-requires : tie.Need-entry-requires Inv-loop μ-loop
-entry-requires c κs = search needs
+entry-at-requires : tie.Need-entry-at-requires Inv-loop μ-loop
+entry-at-requires c κs = search needs
 
 returns : tie.Need-returns Inv-loop μ-loop
 returns c =
@@ -72,7 +72,7 @@ targets-broken-spec =
     μ-loop
     edges-at-requires
     loop-holds
-    entry-requires
+    entry-at-requires
     returns
     add-e
     loop-less

@@ -12,7 +12,7 @@ use Rattle.follow.specs.Follow.{Decides, upTo}
 use Rattle.listing.proofs.PlacesExtend.{extends-path}
 use Rattle.listing.proofs.PlacesFollower.{Tried, tried-none, tried-more, tried-found, some-successor, tried-last}
 use Rattle.listing.proofs.PlacesTable.{length-fits}
-use Rattle.listing.proofs.PlacesRow.{Row, read-row, test-asks, test-answers}
+use Rattle.listing.proofs.PlacesRow.{StateRead, read-row, test-asks, test-answers}
 use Rattle.listing.proofs.places.first_follower.Statement.{statement}
 use Rattle.listing.proofs.places.first_follower.Tie as tie
 
@@ -25,7 +25,7 @@ abbrev μ-loop : tie.MeasureT-loop
 
 -- the last state of the list, once it was read
 row : (c : tie.After-list-at Inv-loop μ-loop)
-    → let a = c .before .before .before .before .args in Row (a .file .now) (a .h) (a .work .now) (a .length .0) (a .place) (c .list-at .result)
+    → let a = c .before .before .before .before .args in StateRead (a .file .now) (a .h) (a .work .now) (a .length .0) (a .place) (c .list-at .result)
 row c =
     let p = c .before .before .before .before .pre in
     let a = c .before .before .before .before .args in

@@ -4,7 +4,7 @@ use mathlib.Core.Path.{_≡_, refl, sym, _∙_, ap}
 use mathlib.Core.List.{List}
 use Prim.Native.Nat.{ℕ, _+_, _-_, _≤_}
 use lib.ListN.{length, take}
-use Rattle.player.proofs.CopyLaws.{copied-more, nothing-got, something-got}
+use Rattle.player.proofs.CopyLaws.{entry-copied, nothing-got, something-got}
 use Rattle.player.proofs.copying.receive.Statement.{statement}
 use Rattle.player.proofs.copying.receive.Tie as tie
 
@@ -40,7 +40,7 @@ loop-again c =
     let got = stored .before .before in
     let at = got .before .before in
     let a = at .before .before .before .before .args in
-    let more = copied-more (a .answer .now) (at .loop .copy) (at .loop .i) (got .get .result) (got .get .ensures .0) (omega arith) (omega arith) (at .loop .inv .2) in
+    let more = entry-copied (a .answer .now) (at .loop .copy) (at .loop .i) (got .get .result) (got .get .ensures .0) (omega arith) (omega arith) (at .loop .inv .2) in
     (omega arith, ap length (stored .put .ensures) ∙ more .0 ∙ at .loop .inv .1, ap (λ (t : List ℕ). take (at .loop .i + 1) t) (stored .put .ensures) ∙ more .1)
 
 same-length : tie.Need-same-length Inv-loop μ-loop

@@ -1,10 +1,10 @@
--- `rounds::add_start_distances` meets its contract. The loop's invariant: the sums for the first s states are added.
+-- `round::add_start_distances` meets its contract. The loop's invariant: the sums for the first s states are added.
 use Prim.Native.Nat.{_-_, _≤_}
 use native.Mathlib.Omega.{arith}
 use Rattle.table.proofs.Laws.{sameOutside-widen}
-use Rattle.rounds.proofs.TableLaws.{Added, added-none, added-fits, added-more}
-use Rattle.rounds.proofs.add_start_distances.Statement.{statement}
-use Rattle.rounds.proofs.add_start_distances.Tie as tie
+use Rattle.round.proofs.TableLaws.{Added, added-none, added-fits, added-more}
+use Rattle.round.proofs.add_start_distances.Statement.{statement}
+use Rattle.round.proofs.add_start_distances.Tie as tie
 
 abbrev Inv-loop : tie.InvT-loop
 Inv-loop work₀ n s₀ work s = (s ≤ n) × Added n s work₀ work

@@ -1,4 +1,4 @@
--- `admit` meets its contract: the check's refusal, 12, or the header.
+-- `enter` meets its contract: the check's refusal, 12, or the header.
 use mathlib.Core.Path.{sym, _∙_, ap}
 use mathlib.Core.Option.{Option}
 use Prim.Native.Nat.{ℕ}
@@ -9,8 +9,8 @@ use Rattle.model.specs.declared.Checked.the-variants.{Accept}
 use Rattle.model.specs.Values.{Valid, answerOf}
 use Rattle.model.proofs.Laws.{valid-sizes}
 use Rattle.gate.proofs.GateLaws.{check-refused, check-valid, common-refused, valid-small, valid-clear}
-use Rattle.gate.proofs.admit.Statement.{statement}
-use Rattle.gate.proofs.admit.Tie as tie
+use Rattle.gate.proofs.enter.Statement.{statement}
+use Rattle.gate.proofs.enter.Tie as tie
 
 -- the function's start, from where the file is checked
 abbrev start : tie.After-check → tie.Start
@@ -52,7 +52,7 @@ returns-3 c =
     ap Accept (valid accepted .header)
     ∙ sym (ap (λ (o : Option ℕ). answerOf o (a .file .now)) (valid-clear (valid accepted) (length (a .work .now)) (omega (arith, c .if1 .left))))
 
-pub admit-spec : {M : Type 1} → statement M
-admit-spec =
+pub enter-spec : {M : Type 1} → statement M
+enter-spec =
     tie.close
     (tie.spec check-requires enum-told enum-known-checked mul-if1 returns returns-2 returns-3)

@@ -1,9 +1,9 @@
--- `rounds::sum_entry` meets its contract: by cases, with one case per answer.
+-- `round::sum_entry` meets its contract: by cases, with one case per answer.
 use borrow.Author.Needs.{needs}
 use native.Mathlib.Omega.{arith}
-use Rattle.rounds.proofs.Laws.{sum-entry, sum-entry-none}
-use Rattle.rounds.proofs.sum_entry.Statement.{statement}
-use Rattle.rounds.proofs.sum_entry.Tie as tie
+use Rattle.round.proofs.Laws.{sum-entry, sum-entry-none}
+use Rattle.round.proofs.sum_entry.Statement.{statement}
+use Rattle.round.proofs.sum_entry.Tie as tie
 
 returns : tie.Need-returns
 returns c = search needs

@@ -1,14 +1,14 @@
--- `rounds::round` meets its contract: the start levels of its search are the sums of the distances from the start and
+-- `round::round` meets its contract: the start levels of its search are the sums of the distances from the start and
 -- from r, so the search finds the round's length.
 use mathlib.Core.Path.{_≡_, sym}
 use borrow.Author.Needs.{needs}
 use native.Mathlib.Omega.{arith}
 use Rattle.model.proofs.Laws.{valid-sizes, valid-well-formed}
 use Rattle.table.proofs.Laws.{sameOutside-refl}
-use Rattle.rounds.proofs.Laws.{round-none}
-use Rattle.rounds.proofs.TableLaws.{found-le, round-fits, round-some, round-nothing, round-outside}
-use Rattle.rounds.proofs.round.Statement.{statement}
-use Rattle.rounds.proofs.round.Tie as tie
+use Rattle.round.proofs.Laws.{round-none}
+use Rattle.round.proofs.TableLaws.{found-le, round-fits, round-some, round-nothing, round-outside}
+use Rattle.round.proofs.round.Statement.{statement}
+use Rattle.round.proofs.round.Tie as tie
 
 -- the place where the distances from r are found, seen from the place after the search
 abbrev found-at : tie.After-spread → tie.After-distances

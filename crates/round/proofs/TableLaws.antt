@@ -1,24 +1,21 @@
--- Laws of the working table during a round: the distances from the start in region 0, what they say about candidates,
--- and the start levels in region 2.
+-- Laws of the working table during a round: the distances from the start in region 0, and the start levels in region 2.
 use Prim.Native.Nat.{ℕ, suc, _+_, _*_, _≤_, _<_}
-use mathlib.Core.Path.{_≡_, refl, sym, _∙_, ap, ap₂}
+use mathlib.Core.Path.{_≡_, sym, _∙_, ap, ap₂}
 use mathlib.Core.Logic.{inl, inr}
-use mathlib.Core.Bool.{Bool, true, false, _&&_}
 use mathlib.Core.List.{List}
 use mathlib.Core.Option.{Option, some, none}
 use native.Mathlib.Omega.{arith}
 use lib.ListN.{length, getD, set}
 use lib.Seq.{getD-set-same, getD-set-other}
-use Rattle.lasso.specs.Lists.{isSome}
 use Rattle.lasso.specs.Graph.{Graph}
 use Rattle.lasso.specs.Distance.{dist}
-use Rattle.lasso.specs.Rounds.{candidateb, sum, roundLength}
+use Rattle.lasso.specs.Rounds.{sum, roundLength}
 use Rattle.lasso.proofs.Tests.{lt-or-ge}
 use Rattle.lasso.proofs.Distance.{dist-below}
 use Rattle.model.specs.declared.Header.{Header}
 use Rattle.model.specs.Model.{graphIn}
 use Rattle.model.proofs.Laws.{valid-sizes}
-use Rattle.table.specs.Changes.{SameOutside, Copied}
+use Rattle.table.specs.Changes.{SameOutside}
 use Rattle.table.proofs.Laws.{sameOutside-refl, sameOutside-widen, sameOutside-trans, sameOutside-set}
 use Rattle.frontier.specs.Regions.{entry, entryOf, valueOf}
 use Rattle.lasso.specs.Limit.{under}
@@ -26,86 +23,11 @@ use Rattle.spread.specs.Hit.{hitLength}
 use Rattle.walks.specs.Through.{DistancesWithin}
 use Rattle.spread.specs.Promises.{FoundFrom, ExhaustedFrom}
 use Rattle.frontier.specs.Buckets.{sources}
-use Rattle.lasso.proofs.UnderLaws.{under-all, under-some}
-use Rattle.rounds.specs.Promises.{StartDistances, StartDistancesPut, RoundsReady, SumsFit, SumsPut}
-use Rattle.rounds.proofs.Laws.{valueOf-entryOf, entryOf-le, under-sum, round-found}
-
--- an entry of region 0 stands at the state's own place
-entry-zero : (n : ℕ) (w : List ℕ) (s : ℕ) → entry 0 n w s ≡ getD w s 0
-entry-zero n w s = let e : 0 * n + s ≡ s = omega arith in ap (λ (i : ℕ). getD w i 0) e
-
--- the distances from the start, found in region 2 and copied to region 0
-pub started : {g : Graph} {n x : ℕ} {w w₁ w' : List ℕ} → n ≡ g .size → x ≡ g .start
-    → DistancesWithin g x n w w₁ → Copied (2 * n) 0 n w₁ w' → StartDistancesPut g w w'
-started {g} {n} {x} {w} {w₁} {w'} en ex found copied =
-    record {
-      same-length = copied .others .same-length ∙ found .outside .same-length;
-      start-distances = record { distances = at };
-      same-loops = λ i p q. copied .others .same-after i (omega arith) ∙ found .outside .same-before i (omega arith);
-      same-after = λ i p. copied .others .same-after i (omega arith) ∙ found .outside .same-after i (omega arith);
-    }
-  where
-    at : (t : ℕ) → t < g .size → entry 0 (g .size) w' t ≡ entryOf (dist g (g .start) t)
-    at t l =
-        let d : DistancesWithin g (g .start) (g .size) w w₁ = rw (en, ex) at found in
-        let all : under (suc (g .size)) (dist g (g .start) t) ≡ dist g (g .start) t =
-        under-all (suc (g .size)) (dist g (g .start) t) (λ k e. omega (arith, dist-below g (g .start) t k e)) in
-        let c : Copied (2 * g .size) 0 (g .size) w₁ w' = rw en at copied in
-        let q : 0 * g .size + t ≡ 0 + t = omega arith in
-        ap (λ (i : ℕ). getD w' i 0) q ∙ c .copies t l ∙ d .distances t l ∙ ap entryOf all
-
--- the entry of region 0 for a state is that of its distance from the start
-start-entry : {g : Graph} {w : List ℕ} → StartDistances g w → (s : ℕ) → s < g .size
-    → getD w s 0 ≡ entryOf (dist g (g .start) s)
-start-entry {g} {w} d s l = sym (entry-zero (g .size) w s) ∙ d .distances s l
-
--- there is a value if its entry is not zero
-isSome-entry : (a : Option ℕ) → 0 < entryOf a → isSome a ≡ true
-isSome-entry none h = absurd (omega arith)
-isSome-entry (some v) h = refl
-
--- there is no value if its entry is zero
-none-entry : (a : Option ℕ) → entryOf a ≡ 0 → isSome a ≡ false
-none-entry none e = refl
-none-entry (some v) e = absurd (omega arith)
-
--- a conjunction with true is its first part
-and-true : (a : Bool) → a && true ≡ a
-and-true true = refl
-and-true false = refl
-
--- a conjunction with false is false
-and-false : (a : Bool) → a && false ≡ false
-and-false true = refl
-and-false false = refl
-
--- a state that is not reached from the start is no candidate
-pub candidate-unreached : {g : Graph} {w : List ℕ} → StartDistances g w → (s : ℕ) → s < g .size
-    → getD w s 0 ≡ 0 → candidateb g s ≡ false
-candidate-unreached {g} d s l e =
-    ap (λ (b : Bool). g .marked s && b) (none-entry (dist g (g .start) s) (sym (start-entry d s l) ∙ e))
-    ∙ and-false (g .marked s)
-
--- a state that is reached from the start is a candidate if it is marked
-pub candidate-reached : {g : Graph} {w : List ℕ} → StartDistances g w → (s : ℕ) → s < g .size
-    → 0 < getD w s 0 → candidateb g s ≡ g .marked s
-candidate-reached {g} d s l p =
-    ap (λ (b : Bool). g .marked s && b) (isSome-entry (dist g (g .start) s) (omega (arith, start-entry d s l)))
-    ∙ and-true (g .marked s)
-
--- a change inside regions 2 to 5 leaves the table ready
-pub ready-kept : {f : List ℕ} {h : Header} {w w' : List ℕ} → RoundsReady f h w
-    → SameOutside (2 * h .states) (6 * h .states) w w' → RoundsReady f h w'
-ready-kept {f} {h} {w} {w'} ready same =
-    let sizes = valid-sizes (ready .valid) in
-    record {
-      valid = ready .valid;
-      room = omega (arith, ready .room, same .same-length);
-      start-distances = record {
-        distances = λ t l.
-            same .same-before (0 * graphIn f h .size + t) (omega arith) ∙ ready .start-distances .distances t l;
-      };
-    }
+use Rattle.lasso.proofs.UnderLaws.{under-some}
+use Rattle.candidates.specs.Promises.{RoundsReady}
+use Rattle.candidates.proofs.DistanceLaws.{entry-zero}
+use Rattle.round.specs.Promises.{SumsFit, SumsPut}
+use Rattle.round.proofs.Laws.{valueOf-entryOf, entryOf-le, under-sum, round-found}
 
 -- after the distances from r are found, region 0 holds those from the start
 ready-start : {f : List ℕ} {h : Header} {w w₁ : List ℕ} {r limit : ℕ} → RoundsReady f h w

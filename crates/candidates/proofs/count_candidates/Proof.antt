@@ -1,4 +1,4 @@
--- `rounds::count_candidates` meets its contract. The loop's invariant: `count` candidates are below s.
+-- `candidates::count_candidates` meets its contract. The loop's invariant: `count` candidates are below s.
 use Prim.Native.Nat.{_-_, _≤_, _<_}
 use mathlib.Core.Path.{sym, _∙_}
 use mathlib.Core.Logic.{⊎-elim}
@@ -6,9 +6,9 @@ use borrow.Author.Needs.{needs}
 use native.Mathlib.Omega.{arith}
 use Rattle.model.specs.Model.{graphIn}
 use Rattle.model.proofs.Laws.{valid-sizes}
-use Rattle.rounds.proofs.CandidateLaws.{Counted, counted-none, counted-yes, counted-no, counted-all}
-use Rattle.rounds.proofs.count_candidates.Statement.{statement}
-use Rattle.rounds.proofs.count_candidates.Tie as tie
+use Rattle.candidates.proofs.CandidateLaws.{Counted, counted-none, counted-yes, counted-no, counted-all}
+use Rattle.candidates.proofs.count_candidates.Statement.{statement}
+use Rattle.candidates.proofs.count_candidates.Tie as tie
 
 abbrev Inv-loop : tie.InvT-loop
 Inv-loop file h work states count₀ s₀ count s =

@@ -1,5 +1,5 @@
--- `rounds::candidate_at` meets its contract. The loop's invariant: `before` candidates are below s, and no more than the
--- place asked for; so the candidate at that place is to come.
+-- `candidates::candidate_at` meets its contract. The loop's invariant: `before` candidates are below s, and no more than
+-- the place asked for; so the candidate at that place is to come.
 use Prim.Native.Nat.{ℕ, _-_, _≤_, _<_}
 use mathlib.Core.Path.{sym, _∙_, ap}
 use mathlib.Core.Logic.{⊎-elim}
@@ -8,9 +8,9 @@ use lib.ListN.{getD}
 use Rattle.lasso.specs.Rounds.{candidates}
 use Rattle.model.specs.Model.{graphIn}
 use Rattle.model.proofs.Laws.{valid-sizes}
-use Rattle.rounds.proofs.CandidateLaws.{Counted, counted-none, counted-yes, counted-no, counted-at, counted-inside}
-use Rattle.rounds.proofs.candidate_at.Statement.{statement}
-use Rattle.rounds.proofs.candidate_at.Tie as tie
+use Rattle.candidates.proofs.CandidateLaws.{Counted, counted-none, counted-yes, counted-no, counted-at, counted-inside}
+use Rattle.candidates.proofs.candidate_at.Statement.{statement}
+use Rattle.candidates.proofs.candidate_at.Tie as tie
 
 abbrev Inv-loop : tie.InvT-loop
 Inv-loop file h work place before₀ s₀ before s = (before ≤ place) × (before ≤ s) × Counted (graphIn file h) before s

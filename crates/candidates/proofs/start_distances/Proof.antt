@@ -1,11 +1,11 @@
--- `rounds::start_distances` meets its contract: the distances found in region 2 are copied to region 0.
+-- `candidates::start_distances` meets its contract: the distances found in region 2 are copied to region 0.
 use borrow.Author.Needs.{needs}
 use mathlib.Core.Path.{refl}
 use native.Mathlib.Omega.{arith}
 use Rattle.model.proofs.Laws.{valid-sizes}
-use Rattle.rounds.proofs.TableLaws.{started}
-use Rattle.rounds.proofs.start_distances.Statement.{statement}
-use Rattle.rounds.proofs.start_distances.Tie as tie
+use Rattle.candidates.proofs.DistanceLaws.{started}
+use Rattle.candidates.proofs.start_distances.Statement.{statement}
+use Rattle.candidates.proofs.start_distances.Tie as tie
 
 distances-requires : tie.Need-distances-requires
 distances-requires c κs =

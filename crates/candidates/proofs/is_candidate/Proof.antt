@@ -1,11 +1,12 @@
--- `rounds::is_candidate` meets its contract: region 0 says whether the state is reached, the file whether it is marked.
+-- `candidates::is_candidate` meets its contract: region 0 says whether the state is reached, the file whether it is
+-- marked.
 use borrow.Author.Needs.{needs}
 use native.Mathlib.Omega.{arith}
 use mathlib.Core.Path.{sym, _∙_}
 use Rattle.model.proofs.Laws.{valid-sizes}
-use Rattle.rounds.proofs.TableLaws.{candidate-unreached, candidate-reached}
-use Rattle.rounds.proofs.is_candidate.Statement.{statement}
-use Rattle.rounds.proofs.is_candidate.Tie as tie
+use Rattle.candidates.proofs.DistanceLaws.{candidate-unreached, candidate-reached}
+use Rattle.candidates.proofs.is_candidate.Statement.{statement}
+use Rattle.candidates.proofs.is_candidate.Tie as tie
 
 get-requires : tie.Need-get-requires
 get-requires c κs = search needs

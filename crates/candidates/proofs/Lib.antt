@@ -1,0 +1,3 @@
+-- The laws of the distances from the start and of candidates.
+pub mod DistanceLaws
+pub mod CandidateLaws

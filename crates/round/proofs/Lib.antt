@@ -1,0 +1,3 @@
+-- The laws of one round.
+pub mod Laws
+pub mod TableLaws
