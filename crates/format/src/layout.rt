@@ -1,9 +1,10 @@
-// Where the tables of a model file stand, by its numbers of states and edges. Each function is named as its definition
-// in specs/Layout.antt.
+// Where the tables of a model file stand, by its numbers of states and edges, and the part of a row. Each function of the
+// numbers is named as its definition in specs/Layout.antt.
 ghost use mathlib.Core.Path.{_≡_};
 ghost use Prim.Native.Nat.{_+_, _*_, _≤_, _<_};
 ghost use lib.ListN.{length};
-ghost use Rattle.format.specs.Layout.{rowsAt, edgesAt, marksAt, markBytes, totalOf, rowEntry};
+ghost use Rattle.format.specs.Bytes.{words};
+ghost use Rattle.format.specs.Layout.{states, rowsAt, edgesAt, marksAt, markBytes, totalOf, rowEntry, rowTargets};
 use crate::bytes::entry_at;
 
 // The offset of the row table.
@@ -47,4 +48,19 @@ pub fn row_entry(file: &[u8], s: usize) -> usize
     ensures { λ r. ⌜ (r ≡ rowEntry (now (file .entry)) s) × (r < 65536) ⌝ }
 {
     entry_at(file, ROWS_AT, s)
+}
+
+// The part of the file that holds the targets of row s, in a file of n states whose entries s and s + 1 are in order
+// and within the edge table.
+pub fn row(file: &[u8], n: usize, s: usize) -> &[u8]
+    requires { ⌜ (n ≡ states (now file)) × (n ≤ 4096) ⌝ }
+    requires { ⌜ s < n ⌝ }
+    requires { ⌜ rowEntry (now file) s ≤ rowEntry (now file) (s + 1) ⌝ }
+    requires { ⌜ edgesAt n + 2 * rowEntry (now file) (s + 1) ≤ length (now file) ⌝ }
+    ensures { λ r. ⌜ words (now r) ≡ rowTargets (now (file .entry)) s ⌝ }
+{
+    let base = edges_at(n);
+    let from = base + 2 * row_entry(file, s);
+    let to = base + 2 * row_entry(file, s + 1);
+    &file[from..to]
 }

@@ -1,16 +1,14 @@
-// The bytes of a model file: its numbers, where its tables stand, and the rules 6 and 8 to 11 as tests of those tables.
+// The bytes of a model file: its numbers, where its tables stand, and the part of a row.
 mod bytes;
 mod layout;
-mod tables;
 
 pub use bytes::bit;
+pub use bytes::entry_at;
 pub use bytes::long;
 pub use bytes::word;
+pub use layout::edges_at;
+pub use layout::mark_bytes;
 pub use layout::marks_at;
+pub use layout::row;
+pub use layout::row_entry;
 pub use layout::total_of;
-pub use tables::offsets_broken;
-pub use tables::order_broken;
-pub use tables::row;
-pub use tables::rows_broken;
-pub use tables::spare_set;
-pub use tables::targets_broken;

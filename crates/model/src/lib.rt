@@ -11,14 +11,14 @@ ghost use Rattle.model.specs.Values.{Valid, headerOf, checkWith, checkOf
 use format::bit;
 use format::long;
 use format::marks_at;
-use format::offsets_broken;
-use format::order_broken;
 use format::row;
-use format::rows_broken;
-use format::spare_set;
-use format::targets_broken;
 use format::total_of;
 use format::word;
+use rules::offsets_broken;
+use rules::order_broken;
+use rules::rows_broken;
+use rules::spare_set;
+use rules::targets_broken;
 
 // The fields of an accepted file that its readers need.
 pub struct Header {

@@ -1,4 +1,4 @@
--- `tables::ascends` meets its contract: the numbers from place k on decide whether all ascend.
+-- `ascends` meets its contract: the numbers from place k on decide whether all ascend.
 use borrow.Author.Needs.{needs}
 use native.Mathlib.Omega.{arith}
 use Prim.Native.Nat.{_-_, _≤_}
@@ -6,10 +6,10 @@ use mathlib.Core.Path.{_≡_, refl, sym, _∙_}
 use denote.Ref.{now}
 use lib.ListN.{drop}
 use Rattle.lasso.specs.Graph.{ascendingb}
 use Rattle.format.specs.Bytes.{words}
 use Rattle.format.proofs.Words.{words-length, ascending-end, part-rises, part-falls}
-use Rattle.format.proofs.tables.ascends.Statement.{statement}
-use Rattle.format.proofs.tables.ascends.Tie as tie
+use Rattle.rules.proofs.ascends.Statement.{statement}
+use Rattle.rules.proofs.ascends.Tie as tie
 
 abbrev Inv-loop : tie.InvT-loop
 Inv-loop part count k₀ k = (k ≤ count) × (ascendingb (words part) ≡ ascendingb (drop k (words part)))

@@ -1,4 +1,4 @@
--- `tables::order_broken` meets its contract: the rows from s on decide whether the targets of one do not ascend.
+-- `order_broken` meets its contract: the rows from s on decide whether the targets of one do not ascend.
 use borrow.Author.Needs.{needs}
 use native.Mathlib.Omega.{arith}
 use Prim.Native.Nat.{ℕ, _-_}
@@ -8,12 +8,12 @@ use mathlib.Core.List.{List}
 use denote.Ref.{now}
 use lib.Dec.{T}
 use Rattle.lasso.specs.Graph.{ascendingb}
 use Rattle.format.specs.Layout.{rowTargets}
 use Rattle.format.specs.Rules.{badRows, badOrder}
 use Rattle.format.proofs.Kept.{rows-ascend-kept, row-last-kept, row-end-within}
-use Rattle.format.proofs.Range.{Left, left-below, left-found, left-next, left-none}
-use Rattle.format.proofs.tables.order_broken.Statement.{statement}
-use Rattle.format.proofs.tables.order_broken.Tie as tie
+use Rattle.rules.proofs.Range.{Left, left-below, left-found, left-next, left-none}
+use Rattle.rules.proofs.order_broken.Statement.{statement}
+use Rattle.rules.proofs.order_broken.Tie as tie
 
 -- the targets of row s do not ascend strictly
 abbrev unordered : List ℕ → ℕ → Bool

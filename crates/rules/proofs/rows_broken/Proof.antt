@@ -1,4 +1,4 @@
--- `tables::rows_broken` meets its contract: the row entries from s on decide whether one is less than the one before.
+-- `rows_broken` meets its contract: the row entries from s on decide whether one is less than the one before.
 use borrow.Author.Needs.{needs}
 use native.Mathlib.Omega.{arith}
 use Prim.Native.Nat.{ℕ, _+_, _-_}
@@ -9,10 +9,10 @@ use borrow.Author.Tests.{lt-ltb, le-ltb, eq-eqb, ne-eqb}
 use denote.Ref.{now}
 use lib.Dec.{ltb, eqb}
 use Rattle.lasso.specs.Lists.{anyb, below}
 use Rattle.format.specs.Layout.{states, rowEntry}
-use Rattle.format.proofs.Range.{Left, left-below, left-found, left-next, left-none}
-use Rattle.format.proofs.tables.rows_broken.Statement.{statement}
-use Rattle.format.proofs.tables.rows_broken.Tie as tie
+use Rattle.rules.proofs.Range.{Left, left-below, left-found, left-next, left-none}
+use Rattle.rules.proofs.rows_broken.Statement.{statement}
+use Rattle.rules.proofs.rows_broken.Tie as tie
 
 -- the row entry after s is less than the one at s
 abbrev falls : List ℕ → ℕ → Bool

@@ -1,15 +1,15 @@
--- `tables::offsets_broken` meets its contract: each answer is that of the first offset that differs.
+-- `offsets_broken` meets its contract: each answer is that of the first offset that differs.
 use native.Mathlib.Omega.{arith}
 use mathlib.Core.Path.{_≡_}
 use mathlib.Core.Bool.{true}
 use borrow.Author.Tests.{eq-eqb, ne-eqb}
 use denote.Ref.{now}
 use lib.Dec.{eqb}
 use Rattle.format.specs.Bytes.{long}
 use Rattle.format.specs.Layout.{states, edgeCount, rowsAt, edgesAt, marksAt}
 use borrow.Author.Needs.{needs}
-use Rattle.format.proofs.tables.offsets_broken.Statement.{statement}
-use Rattle.format.proofs.tables.offsets_broken.Tie as tie
+use Rattle.rules.proofs.offsets_broken.Statement.{statement}
+use Rattle.rules.proofs.offsets_broken.Tie as tie
 
 -- the function's start, from the place behind each test
 abbrev from1 : tie.Else1 → tie.Start

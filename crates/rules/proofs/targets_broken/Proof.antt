@@ -1,4 +1,4 @@
--- `tables::targets_broken` meets its contract: the targets from e on decide whether one is not below n.
+-- `targets_broken` meets its contract: the targets from e on decide whether one is not below n.
 use borrow.Author.Needs.{needs}
 use native.Mathlib.Omega.{arith}
 use Prim.Native.Nat.{ℕ, _-_}
@@ -8,11 +8,11 @@ use mathlib.Core.List.{List}
 use borrow.Author.Tests.{lt-ltb, le-ltb}
 use denote.Ref.{now}
 use lib.Dec.{ltb}
 use Rattle.format.specs.Layout.{states, target}
 use Rattle.format.specs.Rules.{badTargets}
-use Rattle.format.proofs.Range.{Left, left-below, left-found, left-next, left-none}
-use Rattle.format.proofs.tables.targets_broken.Statement.{statement}
-use Rattle.format.proofs.tables.targets_broken.Tie as tie
+use Rattle.rules.proofs.Range.{Left, left-below, left-found, left-next, left-none}
+use Rattle.rules.proofs.targets_broken.Statement.{statement}
+use Rattle.rules.proofs.targets_broken.Tie as tie
 
 -- the target at a place is not below N
 abbrev outside : List ℕ → ℕ → Bool

@@ -1,14 +1,14 @@
--- `tables::spare_set` meets its contract: the spare bits from s on decide whether one is set.
+-- `spare_set` meets its contract: the spare bits from s on decide whether one is set.
 use borrow.Author.Needs.{needs}
 use native.Mathlib.Omega.{arith}
 use Prim.Native.Nat.{_-_}
 use mathlib.Core.Path.{_≡_, sym, _∙_}
 use denote.Ref.{now}
 use Rattle.format.specs.Layout.{markBit}
 use Rattle.format.specs.Rules.{badSpare}
-use Rattle.format.proofs.Range.{Left, left-from, left-found, left-next, left-none}
-use Rattle.format.proofs.tables.spare_set.Statement.{statement}
-use Rattle.format.proofs.tables.spare_set.Tie as tie
+use Rattle.rules.proofs.Range.{Left, left-from, left-found, left-next, left-none}
+use Rattle.rules.proofs.spare_set.Statement.{statement}
+use Rattle.rules.proofs.spare_set.Tie as tie
 
 abbrev Inv-loop : tie.InvT-loop
 Inv-loop file n m marks end s₀ s = Left (markBit file) (badSpare file) end s

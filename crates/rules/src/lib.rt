@@ -1,36 +1,21 @@
-// The rules 6 and 8 to 11, each as one test of a file whose numbers of states and edges were read, and the part of a
-// row.
+// The rules 6 and 8 to 11, each as one test of a file whose numbers of states and edges were read.
 ghost use mathlib.Core.Path.{_≡_};
 ghost use mathlib.Core.Bool.{false};
 ghost use Prim.Native.Nat.{_+_, _*_, _≤_, _<_};
 ghost use lib.ListN.{length};
 ghost use Rattle.lasso.specs.Graph.{ascendingb};
 ghost use Rattle.format.specs.Bytes.{words};
-ghost use Rattle.format.specs.Layout.{states, edgeCount, edgesAt, rowEntry, rowTargets, HasTables};
+ghost use Rattle.format.specs.Layout.{states, edgeCount, HasTables};
 ghost use Rattle.format.specs.Rules.{badOffsets, badRows, badTargets, badOrder, badSpare};
-use crate::bytes::bit;
-use crate::bytes::entry_at;
-use crate::bytes::long;
-use crate::bytes::word;
-use crate::layout::edges_at;
-use crate::layout::mark_bytes;
-use crate::layout::marks_at;
-use crate::layout::row_entry;
-
-// The part of the file that holds the targets of row s, in a file of n states whose entries s and s + 1 are in order
-// and within the edge table.
-pub fn row(file: &[u8], n: usize, s: usize) -> &[u8]
-    requires { ⌜ (n ≡ states (now file)) × (n ≤ 4096) ⌝ }
-    requires { ⌜ s < n ⌝ }
-    requires { ⌜ rowEntry (now file) s ≤ rowEntry (now file) (s + 1) ⌝ }
-    requires { ⌜ edgesAt n + 2 * rowEntry (now file) (s + 1) ≤ length (now file) ⌝ }
-    ensures { λ r. ⌜ words (now r) ≡ rowTargets (now (file .entry)) s ⌝ }
-{
-    let base = edges_at(n);
-    let from = base + 2 * row_entry(file, s);
-    let to = base + 2 * row_entry(file, s + 1);
-    &file[from..to]
-}
+use format::bit;
+use format::edges_at;
+use format::entry_at;
+use format::long;
+use format::mark_bytes;
+use format::marks_at;
+use format::row;
+use format::row_entry;
+use format::word;
 
 // Rule 6: an offset differs from the one that n states and m edges give, or the total length from the one given.
 pub fn offsets_broken(file: &[u8], n: usize, m: usize, total: usize) -> bool

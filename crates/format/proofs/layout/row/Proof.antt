@@ -1,9 +1,9 @@
--- `tables::row` meets its contract: the part between two row entries holds that row's targets.
+-- `layout::row` meets its contract: the part between two row entries holds that row's targets.
 use denote.Ref.{now}
 use Rattle.format.proofs.Words.{words-row}
 use borrow.Author.Needs.{needs}
-use Rattle.format.proofs.tables.row.Statement.{statement}
-use Rattle.format.proofs.tables.row.Tie as tie
+use Rattle.format.proofs.layout.row.Statement.{statement}
+use Rattle.format.proofs.layout.row.Tie as tie
 
 edges-at-requires : tie.Need-edges-at-requires
 edges-at-requires c κs = search needs
