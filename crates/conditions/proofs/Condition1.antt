@@ -10,7 +10,6 @@ use lib.Dec.{T}
 use Rattle.lasso.specs.Graph.{ascendingb}
 use Rattle.lasso.specs.Following.{following}
 use Rattle.lasso.specs.Roll.{roll}
-use Rattle.gate.specs.declared.Ask.{Ask}
 use Rattle.model.specs.Model.{graphOf}
 use Rattle.format.specs.Rules.{Reason, firstBroken}
 use Rattle.outcomes.specs.Outcome.{refused, answered, outcome}

@@ -20,7 +20,7 @@ use Rattle.format.specs.Rules.{Reason, rules, firstBroken, shortFile, badStates
 use Rattle.format.proofs.Reasons.{none-clear}
 use Rattle.format.proofs.Kept.{states-kept, length-kept}
 use Rattle.gate.proofs.GateLaws.{clear-append, broken-append}
-use Rattle.sheet.specs.Sheet.{textOf}
+use Rattle.sheet_text.specs.SheetText.{textOf}
 use Rattle.desk.specs.Desk.{inputBytes, inputText}
 use Rattle.desk.specs.Sizes.{FirstBytesDecide}
 use Rattle.desk.proofs.SizeLaws.{only-the-file-refuses}

@@ -4,7 +4,7 @@ use mathlib.Core.Bool.{Bool}
 use mathlib.Core.List.{List, []}
 use mathlib.Core.Option.{Option}
 use Rattle.lasso.specs.Lists.{pick}
-use Rattle.sheet.specs.Sheet.{sheetRefusal, sheetText}
+use Rattle.sheet_text.specs.SheetText.{sheetRefusal, sheetText}
 
 -- the entries of the answer table
 abbrev pub answerEntries : ℕ

@@ -3,7 +3,7 @@ ghost use mathlib.Core.Path.{_≡_};
 ghost use Prim.Native.Nat.{_≤_};
 ghost use lib.ListN.{length, take};
 ghost use Rattle.text.specs.Writing.{Wrote, Within};
-ghost use Rattle.sheet.specs.Sheet.{sheetRoom};
+ghost use Rattle.sheet_text.specs.SheetText.{sheetRoom};
 ghost use Rattle.desk.specs.Desk.{answerEntries, workEntries, inputBytes, inputText, deskText};
 
 mod reading;

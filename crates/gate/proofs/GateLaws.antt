@@ -9,7 +9,6 @@ use mathlib.Core.Logic.{inl, inr}
 use native.Mathlib.Omega.{arith}
 use borrow.Author.Tests.{lt-ltb, le-ltb}
 use lib.ListN.{length, replicate}
-use lib.Dec.{ltb}
 use Rattle.lasso.proofs.Tests.{lt-or-ge}
 use Rattle.lasso.specs.Lists.{someIf}
 use Rattle.format.specs.Layout.{states}

@@ -22,13 +22,13 @@ use Rattle.format.specs.Rules.{firstBroken, Accepted}
 use Rattle.outcomes.specs.Outcome.{Outcome, refused, answered}
 use Rattle.outcomes.specs.Tables.{noRoom, lengthDue, listReasons}
 use Rattle.outcomes.proofs.OutcomeLaws.{CallIs, call-answer, call-broken, call-kept, never-too-long}
-use Rattle.outcomes.proofs.ReadBack.{transitions, read-injective}
+use Rattle.outcomes.proofs.ReadBack.{transitions, loses-nothing}
 use Rattle.gate.specs.Gate.{commonRules}
 use Rattle.gate.proofs.GateLaws.{broken-append, clear-append, common-clear}
 use Rattle.paths.proofs.LoopTests.{lassoOf}
 use Rattle.next.specs.declared.NextAnswer.{NextAnswer}
 use Rattle.next.specs.declared.NextAnswer.the-variants as NextAnswers
-use Rattle.next.specs.Next.{Followed, noMore, nextOutcomeOf, notShortest, followed, dueReasons, nextReasons, nextOutcome, nextAnswer}
+use Rattle.next.specs.Next.{Followed, noMore, nextOutcomeOf, NextLosesNothing, notShortest, followed, dueReasons, nextReasons, nextOutcome, nextAnswer}
 
 -- a list of the roll is a shortest accepting path
 pub shortest-mem : (g : Graph) (xs : List ℕ) → List·Memᴰ xs (roll g) → notShortest g xs ≡ false
@@ -176,5 +176,5 @@ readNext-nextOutcomeOf (NextAnswers.Found l k) = refl
 readNext-nextOutcomeOf NextAnswers.NoMore = refl
 
 -- equal outcomes of a next are of equal answers
-pub nextOutcomeOf-injective : (a b : NextAnswer) → nextOutcomeOf a ≡ nextOutcomeOf b → a ≡ b
-nextOutcomeOf-injective = read-injective nextOutcomeOf readNext readNext-nextOutcomeOf
+pub next-loses-nothing : NextLosesNothing
+next-loses-nothing = loses-nothing nextOutcomeOf readNext readNext-nextOutcomeOf

@@ -10,7 +10,7 @@ use Rattle.lasso.specs.Roll.{roll}
 use Rattle.lasso.specs.Following.{sameb, following}
 use Rattle.model.specs.Model.{graphOf}
 use Rattle.format.specs.Rules.{Reason, firstBroken}
-use Rattle.outcomes.specs.Outcome.{Outcome, refused, answered, outcome}
+use Rattle.outcomes.specs.Outcome.{Outcome, refused, answered, outcome, LosesNothing}
 use Rattle.outcomes.specs.Tables.{listReasons, unlessRefused, written}
 use Rattle.gate.specs.Gate.{commonRules}
 use Rattle.next.specs.declared.NextAnswer.{NextAnswer}
@@ -26,6 +26,10 @@ abbrev pub nextOutcomeOf : NextAnswer → Outcome Followed
 nextOutcomeOf (NextAnswers.Refused n) = refused n
 nextOutcomeOf (NextAnswers.Found l k) = answered (found (l .0) k)
 nextOutcomeOf NextAnswers.NoMore = answered noMore
+
+-- no figure of next's answer is lost in its outcome
+abbrev pub NextLosesNothing : Type 0
+NextLosesNothing = LosesNothing nextOutcomeOf
 
 -- 13. the earlier list, with all its entries, is not a shortest accepting path of this model
 abbrev pub notShortest : Graph → List ℕ → Bool

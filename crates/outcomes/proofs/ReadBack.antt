@@ -1,4 +1,4 @@
--- Reading an answer of the code back from its figures: a map from which its argument can be read off loses nothing.
+-- Reading an answer of the code back from its figures: a translation from which it can be read off loses nothing.
 use Prim.Native.Nat.{ℕ}
 use mathlib.Core.Path.{_≡_, refl, sym, _∙_, ap}
 use mathlib.Core.Option.{Option, some, none}
@@ -8,6 +8,7 @@ use Rattle.lasso.specs.declared.Transitions.{Transitions}
 use Rattle.lasso.specs.declared.Best.{Best}
 use Rattle.lasso.specs.declared.Best.the-variants.{None, Length}
 use Rattle.lasso.specs.declared.RoundRecord.{RoundRecord}
+use Rattle.outcomes.specs.Outcome.{LosesNothing}
 
 -- the count of transitions with a given number
 abbrev pub transitions : ℕ → Transitions
@@ -31,6 +32,6 @@ readBest-bestOf (Length l) = refl
 pub readRecord-recordOf : (r : RoundRecord) → readRecord (recordOf r) ≡ r
 readRecord-recordOf r = λ i. record { done = r .done; best = readBest-bestOf (r .best) i }
 
--- a map from which its argument can be read off gives different values for different arguments
-pub read-injective : {A B : Type 0} (f : A → B) (read : B → A) → ((a : A) → read (f a) ≡ a) → (a b : A) → f a ≡ f b → a ≡ b
-read-injective f read back a b e = sym (back a) ∙ ap read e ∙ back b
+-- a translation from which its answer can be read off loses nothing
+pub loses-nothing : {A B : Type 0} (f : A → B) (read : B → A) → ((a : A) → read (f a) ≡ a) → LosesNothing f
+loses-nothing f read back a b e = sym (back a) ∙ ap read e ∙ back b

@@ -1,5 +1,6 @@
 -- The answer of a call.
 use Prim.Native.Nat.{ℕ}
+use mathlib.Core.Path.{_≡_}
 use mathlib.Core.Option.{Option, some, none}
 
 -- The answer of a call: refused with a number, or what the call found.
@@ -11,3 +12,7 @@ pub data Outcome (A : Type 0) : Type 0 where
 abbrev pub outcome : {A : Type 0} → Option ℕ → A → Outcome A
 outcome none a = answered a
 outcome (some n) a = refused n
+
+-- A translation of the code's answers loses nothing: answers with the same outcome are the same.
+abbrev pub LosesNothing : {A B : Type 0} → (A → B) → Type 0
+LosesNothing {A} f = (a b : A) → f a ≡ f b → a ≡ b

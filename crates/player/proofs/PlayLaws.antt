@@ -40,13 +40,13 @@ module _ (g : Call → Result) where
   rows-length : (cs : List Call) → length (rows (map g cs)) ≡ 4 * length cs
   rows-length [] = refl
   rows-length (c ∷ cs) =
-      length-append (row (g c)) (rows (map g cs)) ∙ omega (arith, answer-row-length (g c .answer), rows-length cs)
+      length-append (callRow (g c)) (rows (map g cs)) ∙ omega (arith, answer-row-length (g c .answer), rows-length cs)
 
   -- one call more: the numbers are behind those before
-  rows-more : (cs : List Call) (c : Call) → rows (map g (cs ++ c ∷ [])) ≡ rows (map g cs) ++ row (g c)
-  rows-more [] c = append-nil (row (g c))
+  rows-more : (cs : List Call) (c : Call) → rows (map g (cs ++ c ∷ [])) ≡ rows (map g cs) ++ callRow (g c)
+  rows-more [] c = append-nil (callRow (g c))
   rows-more (d ∷ cs) c =
-      ap (λ (x : List ℕ). row (g d) ++ x) (rows-more cs c) ∙ sym (append-assoc (row (g d)) (rows (map g cs)) (row (g c)))
+      ap (λ (x : List ℕ). callRow (g d) ++ x) (rows-more cs c) ∙ sym (append-assoc (callRow (g d)) (rows (map g cs)) (callRow (g c)))
 
   -- and the tables are as it left them
   table-more : (a : List ℕ) (cs : List Call) (c : Call) → answerAfterAll a (map g (cs ++ c ∷ [])) ≡ g c .table
@@ -214,7 +214,7 @@ module _ {f script a₀ w₀ log₀ a w log copy : List ℕ} {held at calls : �
                   ∙ ap (λ (l : List Call). p .past ++ l) (more ∙ ap (λ (l : List Call). c ∷ l) told)
                   ∙ sym (append-assoc (p .past) (c ∷ []) (callsOf f n (drop (at + size) script) (take held' copy') a' w'));
               numbers =
-                  log-more (rows (map (finderAt f) (p .past))) (row r) log₀ log log' calls
+                  log-more (rows (map (finderAt f) (p .past))) (callRow r) log₀ log log' calls
                   (rows-length (finderAt f) (p .past) ∙ ap (λ (k : ℕ). 4 * k) (p .count)) (p .numbers) (call-made .log-row)
                   ∙ ap (λ (x : List ℕ). x ++ drop (4 * (calls + 1)) log₀) (sym (rows-more (finderAt f) (p .past) c));
               answer = call-made .answer ∙ sym (table-more (finderAt f) a₀ (p .past) c);

@@ -14,7 +14,7 @@ use Rattle.player.specs.Played.{played}
 
 -- the numbers of some calls, four for each, one after another
 abbrev pub rows : List Result → List ℕ
-rows rs = collect row rs
+rows rs = collect callRow rs
 
 -- the log after some calls: their numbers from entry 0 on; later entries do not change
 abbrev pub logAfterAll : List ℕ → List Result → List ℕ

@@ -1,6 +1,6 @@
 -- What a search on an accepted file with room in the working table answers and writes, case by case; and that its outcome
 -- loses nothing.
-use Prim.Native.Nat.{ℕ, suc, _+_, _*_, _≤_, _<_, min}
+use Prim.Native.Nat.{ℕ, suc, _+_, _*_, _≤_, _<_}
 use mathlib.Core.Path.{_≡_, refl, sym, _∙_, ap, subst}
 use mathlib.Core.Bool.{Bool, true, false}
 use mathlib.Core.List.{List, [], _∷_, _++_, head?, List·Memᴰ, List·Memᴰ·head}
@@ -21,12 +21,12 @@ use Rattle.format.specs.Rules.{firstBroken, Accepted}
 use Rattle.outcomes.specs.Outcome.{Outcome, refused, answered}
 use Rattle.outcomes.specs.Tables.{noRoom, lengthDue, listReasons}
 use Rattle.outcomes.proofs.OutcomeLaws.{CallIs, call-answer, call-broken, call-kept, never-too-long}
-use Rattle.outcomes.proofs.ReadBack.{transitions, readRecord, readRecord-recordOf, read-injective}
+use Rattle.outcomes.proofs.ReadBack.{transitions, readRecord, readRecord-recordOf, loses-nothing}
 use Rattle.gate.specs.Gate.{commonRules}
 use Rattle.gate.proofs.GateLaws.{broken-append, clear-append, common-clear}
 use Rattle.search.specs.declared.SearchAnswer.{SearchAnswer}
 use Rattle.search.specs.declared.SearchAnswer.the-variants as SearchAnswers
-use Rattle.search.specs.Search.{Searched, stopped, empty, searchOutcomeOf, stopsb, firstOf, searched, firstDue, searchReasons, searchOutcome, searchAnswer}
+use Rattle.search.specs.Search.{Searched, stopped, empty, searchOutcomeOf, SearchLosesNothing, stopsb, firstOf, searched, firstDue, searchReasons, searchOutcome, searchAnswer}
 
 -- a search's outcome, and the list that it writes
 abbrev pub SearchIs : List ℕ → Ask → ℕ → ℕ → Outcome Searched → Option (List ℕ) → Type 0
@@ -168,5 +168,5 @@ readSearch-searchOutcomeOf (SearchAnswers.Found l k rounds) = refl
 readSearch-searchOutcomeOf (SearchAnswers.Empty rounds) = refl
 
 -- equal outcomes of a search are of equal answers
-pub searchOutcomeOf-injective : (a b : SearchAnswer) → searchOutcomeOf a ≡ searchOutcomeOf b → a ≡ b
-searchOutcomeOf-injective = read-injective searchOutcomeOf readSearch readSearch-searchOutcomeOf
+pub search-loses-nothing : SearchLosesNothing
+search-loses-nothing = loses-nothing searchOutcomeOf readSearch readSearch-searchOutcomeOf

@@ -13,7 +13,7 @@ use Rattle.lasso.specs.Values.{recordOf}
 use Rattle.gate.specs.declared.Ask.{Ask}
 use Rattle.model.specs.Model.{graphOf}
 use Rattle.format.specs.Rules.{Reason, firstBroken}
-use Rattle.outcomes.specs.Outcome.{Outcome, refused, answered, outcome}
+use Rattle.outcomes.specs.Outcome.{Outcome, refused, answered, outcome, LosesNothing}
 use Rattle.outcomes.specs.Tables.{listReasons, unlessRefused, written}
 use Rattle.gate.specs.Gate.{commonRules}
 use Rattle.search.specs.declared.SearchAnswer.{SearchAnswer}
@@ -31,6 +31,10 @@ searchOutcomeOf (SearchAnswers.Refused n) = refused n
 searchOutcomeOf (SearchAnswers.Stopped r) = answered (stopped (recordOf r))
 searchOutcomeOf (SearchAnswers.Found l k rounds) = answered (found (l .0) k rounds)
 searchOutcomeOf (SearchAnswers.Empty rounds) = answered (empty rounds)
+
+-- no figure of a search's answer is lost in its outcome
+abbrev pub SearchLosesNothing : Type 0
+SearchLosesNothing = LosesNothing searchOutcomeOf
 
 -- the allowance is less than the number of candidates
 abbrev pub stopsb : Graph → ℕ → Bool

@@ -1,5 +1,5 @@
 -- No sheet is longer than the room that is asked for its text.
-use Prim.Native.Nat.{ℕ, _+_, _≤_, min}
+use Prim.Native.Nat.{ℕ, _≤_, min}
 use mathlib.Core.Path.{_≡_, refl, ap, subst}
 use mathlib.Core.Bool.{Bool, true, false}
 use mathlib.Core.List.{List, [], _∷_, _++_}
@@ -24,12 +24,12 @@ use Rattle.search.proofs.SearchLaws.{roll-first}
 use Rattle.text.specs.Figure.{figure}
 use Rattle.text.proofs.FigureLaws.{figure-room}
 use Rattle.lines.specs.Line.{line}
-use Rattle.sheet.specs.Words.{refusedWord, noneLine, shortestWord}
+use Rattle.sheet_text.specs.Words.{refusedWord, noneLine, shortestWord}
 use Rattle.roll_text.specs.RollText.{mostLists, closing, listsText, listsRoom}
-use Rattle.sheet.specs.Sheet.{rollText, textOf, sheetAsk, sheetRefusal, sheetText, sheetRoom}
+use Rattle.sheet_text.specs.SheetText.{rollText, textOf, sheetAsk, sheetRefusal, sheetText, sheetRoom}
 use Rattle.roll_text.proofs.RoomLaws.{roll-room, lines-room, closing-room}
-use Rattle.sheet.proofs.HeadLaws.{head-room}
-use Rattle.sheet.proofs.SheetLaws.{headOf, rollText-some}
+use Rattle.sheet_text.proofs.HeadLaws.{head-room}
+use Rattle.sheet_text.proofs.SheetLaws.{headOf, rollText-some}
 
 -- the number of the first reason is one of the table's
 pub broken-number : (P : ℕ → Type 0) (rs : List Reason) → All (λ r. P (r .number)) rs → (n : ℕ) → firstBroken rs ≡ some n → P n

@@ -1,4 +1,3 @@
--- The laws of the sheet: its text, and the room that it takes.
-pub mod HeadLaws
-pub mod SheetLaws
+-- The laws of the sheet: what it leaves behind, and the room that it takes.
+pub mod LeaveLaws
 pub mod LengthLaws

@@ -1,3 +1,2 @@
--- The desk sheet: its whole text from the file's bytes, and the tables afterwards.
-pub mod Words
+-- The desk sheet: what is written to the text that is lent, and the tables afterwards.
 pub mod Sheet

@@ -1,62 +1,12 @@
--- The whole text of the sheet, and the tables afterwards.
-use Prim.Native.Nat.{ℕ}
+-- The sheet where it has room and where it has none: what is written, and the tables afterwards.
 use mathlib.Core.Bool.{Bool}
-use mathlib.Core.List.{List, [], _∷_, _++_}
-use mathlib.Core.Option.{Option, some, none}
+use mathlib.Core.List.{List, []}
+use Prim.Native.Nat.{ℕ}
 use lib.ListN.{length}
 use lib.Dec.{ltb}
 use Rattle.lasso.specs.Lists.{pick}
-use Rattle.lasso.specs.Graph.{edges}
-use Rattle.lasso.specs.Roll.{roll}
-use Rattle.lasso.specs.Rounds.{candidates}
-use Rattle.format.specs.Layout.{states, edgeCount}
-use Rattle.model.specs.Model.{graphOf}
-use Rattle.format.specs.Rules.{firstBroken}
-use Rattle.gate.specs.Gate.{workOf, asking}
-use Rattle.gate.specs.declared.Ask.{Ask}
-use Rattle.outcomes.specs.Tables.{written, unlessRefused}
-use Rattle.search.specs.Search.{searchReasons}
-use Rattle.text.specs.Characters.{space}
-use Rattle.text.specs.Decimal.{decimal}
-use Rattle.text.specs.Figure.{figure}
-use Rattle.roll_text.specs.RollText.{listsText, lastPrinted}
-use Rattle.sheet.specs.Words.{refusedWord, modelWord, roundsWord, noneLine, shortestWord}
-
--- the lines `model` with N and M, and `rounds` with the rounds
-abbrev pub head : (n m rounds : ℕ) → List ℕ
-head n m rounds = modelWord ++ decimal n ++ figure (space ∷ []) m ++ figure roundsWord rounds
-
--- the lines behind the rounds: `none`, or the length, the lists and the closing line
-abbrev pub rollText : List (List ℕ) → List ℕ
-rollText [] = noneLine
-rollText (xs ∷ rest) =
-    figure shortestWord (edges xs) ++ listsText (xs ∷ rest)
-
--- the text for a file that is refused with a number, or is not refused
-abbrev pub textOf : Option ℕ → List ℕ → List ℕ
-textOf none f = head (states f) (edgeCount f) (length (candidates (graphOf f))) ++ rollText (roll (graphOf f))
-textOf (some n) f = figure refusedWord n
-
--- what the sheet's search asks: allowance 65,535; there are never more than 4,096 candidates
-abbrev pub sheetAsk : Ask
-sheetAsk = asking 65535
-
--- the reason to refuse, if there is one; the tables have so many entries
-abbrev pub sheetRefusal : List ℕ → ℕ → ℕ → Option ℕ
-sheetRefusal f answer work = firstBroken (searchReasons f sheetAsk answer work)
-
--- the whole text of the sheet of a file
-abbrev pub sheetText : List ℕ → ℕ → ℕ → List ℕ
-sheetText f answer work = textOf (sheetRefusal f answer work) f
-
--- the answer table after a sheet: the last list printed, if any
-abbrev pub sheetAnswer : List ℕ → List ℕ → ℕ → List ℕ
-sheetAnswer f a work =
-    written (unlessRefused (sheetRefusal f (length a) work) (lastPrinted (roll (graphOf f)))) a
-
--- the room that is asked for a text: no sheet is longer
-abbrev pub sheetRoom : ℕ
-sheetRoom = 410000
+use Rattle.gate.specs.Gate.{workOf}
+use Rattle.sheet_text.specs.SheetText.{sheetText, sheetAnswer, sheetRoom}
 
 -- the text t that is lent has less room than is asked
 abbrev pub smallText : List ℕ → Bool

@@ -12,11 +12,11 @@ use Rattle.lasso.specs.Rounds.{Record, candidates, afterRound}
 use Rattle.model.specs.Model.{graphOf}
 use Rattle.format.specs.Rules.{firstBroken}
 use Rattle.outcomes.specs.Outcome.{Outcome, refused, answered, outcome}
-use Rattle.outcomes.proofs.ReadBack.{readRecord, readRecord-recordOf, read-injective}
+use Rattle.outcomes.proofs.ReadBack.{readRecord, readRecord-recordOf, loses-nothing}
 use Rattle.gate.specs.Gate.{commonRules}
 use Rattle.step.specs.declared.StepAnswer.{StepAnswer}
 use Rattle.step.specs.declared.StepAnswer.the-variants as StepAnswers
-use Rattle.step.specs.Step.{Stepped, finished, advanced, stepOutcomeOf, stepped, stepOutcome}
+use Rattle.step.specs.Step.{Stepped, finished, advanced, stepOutcomeOf, StepLosesNothing, stepped, stepOutcome}
 
 module _ (f : List ℕ) (rec : Record) (work : ℕ) where
   -- refused with the first reason that holds
@@ -59,5 +59,5 @@ readStep-stepOutcomeOf (StepAnswers.Finished r) = ap StepAnswers.Finished (readR
 readStep-stepOutcomeOf (StepAnswers.Advanced r) = ap StepAnswers.Advanced (readRecord-recordOf r)
 
 -- equal outcomes of a step are of equal answers
-pub stepOutcomeOf-injective : (a b : StepAnswer) → stepOutcomeOf a ≡ stepOutcomeOf b → a ≡ b
-stepOutcomeOf-injective = read-injective stepOutcomeOf readStep readStep-stepOutcomeOf
+pub step-loses-nothing : StepLosesNothing
+step-loses-nothing = loses-nothing stepOutcomeOf readStep readStep-stepOutcomeOf

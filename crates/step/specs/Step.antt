@@ -7,7 +7,7 @@ use Rattle.lasso.specs.Rounds.{Record, finishedb, afterRound}
 use Rattle.lasso.specs.Values.{recordOf}
 use Rattle.model.specs.Model.{graphOf}
 use Rattle.format.specs.Rules.{firstBroken}
-use Rattle.outcomes.specs.Outcome.{Outcome, refused, answered, outcome}
+use Rattle.outcomes.specs.Outcome.{Outcome, refused, answered, outcome, LosesNothing}
 use Rattle.gate.specs.Gate.{commonRules}
 use Rattle.step.specs.declared.StepAnswer.{StepAnswer}
 use Rattle.step.specs.declared.StepAnswer.the-variants as StepAnswers
@@ -22,6 +22,10 @@ abbrev pub stepOutcomeOf : StepAnswer → Outcome Stepped
 stepOutcomeOf (StepAnswers.Refused n) = refused n
 stepOutcomeOf (StepAnswers.Finished r) = answered (finished (recordOf r))
 stepOutcomeOf (StepAnswers.Advanced r) = answered (advanced (recordOf r))
+
+-- no figure of a step's answer is lost in its outcome
+abbrev pub StepLosesNothing : Type 0
+StepLosesNothing = LosesNothing stepOutcomeOf
 
 -- finished with the same record if no candidate is left, else the record after the round for the candidate whose place
 -- is the count

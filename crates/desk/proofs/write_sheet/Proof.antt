@@ -8,7 +8,8 @@ use borrow.Author.Tests.{le-ltb}
 use lib.ListN.{length}
 use Rattle.lasso.specs.Lists.{pick}
 use Rattle.text.proofs.WroteLaws.{wrote-as}
-use Rattle.sheet.specs.Sheet.{sheetText, sheetRoom, sheetWritten}
+use Rattle.sheet_text.specs.SheetText.{sheetText, sheetRoom}
+use Rattle.sheet.specs.Sheet.{sheetWritten}
 use Rattle.desk.specs.Desk.{answerEntries, workEntries, inputText}
 use Rattle.desk.proofs.write_sheet.Statement.{statement}
 use Rattle.desk.proofs.write_sheet.Tie as tie

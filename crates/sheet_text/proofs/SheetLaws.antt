@@ -1,13 +1,10 @@
 -- What the sheet of a file is, case by case: refused, without a list, with lists.
 use Prim.Native.Nat.{ℕ, suc, _+_, _*_, _≤_, _<_}
-use mathlib.Core.Path.{_≡_, refl, sym, _∙_, ap, subst}
-use mathlib.Core.Bool.{Bool}
+use mathlib.Core.Path.{_≡_, refl, sym, _∙_, ap}
 use mathlib.Core.List.{List, [], _∷_, _++_, head?, append-assoc}
 use mathlib.Core.Option.{Option, some, none}
 use native.Mathlib.Omega.{arith}
-use borrow.Author.Tests.{lt-ltb, le-ltb}
 use lib.ListN.{length}
-use Rattle.lasso.specs.Lists.{pick}
 use Rattle.lasso.specs.Graph.{edges}
 use Rattle.lasso.specs.Roll.{leastLength, roll}
 use Rattle.lasso.specs.Rounds.{candidates}
@@ -15,7 +12,7 @@ use Rattle.lasso.proofs.RollLaws.{roll-empty}
 use Rattle.format.specs.Layout.{states}
 use Rattle.format.specs.Layout.{edgeCount}
 use Rattle.model.specs.Model.{graphOf}
-use Rattle.format.specs.Rules.{Accepted, firstBroken}
+use Rattle.format.specs.Rules.{Accepted}
 use Rattle.model.specs.declared.Header.{Header}
 use Rattle.model.specs.Values.{Valid}
 use Rattle.model.proofs.Laws.{accepted-facts, header-numbers}
@@ -23,14 +20,10 @@ use Rattle.lasso.proofs.RoundLaws.{candidates-length-le}
 use Rattle.outcomes.specs.Outcome.{refused, answered, outcome}
 use Rattle.outcomes.specs.Tables.{written, unlessRefused}
 use Rattle.search.specs.Search.{Searched, searched}
-use Rattle.search.proofs.SearchLaws.{SearchIs, search-refused, search-empty, search-found, search-no-room, roll-first}
-use Rattle.gate.specs.Gate.{commonRules, workOf}
-use Rattle.gate.proofs.GateLaws.{work-refused}
+use Rattle.search.proofs.SearchLaws.{SearchIs, search-empty, search-found, search-no-room, roll-first}
 use Rattle.text.specs.Figure.{figure}
-use Rattle.text.specs.Writing.{Wrote}
-use Rattle.text.proofs.WroteLaws.{wrote-none, wrote-as}
-use Rattle.sheet.specs.Words.{refusedWord, noneLine, shortestWord}
-use Rattle.sheet.specs.Sheet.{head, rollText, textOf, sheetAsk, sheetRefusal, sheetText, sheetAnswer, sheetRoom, smallText}
+use Rattle.sheet_text.specs.Words.{refusedWord, noneLine, shortestWord}
+use Rattle.sheet_text.specs.SheetText.{head, rollText, textOf, sheetAsk, sheetRefusal, sheetText, sheetAnswer}
 use Rattle.roll_text.specs.RollText.{listsText, lastPrinted}
 
 -- the whole text of a sheet, and the list that it leaves in the answer table
@@ -129,34 +122,3 @@ head-is {f} {h} {rounds} v e =
     ap (λ (k : ℕ). head k (h .edges) rounds) n
     ∙ ap (λ (k : ℕ). head (states f) k rounds) m
     ∙ ap (λ (k : ℕ). head (states f) (edgeCount f) k) e
-
--- what a sheet leaves behind, where the room for its text is too small or not: the text and the two tables
-abbrev pub Leaves : Bool → (bytes t a s w v : List ℕ) → ℕ → (t' a' w' : List ℕ) → Type 0
-Leaves short bytes t a s w v next t' a' w' =
-    Wrote t 0 (pick short [] bytes) t' next × ((a' ≡ pick short a s) × (w' ≡ pick short w v))
-
-module _ (f : List ℕ) (t a w : List ℕ) where
-  -- what the contract says: the text of the sheet and the tables after it, by the room
-  abbrev pub LeavesSheet : ℕ → (t' a' w' : List ℕ) → Type 0
-  LeavesSheet =
-      Leaves (smallText t) (sheetText f (length a) (length w)) t a (sheetAnswer f a (length w)) w (workOf f w)
-
-  -- too little room: nothing changes
-  pub leaves-short : length t < sheetRoom → LeavesSheet 0 t a w
-  leaves-short less =
-      subst (λ (b : Bool). Leaves b (sheetText f (length a) (length w)) t a (sheetAnswer f a (length w)) w (workOf f w) 0 t a w)
-      (sym (lt-ltb (length t) sheetRoom less)) (wrote-none t 0 (omega arith), (refl, refl))
-
-  -- room enough: the text is written to the front
-  pub leaves-sheet : {t' a' w' : List ℕ} {next : ℕ} → sheetRoom ≤ length t → Wrote t 0 (sheetText f (length a) (length w)) t' next
-      → a' ≡ sheetAnswer f a (length w) → w' ≡ workOf f w → LeavesSheet next t' a' w'
-  leaves-sheet {t'} {a'} {w'} {next} room wrote p q =
-      subst (λ (b : Bool). Leaves b (sheetText f (length a) (length w)) t a (sheetAnswer f a (length w)) w (workOf f w) next t' a' w')
-      (sym (le-ltb (length t) sheetRoom room)) (wrote, (p, q))
-
-  -- room enough, and the file is refused for a reason of 1 to 12: one line, and the tables are untouched
-  pub leaves-refused : {t' : List ℕ} {n next : ℕ} → sheetRoom ≤ length t → firstBroken (commonRules f (length w)) ≡ some n
-      → Wrote t 0 (figure refusedWord n) t' next → LeavesSheet next t' a w
-  leaves-refused {n = n} room broken wrote =
-      let is = sheet-refused f (length a) (length w) (search-refused f sheetAsk (length a) (length w) n broken) in
-      leaves-sheet room (wrote-as (sym (is .text-is)) wrote) (sym (sheet-answer a is)) (work-refused f w n broken)

@@ -1,6 +1,6 @@
 -- `sheet_model` meets its contract: what the rounds come to decides between no list and lists, the answer table's length
 -- between lists and a refusal. The rounds are never stopped, since no model has so many candidates.
-use Prim.Native.Nat.{ℕ, _+_, _≤_}
+use Prim.Native.Nat.{ℕ, _≤_}
 use mathlib.Core.Path.{_≡_, sym, _∙_, ap, subst}
 use mathlib.Core.List.{List, _++_}
 use mathlib.Core.Option.{some, none}
@@ -21,13 +21,13 @@ use Rattle.outcomes.specs.Tables.{written}
 use Rattle.text.specs.Figure.{figure}
 use Rattle.text.proofs.WroteLaws.{wrote-length, wrote-then, wrote-as}
 use Rattle.text.proofs.FigureLaws.{figure-room}
-use Rattle.sheet.specs.Words.{refusedWord, noneLine, shortestWord}
-use Rattle.sheet.specs.Sheet.{head}
+use Rattle.sheet_text.specs.Words.{refusedWord, noneLine, shortestWord}
+use Rattle.sheet_text.specs.SheetText.{head}
 use Rattle.roll_text.specs.RollText.{listsText, lastPrinted}
-use Rattle.sheet.proofs.HeadLaws.{head-room}
-use Rattle.sheet.proofs.SheetLaws.{SheetIs, headOf, head-is, sheet-answer, sheet-empty, sheet-lists, sheet-no-room}
-use Rattle.sheet.proofs.sheet_model.Statement.{statement}
-use Rattle.sheet.proofs.sheet_model.Tie as tie
+use Rattle.sheet_text.proofs.HeadLaws.{head-room}
+use Rattle.sheet_text.proofs.SheetLaws.{SheetIs, headOf, head-is, sheet-answer, sheet-empty, sheet-lists, sheet-no-room}
+use Rattle.sheet_text.proofs.sheet_model.Statement.{statement}
+use Rattle.sheet_text.proofs.sheet_model.Tie as tie
 
 -- the function's start, and what the rounds came to
 abbrev start : tie.After-begin → tie.Start
