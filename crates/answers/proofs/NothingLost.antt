@@ -30,11 +30,11 @@ record-back : (rec : Record) → recordGiven (rec .done) (hasBest (rec .best)) (
 record-back rec = given-back (rec .done) (rec .best)
 
 -- the figure at a place of a report, and the record in its first three
-abbrev figure : Report → ℕ → ℕ
-figure r i = getD (r .figures) i 0
+abbrev reportFigure : Report → ℕ → ℕ
+reportFigure r i = getD (r .figures) i 0
 
 abbrev recordIn : Report → Record
-recordIn r = recordGiven (figure r 0) (figure r 1) (figure r 2)
+recordIn r = recordGiven (reportFigure r 0) (reportFigure r 1) (reportFigure r 2)
 
 -- the outcome that a report comes from: the refusal with its kind as the number if that is below 100, else the answer
 abbrev outcomeBack : {A : Type 0} → Report → A → Outcome A
@@ -57,7 +57,7 @@ step-back (answered (advanced rec)) h = ap (λ (x : Record). answered (advanced 
 abbrev searchedIn : Report → Searched
 searchedIn r =
     pick (eqb (r .kind) 101) (stopped (recordIn r))
-    (pick (eqb (r .kind) 102) (Searched.found (figure r 0) (figure r 1) (figure r 2)) (empty (figure r 0)))
+    (pick (eqb (r .kind) 102) (Searched.found (reportFigure r 0) (reportFigure r 1) (reportFigure r 2)) (empty (reportFigure r 0)))
 
 search-back : (o : Outcome Searched) → Numbered 99 o → outcomeBack (searchReport o) (searchedIn (searchReport o)) ≡ o
 search-back (refused n) h = refusal-back n (searchedIn (searchReport (refused n))) h
@@ -67,7 +67,7 @@ search-back (answered (empty rounds)) h = refl
 
 -- the answer of next
 abbrev followedIn : Report → Followed
-followedIn r = pick (eqb (r .kind) 102) (Followed.found (figure r 0) (figure r 1)) noMore
+followedIn r = pick (eqb (r .kind) 102) (Followed.found (reportFigure r 0) (reportFigure r 1)) noMore
 
 next-back : (o : Outcome Followed) → Numbered 99 o → outcomeBack (nextReport o) (followedIn (nextReport o)) ≡ o
 next-back (refused n) h = refusal-back n (followedIn (nextReport (refused n))) h

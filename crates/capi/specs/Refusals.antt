@@ -29,7 +29,8 @@ pub record Value {A : Type 0} (most : ℕ) (o : Outcome A) (out : List ℕ) (r :
 
 -- So it is with all three functions; and up to 100 no entry of the answer table changes.
 pub record RefusalsChangeNothing : Type 0 where
-  pub step : (f : List ℕ) (rec : Record) (w out : List ℕ) → Value 12 (stepOutcome f rec (length w)) out (stepCall f rec w out)
+  pub step : (f : List ℕ) (rec : Record) (w out : List ℕ)
+      → Value 12 (stepOutcome f rec (length w)) out (stepCall f rec w out)
   pub search : (f : List ℕ) (ask : Ask) (a w out : List ℕ)
       → Value 15 (searchOutcome f ask (length a) (length w)) out (searchCall f ask a w out)
   pub next : (f earlier a w out : List ℕ)

@@ -97,7 +97,8 @@ pub record Condition2 (f : List ℕ) (ask : Ask) (a : List ℕ) (work : ℕ) : T
 pub record SearchPasses (f : List ℕ) (ask : Ask) (answer work : ℕ) : Type 0 where
   pub accepted : Accepted f
   pub room : 6 * states f ≤ work
-  pub fits : length (candidates (graphOf f)) ≤ ask .allowance → (l : ℕ) → leastLength (graphOf f) ≡ some l → l + 1 ≤ answer
+  pub fits : length (candidates (graphOf f)) ≤ ask .allowance
+      → (l : ℕ) → leastLength (graphOf f) ≡ some l → l + 1 ≤ answer
 
 -- no reason of a search holds exactly if that is so
 abbrev pub SearchPassesExactly : Type 0

@@ -25,6 +25,9 @@ use starts::prepare;
 use table::get;
 use table::put;
 
+// An allowance that suffices for every model: the rounds are never stopped.
+pub const ALL_ROUNDS: u16 = 65535;
+
 // What the rounds come to: stopped with the record, or all done, with the length of the shortest accepting paths, if
 // there is one, and the number of rounds.
 pub enum Begun {

@@ -6,7 +6,7 @@ use mathlib.Core.Option.{some}
 use lib.ListN.{take}
 use Rattle.text.specs.Figure.{figure}
 use Rattle.format.specs.Rules.{rules, firstBroken}
-use Rattle.sheet_text.specs.Words.{refusedWord}
+use Rattle.sheet_head.specs.Words.{refusedWord}
 use Rattle.desk.specs.Desk.{inputBytes, inputRefusal, inputText}
 
 -- the text of an input is that of its first 25,115 bytes

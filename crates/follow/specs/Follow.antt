@@ -24,8 +24,8 @@ upTo g w place = g .start ∷ take place w
 abbrev pub StatesTo : Header → List ℕ → ℕ → Type 0
 StatesTo h w place = (k : ℕ) → k ≤ place → stateAt h w k < h .states
 
--- what is prepared for the lists: an accepted file with its header, room for the regions, the least length of an accepting
--- path, and the loop lengths in region 1
+-- what is prepared for the lists: an accepted file with its header, room for the regions, the least length of an
+-- accepting path, and the loop lengths in region 1
 pub record Prepared (f : List ℕ) (h : Header) (w : List ℕ) (l : ℕ) : Type 0 where
   pub valid : Valid f h
   pub room : 6 * h .states ≤ length w

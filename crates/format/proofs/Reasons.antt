@@ -28,8 +28,8 @@ none-clear (r ∷ rs) e =
     (p .0, none-clear rs (p .1))
 
 -- a reason that does not hold leaves the answer to the reasons behind it
-pub passed : (o : Option ℕ) (b : Bool) (n : ℕ) (rest : Option ℕ) → o ≡ someIf b n rest → b ≡ false → o ≡ rest
-passed o b n rest e q = e ∙ ap (λ (x : Bool). someIf x n rest) q
+pub unheld-skipped : (o : Option ℕ) (b : Bool) (n : ℕ) (rest : Option ℕ) → o ≡ someIf b n rest → b ≡ false → o ≡ rest
+unheld-skipped o b n rest e q = e ∙ ap (λ (x : Bool). someIf x n rest) q
 
 -- the negation of a test that is false passes
 pub false-not : (b : Bool) → b ≡ false → T (not b)

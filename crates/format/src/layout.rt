@@ -1,5 +1,5 @@
-// Where the tables of a model file stand, by its numbers of states and edges, and the part of a row. Each function of the
-// numbers is named as its definition in specs/Layout.antt.
+// Where the tables of a model file stand, by its numbers of states and edges, and the part of a row. Each function of
+// these numbers is named as its definition in specs/Layout.antt.
 ghost use mathlib.Core.Path.{_≡_};
 ghost use Prim.Native.Nat.{_+_, _*_, _≤_, _<_};
 ghost use lib.ListN.{length};

@@ -11,14 +11,14 @@ use Rattle.model.specs.declared.Checked.the-variants.{Refused, Accept}
 use Rattle.model.specs.Values.{headerOf, answerOf, checkWith}
 
 -- the first reason that holds refuses the file
-pub refused :
+pub held-refuses :
     (total : ℕ) (f : List ℕ) (b : Bool) (n : ℕ) (rest : Option ℕ) → firstBroken (rulesWith total f) ≡ someIf b n rest
     → b ≡ true → Refused n ≡ checkWith total f
-refused total f b n rest e q =
+held-refuses total f b n rest e q =
     sym (ap (λ (o : Option ℕ). answerOf o f) (e ∙ ap (λ (x : Bool). someIf x n rest) q))
 
 -- a file for which no reason holds is accepted
-pub accepted :
+pub none-accepts :
     (total : ℕ) (f : List ℕ) (h : Header) → h ≡ headerOf f → firstBroken (rulesWith total f) ≡ none
     → Accept h ≡ checkWith total f
-accepted total f h e q = ap Accept e ∙ sym (ap (λ (o : Option ℕ). answerOf o f) q)
+none-accepts total f h e q = ap Accept e ∙ sym (ap (λ (o : Option ℕ). answerOf o f) q)

@@ -1,5 +1,5 @@
-// Next: the shortest accepting path that follows an earlier one. It applies the reasons 1 to 15 in order, and leaves the
-// working table untouched after 1 to 12 and all zero otherwise.
+// Next: the shortest accepting path that follows an earlier one. It applies the reasons 1 to 15 in order, and leaves
+// the working table untouched after 1 to 12 and all zero otherwise.
 ghost use mathlib.Core.Path.{_≡_};
 ghost use mathlib.Core.Option.{some};
 ghost use Prim.Native.Nat.{_*_, _≤_};
@@ -11,6 +11,7 @@ ghost use Rattle.model.specs.Values.{Valid};
 ghost use Rattle.gate.specs.Gate.{workOf};
 ghost use Rattle.candidates.specs.Promises.{RoundsReady};
 ghost use Rattle.next.specs.Next.{nextOutcomeOf, nextOutcome, nextAnswer};
+use cursor::ALL_ROUNDS;
 use cursor::Begun;
 use cursor::begin;
 use cursor::to_list;
@@ -30,9 +31,6 @@ pub enum NextAnswer {
     Found(Transitions, u16),
     NoMore,
 }
-
-// An allowance that suffices for every model.
-const ALL_ROUNDS: u16 = 65535;
 
 // Writes the shortest accepting path after the earlier one, where their length is known.
 fn next_list(

@@ -34,4 +34,5 @@ workAfterAll w (r ∷ rs) = workAfterAll (r .work) rs
 -- that is no shortest accepting path, the log is the book's
 abbrev pub BookPlayed : (f script a w log log' : List ℕ) → Type 0
 BookPlayed f script a w log log' =
-    Accepted f → Proper f none (played f script a w log) → log' ≡ logAfterAll log (bookResults f 0 (played f script a w log))
+    Accepted f → Proper f none (played f script a w log)
+    → log' ≡ logAfterAll log (bookResults f 0 (played f script a w log))

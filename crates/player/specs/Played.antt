@@ -20,7 +20,8 @@ callsOf f zero script copy a w = []
 callsOf f (suc room) script copy a w =
     let c : Call = callOf script copy a w in
     let r : Result = finderAt f c in
-    let later : List Call = callsOf f room (drop (commandLength script) script) (keepCopy (received r) copy) (r .table) (r .work) in
+    let later : List Call =
+    callsOf f room (drop (commandLength script) script) (keepCopy (received r) copy) (r .table) (r .work) in
     pick (overb script) [] (c ∷ later)
 
 -- the calls that are played: as many as the log has room for, with 4 entries for each

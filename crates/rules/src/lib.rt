@@ -1,7 +1,7 @@
 // The rules 6 and 8 to 11, each as one test of a file whose numbers of states and edges were read.
 ghost use mathlib.Core.Path.{_≡_};
 ghost use mathlib.Core.Bool.{false};
-ghost use Prim.Native.Nat.{_+_, _*_, _≤_, _<_};
+ghost use Prim.Native.Nat.{_≤_};
 ghost use lib.ListN.{length};
 ghost use Rattle.lasso.specs.Graph.{ascendingb};
 ghost use Rattle.format.specs.Bytes.{words};
@@ -73,7 +73,7 @@ pub fn targets_broken(file: &[u8], n: usize, m: usize) -> bool
 }
 
 // The numbers of a part ascend strictly.
-pub fn ascends(part: &[u8]) -> bool
+fn ascends(part: &[u8]) -> bool
     ensures { λ r. ⌜ r ≡ ascendingb (words (now (part .entry))) ⌝ }
 {
     let count = part.len() / 2;

@@ -1,6 +1,7 @@
 -- The commands of a script of numbers, and the call that each asks for. Each command begins with two numbers,
 -- what to do and its argument: 0 and an allowance, a search; 1 and a number that is not used, a next with the copy last
--- received, which is the empty list at first; 2 and a count, with so many entries behind them, a next with those entries.
+-- received, which is the empty list at first; 2 and a count, with so many entries behind them, a next with those
+-- entries.
 use Prim.Native.Nat.{ℕ, _+_}
 use mathlib.Core.Bool.{Bool, _||_}
 use mathlib.Core.List.{List}
@@ -36,4 +37,5 @@ lentList script copy = pick (eqb (action script) 1) copy (take (argument script)
 
 -- the call that the first command asks for, lent the tables
 abbrev pub callOf : (script copy a w : List ℕ) → Call
-callOf script copy a w = pick (eqb (action script) 0) (search (asking (argument script)) a w) (next (lentList script copy) a w)
+callOf script copy a w =
+    pick (eqb (action script) 0) (search (asking (argument script)) a w) (next (lentList script copy) a w)

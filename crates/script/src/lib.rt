@@ -1,5 +1,5 @@
-// The commands of a script of numbers, one at a time: how many numbers each has, and the call that it asks for, which is made
-// and logged.
+// The commands of a script of numbers, one at a time: how many numbers each has, and the call that it asks for, which is
+// made and logged.
 ghost use mathlib.Core.Path.{_≡_};
 ghost use mathlib.Core.Bool.{false};
 ghost use Prim.Native.Nat.{_+_, _≤_};

@@ -48,7 +48,8 @@ firstOf (xs ∷ rest) rounds = found (edges xs) (loopStart xs) rounds
 -- what a search not refused answers
 abbrev pub searched : Graph → Ask → Searched
 searched g ask =
-    pick (stopsb g (ask .allowance)) (stopped (afterRounds g (ask .allowance))) (firstOf (roll g) (length (candidates g)))
+    pick (stopsb g (ask .allowance)) (stopped (afterRounds g (ask .allowance)))
+    (firstOf (roll g) (length (candidates g)))
 
 -- the list that is to be written: the first of the roll, unless the search is stopped
 abbrev pub firstDue : Graph → Ask → Option (List ℕ)

@@ -1,5 +1,5 @@
-// A search: the first of the shortest accepting paths. It applies the reasons 1 to 12, 14 and 15 in order, and leaves the
-// working table untouched after 1 to 12 and all zero otherwise.
+// A search: the first of the shortest accepting paths. It applies the reasons 1 to 12, 14 and 15 in order, and leaves
+// the working table untouched after 1 to 12 and all zero otherwise.
 ghost use mathlib.Core.Path.{_≡_};
 ghost use mathlib.Core.Option.{some};
 ghost use Prim.Native.Nat.{_*_, _≤_};

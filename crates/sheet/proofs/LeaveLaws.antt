@@ -15,7 +15,7 @@ use Rattle.search.proofs.SearchLaws.{search-refused}
 use Rattle.text.specs.Figure.{figure}
 use Rattle.text.specs.Writing.{Wrote}
 use Rattle.text.proofs.WroteLaws.{wrote-none, wrote-as}
-use Rattle.sheet_text.specs.Words.{refusedWord}
+use Rattle.sheet_head.specs.Words.{refusedWord}
 use Rattle.sheet_text.specs.SheetText.{sheetAsk, sheetText, sheetAnswer, sheetRoom}
 use Rattle.sheet_text.proofs.SheetLaws.{sheet-answer, sheet-refused}
 use Rattle.sheet.specs.Sheet.{smallText}

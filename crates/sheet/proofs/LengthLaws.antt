@@ -24,11 +24,11 @@ use Rattle.search.proofs.SearchLaws.{roll-first}
 use Rattle.text.specs.Figure.{figure}
 use Rattle.text.proofs.FigureLaws.{figure-room}
 use Rattle.lines.specs.Line.{line}
-use Rattle.sheet_text.specs.Words.{refusedWord, noneLine, shortestWord}
+use Rattle.sheet_head.specs.Words.{refusedWord, noneLine, shortestWord}
 use Rattle.roll_text.specs.RollText.{mostLists, closing, listsText, listsRoom}
 use Rattle.sheet_text.specs.SheetText.{rollText, textOf, sheetAsk, sheetRefusal, sheetText, sheetRoom}
 use Rattle.roll_text.proofs.RoomLaws.{roll-room, lines-room, closing-room}
-use Rattle.sheet_text.proofs.HeadLaws.{head-room}
+use Rattle.sheet_head.proofs.HeadLaws.{head-room}
 use Rattle.sheet_text.proofs.SheetLaws.{headOf, rollText-some}
 
 -- the number of the first reason is one of the table's

@@ -5,8 +5,8 @@ ghost use Rattle.sheet.specs.Sheet.{sheetWritten, sheetAnswered, sheetWo
 use gate::enter;
 use gate::leave;
 use model::Checked;
+use sheet_head::write_refusal;
 use sheet_text::sheet_model;
-use sheet_text::write_refusal;
 
 // The entries that a text must have: no sheet is longer.
 const SHEET_ROOM: usize = 410_000;

@@ -15,16 +15,18 @@ use Rattle.model.specs.Model.{graphOf}
 use Rattle.format.specs.Rules.{Accepted}
 use Rattle.model.specs.declared.Header.{Header}
 use Rattle.model.specs.Values.{Valid}
-use Rattle.model.proofs.Laws.{accepted-facts, header-numbers}
+use Rattle.model.proofs.Laws.{accepted-facts, header-numbers, valid-sizes}
 use Rattle.lasso.proofs.RoundLaws.{candidates-length-le}
 use Rattle.outcomes.specs.Outcome.{refused, answered, outcome}
 use Rattle.outcomes.specs.Tables.{written, unlessRefused}
 use Rattle.search.specs.Search.{Searched, searched}
 use Rattle.search.proofs.SearchLaws.{SearchIs, search-empty, search-found, search-no-room, roll-first}
 use Rattle.text.specs.Figure.{figure}
-use Rattle.sheet_text.specs.Words.{refusedWord, noneLine, shortestWord}
-use Rattle.sheet_text.specs.SheetText.{head, rollText, textOf, sheetAsk, sheetRefusal, sheetText, sheetAnswer}
+use Rattle.sheet_head.specs.Words.{refusedWord, noneLine, shortestWord}
+use Rattle.sheet_head.specs.Head.{head}
+use Rattle.sheet_text.specs.SheetText.{rollText, textOf, sheetAsk, sheetRefusal, sheetText, sheetAnswer}
 use Rattle.roll_text.specs.RollText.{listsText, lastPrinted}
+use Rattle.sheet_head.proofs.HeadLaws.{head-room}
 
 -- the whole text of a sheet, and the list that it leaves in the answer table
 pub record SheetIs (f : List ℕ) (answer work : ℕ) (text : List ℕ) (due : Option (List ℕ)) : Type 0 where
@@ -122,3 +124,10 @@ head-is {f} {h} {rounds} v e =
     ap (λ (k : ℕ). head k (h .edges) rounds) n
     ∙ ap (λ (k : ℕ). head (states f) k rounds) m
     ∙ ap (λ (k : ℕ). head (states f) (edgeCount f) k) e
+
+-- the lines before the lists have room
+pub head-fits : {f : List ℕ} {h : Header} {rounds : ℕ} → Valid f h → rounds ≡ length (candidates (graphOf f))
+    → length (head (h .states) (h .edges) rounds) ≤ 28
+head-fits {f} {h} {rounds} v e =
+    let sizes = valid-sizes v in
+    head-room (h .states) (h .edges) rounds (omega arith) (omega arith) (omega (arith, e, candidates-length-le (graphOf f)))

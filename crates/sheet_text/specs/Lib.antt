@@ -1,3 +1,2 @@
 -- The text of the desk sheet, from the file's bytes, and the answer table afterwards.
-pub mod Words
 pub mod SheetText

@@ -13,15 +13,10 @@ use Rattle.gate.specs.Gate.{asking}
 use Rattle.gate.specs.declared.Ask.{Ask}
 use Rattle.outcomes.specs.Tables.{written, unlessRefused}
 use Rattle.search.specs.Search.{searchReasons}
-use Rattle.text.specs.Characters.{space}
-use Rattle.text.specs.Decimal.{decimal}
 use Rattle.text.specs.Figure.{figure}
 use Rattle.roll_text.specs.RollText.{listsText, lastPrinted}
-use Rattle.sheet_text.specs.Words.{refusedWord, modelWord, roundsWord, noneLine, shortestWord}
-
--- the lines `model` with N and M, and `rounds` with the rounds
-abbrev pub head : (n m rounds : ℕ) → List ℕ
-head n m rounds = modelWord ++ decimal n ++ figure (space ∷ []) m ++ figure roundsWord rounds
+use Rattle.sheet_head.specs.Words.{refusedWord, noneLine, shortestWord}
+use Rattle.sheet_head.specs.Head.{head}
 
 -- the lines behind the rounds: `none`, or the length, the lists and the closing line
 abbrev pub rollText : List (List ℕ) → List ℕ

@@ -96,8 +96,8 @@ entry-least P (some m) (suc k) least tells above =
     omega (arith, above m (least .0), least .1 k (tells k refl))
 
 -- an edge into the target from a state of the level: its length is the least
-pub found : {g : Graph} {limit target at end count u : ℕ} {w₀ w : List ℕ} (level : ℕ) → WellFormed g → level < limit → State (g .size) (g .succs) limit target w₀ (level + 1) at end count w → Hit (g .size) (g .succs) (sources (g .size) limit w₀) level u → T (edgeb g u target) → FoundFrom g (sources (g .size) limit w₀) limit target w₀ w (level + 1)
-found {g} {limit} {target} {at} {end} {count} {u} {w₀} {w} level wf l S H e =
+pub edge-found : {g : Graph} {limit target at end count u : ℕ} {w₀ w : List ℕ} (level : ℕ) → WellFormed g → level < limit → State (g .size) (g .succs) limit target w₀ (level + 1) at end count w → Hit (g .size) (g .succs) (sources (g .size) limit w₀) level u → T (edgeb g u target) → FoundFrom g (sources (g .size) limit w₀) limit target w₀ w (level + 1)
+edge-found {g} {limit} {target} {at} {end} {count} {u} {w₀} {w} level wf l S H e =
     record {
       outside = S .outside;
       length = ap (under (suc limit)) least ∙ under-lt (suc limit) (suc level) (omega arith) ∙ ap (λ (k : ℕ). some k) (omega arith);

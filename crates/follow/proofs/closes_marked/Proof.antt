@@ -16,14 +16,14 @@ use Rattle.follow.proofs.closes_marked.Statement.{statement}
 use Rattle.follow.proofs.closes_marked.Tie as tie
 
 -- the state at place x is not reached soon enough, or no state from it on is marked
-abbrev Unclosed : List ℕ → Header → List ℕ → ℕ → ℕ → ℕ → Type 0
-Unclosed f h w place left x =
+abbrev NotClosing : List ℕ → Header → List ℕ → ℕ → ℕ → ℕ → Type 0
+NotClosing f h w place left x =
     (a : ℕ) → MarkFrom (graphIn f h) (h .start) w place x → entry 2 (h .states) w (getD (h .start ∷ w) x 0) ≡ suc a
     → a ≤ left → ⊥
 
 abbrev Inv-loop : tie.InvT-loop
 Inv-loop file h work place left n marked₀ k₀ marked k =
-    (k ≤ place + 1) × Decides (MarkFrom (graphIn file h) (h .start) work place k) marked × ((x : ℕ) → k ≤ x → Unclosed file h work place left x)
+    (k ≤ place + 1) × Decides (MarkFrom (graphIn file h) (h .start) work place k) marked × ((x : ℕ) → k ≤ x → NotClosing file h work place left x)
 
 abbrev μ-loop : tie.MeasureT-loop
 μ-loop file h work place left n marked₀ k₀ marked k = k
@@ -78,12 +78,12 @@ level c =
 
 -- one place more is looked at
 more : (c : tie.Joined1 Inv-loop μ-loop) → let at = c .before .before .before .before in let a = at .before .before .before .args in
-    Unclosed (a .file .now) (a .h) (a .work .now) (a .place) (a .left) (at .loop .k - 1)
+    NotClosing (a .file .now) (a .h) (a .work .now) (a .place) (a .left) (at .loop .k - 1)
     → Inv-loop (a .file .now) (a .h) (a .work .now) (a .place) (a .left) (a .h .states) false (a .place + 1) (c .if1 .marked) (at .loop .k - 1)
 more c here =
     let at = c .before .before .before .before in
     let a = at .before .before .before .args in
-    (omega arith, flag c, from-more (Unclosed (a .file .now) (a .h) (a .work .now) (a .place) (a .left)) (at .loop .k) (omega arith) (at .loop .inv .2) here)
+    (omega arith, flag c, from-more (NotClosing (a .file .now) (a .h) (a .work .now) (a .place) (a .left)) (at .loop .k) (omega arith) (at .loop .inv .2) here)
 
 mul-get : tie.Need-mul-get Inv-loop μ-loop
 mul-get c = omega arith

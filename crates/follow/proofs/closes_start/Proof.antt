@@ -13,12 +13,12 @@ use Rattle.follow.proofs.closes_start.Statement.{statement}
 use Rattle.follow.proofs.closes_start.Tie as tie
 
 -- the state at place x cannot start the loop, or is not reached soon enough
-abbrev Unreached : ℕ → ℕ → List ℕ → ℕ → ℕ → Type 0
-Unreached n start w left x =
+abbrev StartUnreached : ℕ → ℕ → List ℕ → ℕ → ℕ → Type 0
+StartUnreached n start w left x =
     (a : ℕ) → 1 ≤ entry 1 n w (getD (start ∷ w) x 0) → entry 2 n w (getD (start ∷ w) x 0) ≡ suc a → a ≤ left → ⊥
 
 abbrev Inv-loop : tie.InvT-loop
-Inv-loop h work place left n k₀ k = (k ≤ place + 1) × ((x : ℕ) → x < k → Unreached (h .states) (h .start) work left x)
+Inv-loop h work place left n k₀ k = (k ≤ place + 1) × ((x : ℕ) → x < k → StartUnreached (h .states) (h .start) work left x)
 
 abbrev μ-loop : tie.MeasureT-loop
 μ-loop h work place left n k₀ k = place + 1 - k
@@ -88,7 +88,7 @@ loop-again c =
     let first = one at in
     let second = two (at .before) in (
       omega arith,
-      below-more (Unreached (a .h .states) (a .h .start) (a .work .now) (a .left)) (loop .k) (loop .inv .1) (λ i p q r. ⊎-elim (λ v. omega (arith, v .1 .taken, v .2 .left)) (⊎-elim (λ v. omega (arith, v .1 .left)) (λ v. omega (arith, v .left))) (c .if1 .came)),
+      below-more (StartUnreached (a .h .states) (a .h .start) (a .work .now) (a .left)) (loop .k) (loop .inv .1) (λ i p q r. ⊎-elim (λ v. omega (arith, v .1 .taken, v .2 .left)) (⊎-elim (λ v. omega (arith, v .1 .left)) (λ v. omega (arith, v .left))) (c .if1 .came)),
     )
 
 returns-2 : tie.Need-returns-2 Inv-loop μ-loop

@@ -11,8 +11,8 @@ use lib.ListN.{length}
 use Rattle.format.specs.Layout.{states, edgeCount, initial, reserved, totalOf}
 use Rattle.format.specs.Rules.{shortFile, badStates, badEdges, badInitial, badReserved, KeptTo}
 use Rattle.model.specs.Values.{checkWith}
-use Rattle.format.proofs.Reasons.{passed}
-use Rattle.model.proofs.Answers.{refused}
+use Rattle.format.proofs.Reasons.{unheld-skipped}
+use Rattle.model.proofs.Answers.{held-refuses}
 use borrow.Author.Needs.{needs}
 use Rattle.model.proofs.check.Statement.{statement}
 use Rattle.model.proofs.check.Tie as tie
@@ -43,34 +43,34 @@ totalFor c = totalOf (states (fileOf c)) (edgeCount (fileOf c))
 
 -- past each rule those behind it decide
 kept-1 : (c : tie.Else1) → KeptTo 1 (totalFor (from1 c)) (fileOf (from1 c))
-kept-1 c = let file = fileOf (from1 c) in passed _ (shortFile file) 1 _ refl (le-ltb (length file) 24 (c .if1 .left))
+kept-1 c = let file = fileOf (from1 c) in unheld-skipped _ (shortFile file) 1 _ refl (le-ltb (length file) 24 (c .if1 .left))
 
 kept-2 : (c : tie.Else3) → KeptTo 2 (totalFor (from2 c)) (fileOf (from2 c))
 kept-2 c =
     let file = fileOf (from2 c) in
     let in-range : badStates file ≡ false = rw (ne-eqb (states file) 0 (omega arith), le-ltb 4096 (states file) (omega arith)) in
-    passed _ (badStates file) 2 _ (kept-1 (c .before .before .before .before .before)) in-range
+    unheld-skipped _ (badStates file) 2 _ (kept-1 (c .before .before .before .before .before)) in-range
 
 kept-3 : (c : tie.Else4) → KeptTo 3 (totalFor (from3 c)) (fileOf (from3 c))
 kept-3 c =
     let file = fileOf (from3 c) in
-    passed _ (badEdges file) 3 _ (kept-2 (c .before)) (le-ltb 8192 (edgeCount file) (omega arith))
+    unheld-skipped _ (badEdges file) 3 _ (kept-2 (c .before)) (le-ltb 8192 (edgeCount file) (omega arith))
 
 kept-4 : (c : tie.Else5) → KeptTo 4 (totalFor (from4 c)) (fileOf (from4 c))
 kept-4 c =
     let file = fileOf (from4 c) in
-    passed _ (badInitial file) 4 _ (kept-3 (c .before)) (rw (lt-ltb (initial file) (states file) (omega arith)))
+    unheld-skipped _ (badInitial file) 4 _ (kept-3 (c .before)) (rw (lt-ltb (initial file) (states file) (omega arith)))
 
 kept-5 : (c : tie.Else6) → KeptTo 5 (totalFor (from5 c)) (fileOf (from5 c))
 kept-5 c =
     let file = fileOf (from5 c) in
-    passed _ (badReserved file) 5 _ (kept-4 (c .before .before)) (rw (eq-eqb (reserved file) 0 (omega arith)))
+    unheld-skipped _ (badReserved file) 5 _ (kept-4 (c .before .before)) (rw (eq-eqb (reserved file) 0 (omega arith)))
 
 returns : tie.Need-returns
 returns c =
     let start = c .before .before in
     let file = fileOf start in
-    refused (totalFor start) file (shortFile file) 1 _ refl (lt-ltb (length file) 24 (c .if1 .taken))
+    held-refuses (totalFor start) file (shortFile file) 1 _ refl (lt-ltb (length file) 24 (c .if1 .taken))
 
 word-requires : tie.Need-word-requires
 word-requires c κs = search needs
@@ -86,26 +86,26 @@ returns-2 c =
     let first = c .before .before .before .before in
     let start = from1 first in
     let file = fileOf start in
-    refused (totalFor start) file (badStates file) 2 _ (kept-1 first) (rw (eq-eqb (states file) 0 (omega arith)))
+    held-refuses (totalFor start) file (badStates file) 2 _ (kept-1 first) (rw (eq-eqb (states file) 0 (omega arith)))
 
 returns-3 : tie.Need-returns-3
 returns-3 c =
     let first = c .before .before .before .before .before in
     let start = from1 first in
     let file = fileOf start in
-    refused (totalFor start) file (badStates file) 2 _ (kept-1 first) (rw (ne-eqb (states file) 0 (omega arith), lt-ltb 4096 (states file) (omega arith)))
+    held-refuses (totalFor start) file (badStates file) 2 _ (kept-1 first) (rw (ne-eqb (states file) 0 (omega arith), lt-ltb 4096 (states file) (omega arith)))
 
 returns-4 : tie.Need-returns-4
 returns-4 c =
     let start = from2 (c .before) in
     let file = fileOf start in
-    refused (totalFor start) file (badEdges file) 3 _ (kept-2 (c .before)) (lt-ltb 8192 (edgeCount file) (omega arith))
+    held-refuses (totalFor start) file (badEdges file) 3 _ (kept-2 (c .before)) (lt-ltb 8192 (edgeCount file) (omega arith))
 
 returns-5 : tie.Need-returns-5
 returns-5 c =
     let start = from3 (c .before) in
     let file = fileOf start in
-    refused (totalFor start) file (badInitial file) 4 _ (kept-3 (c .before)) (rw (le-ltb (initial file) (states file) (omega arith)))
+    held-refuses (totalFor start) file (badInitial file) 4 _ (kept-3 (c .before)) (rw (le-ltb (initial file) (states file) (omega arith)))
 
 word-requires-4 : tie.Need-word-requires-4
 word-requires-4 c κs = search needs
@@ -114,7 +114,7 @@ returns-6 : tie.Need-returns-6
 returns-6 c =
     let start = from4 (c .before .before) in
     let file = fileOf start in
-    refused (totalFor start) file (badReserved file) 5 _ (kept-4 (c .before .before)) (rw (ne-eqb (reserved file) 0 (omega arith)))
+    held-refuses (totalFor start) file (badReserved file) 5 _ (kept-4 (c .before .before)) (rw (ne-eqb (reserved file) 0 (omega arith)))
 
 total-of-requires : tie.Need-total-of-requires
 total-of-requires c κs = search needs

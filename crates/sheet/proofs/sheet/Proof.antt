@@ -10,7 +10,7 @@ use Rattle.gate.specs.Gate.{commonRules, Passed}
 use Rattle.gate.proofs.GateLaws.{gate-refused, gate-passed, work-left}
 use Rattle.text.proofs.DecimalLaws.{decimal-five}
 use Rattle.text.proofs.FigureLaws.{figure-length}
-use Rattle.sheet_text.specs.Words.{refusedWord}
+use Rattle.sheet_head.specs.Words.{refusedWord}
 use Rattle.sheet.proofs.LeaveLaws.{leaves-short, leaves-sheet, leaves-refused}
 use Rattle.sheet.proofs.sheet.Statement.{statement}
 use Rattle.sheet.proofs.sheet.Tie as tie

@@ -16,7 +16,7 @@ use Rattle.frontier.specs.Buckets.{Planned, HasPlan}
 use Rattle.frontier.specs.Search.{State}
 use Rattle.frontier.proofs.PushLaws.{queue-room}
 use Rattle.spread.proofs.RowLaws.{InRow, queued-entry, planned-state, row-start, row-inside, row-hit, row-step, row-done, level-done}
-use Rattle.spread.proofs.EndLaws.{found, exhausted}
+use Rattle.spread.proofs.EndLaws.{edge-found, exhausted}
 use Rattle.spread.proofs.search_planned.Statement.{statement}
 use Rattle.spread.proofs.search_planned.Tie as tie
 
@@ -352,7 +352,7 @@ returns-2 c =
     let s = start l in
     λ w P.
     let R = row-from r w P in
-    found {g = graph s} (l .levels .level) (valid-well-formed (s .pre .0)) (level-below (queue-of r)) (R .state) (row-hit (l .levels .level) R)
+    edge-found {g = graph s} (l .levels .level) (valid-well-formed (s .pre .0)) (level-below (queue-of r)) (R .state) (row-hit (l .levels .level) R)
     (subst (λ (x : ℕ). T (edgeb (graph s) (row-s r) x)) (c .if2 .taken) (successor-edge t))
 
 pub search-planned-spec : {M : Type 1} → statement M

@@ -8,10 +8,10 @@ use Rattle.text.specs.Characters.{space}
 use Rattle.text.specs.Decimal.{decimal}
 use Rattle.text.specs.Figure.{figure}
 use Rattle.text.proofs.WroteLaws.{wrote-length, wrote-then}
-use Rattle.sheet_text.specs.Words.{roundsWord}
-use Rattle.sheet_text.proofs.HeadLaws.{head-length}
-use Rattle.sheet_text.proofs.write_head.Statement.{statement}
-use Rattle.sheet_text.proofs.write_head.Tie as tie
+use Rattle.sheet_head.specs.Words.{roundsWord}
+use Rattle.sheet_head.proofs.HeadLaws.{head-length}
+use Rattle.sheet_head.proofs.write_head.Statement.{statement}
+use Rattle.sheet_head.proofs.write_head.Tie as tie
 
 -- the function's start, from behind the word; the word, from behind the states; the states, from behind the edges
 abbrev start : tie.After-write-bytes → tie.Start

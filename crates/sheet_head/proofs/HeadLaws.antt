@@ -9,8 +9,8 @@ use Rattle.text.specs.Decimal.{decimal}
 use Rattle.text.specs.Figure.{figure}
 use Rattle.text.proofs.DecimalLaws.{decimal-four}
 use Rattle.text.proofs.FigureLaws.{figure-room}
-use Rattle.sheet_text.specs.Words.{modelWord, roundsWord}
-use Rattle.sheet_text.specs.SheetText.{head}
+use Rattle.sheet_head.specs.Words.{modelWord, roundsWord}
+use Rattle.sheet_head.specs.Head.{head}
 
 -- the lines with the numbers of states, edges and rounds
 pub head-length : (n m rounds : ℕ)

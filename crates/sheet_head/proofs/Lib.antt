@@ -1,0 +1,2 @@
+-- The law of the lines before the lists.
+pub mod HeadLaws
