@@ -3,6 +3,7 @@ use Prim.Native.Nat.{ℕ, _≤_}
 use mathlib.Core.Path.{_≡_, refl, sym, _∙_, ap, subst}
 use mathlib.Core.List.{List, _++_}
 use mathlib.Core.Option.{some}
+use native.Mathlib.Nat.{le-trans}
 use native.Mathlib.Omega.{arith}
 use borrow.Author.Needs.{needs}
 use lib.ListN.{length}
@@ -74,7 +75,7 @@ entries-requires c κs = search needs
 write-refusal-requires : tie.Need-write-refusal-requires
 write-refusal-requires c κs =
     let s = start (c .before .before .before .before) in
-    omega (arith, figure-room refusedWord 15 (omega arith), s .pre .1 .1 .1)
+    le-trans (figure-room refusedWord _ (omega arith)) (omega (arith, s .pre .1 .1 .1))
 
 same-length : tie.Need-same-length
 same-length c = search needs

@@ -44,7 +44,9 @@ same-length c = search needs
 returns : tie.Need-returns
 returns c =
     let done = c .before .before in
-    reports-known answerReport _ (done .before .before .before .before .answer .given .1) (done .report-figures .ensures .0) (done .report-figures .ensures .1)
+    let told = done .before .before .before .before in
+    let a = told .before .before .before .args in
+    reports-known answerReport (a .out .now) (told .answer .given .1) (done .report-figures .ensures .0) (done .report-figures .ensures .1)
 
 same-length-2 : tie.Need-same-length-2
 same-length-2 c = search needs
@@ -52,7 +54,9 @@ same-length-2 c = search needs
 returns-2 : tie.Need-returns-2
 returns-2 c =
     let done = c .before .before in
-    reports-known answerReport _ (done .before .before .before .before .answer2 .given .1) (done .report-figures2 .ensures .0) (done .report-figures2 .ensures .1)
+    let told = done .before .before .before .before in
+    let a = told .before .before .before .args in
+    reports-known answerReport (a .out .now) (told .answer2 .given .1) (done .report-figures2 .ensures .0) (done .report-figures2 .ensures .1)
 
 same-length-3 : tie.Need-same-length-3
 same-length-3 c = search needs

@@ -50,7 +50,9 @@ same-length c = search needs
 returns : tie.Need-returns
 returns c =
     let done = c .before .before in
-    reports-known answerReport _ (done .before .before .before .before .answer .given .1) (done .report-figures .ensures .0) (done .report-figures .ensures .1)
+    let told = done .before .before .before .before in
+    let a = told .before .before .before .args in
+    reports-known answerReport (a .out .now) (told .answer .given .1) (done .report-figures .ensures .0) (done .report-figures .ensures .1)
 
 same-length-2 : tie.Need-same-length-2
 same-length-2 c = search needs
@@ -58,7 +60,9 @@ same-length-2 c = search needs
 returns-2 : tie.Need-returns-2
 returns-2 c =
     let done = c .before .before in
-    reports-known answerReport _ (done .before .before .before .answer2 .given .1) (done .report-record .ensures .0) (done .report-record .ensures .1)
+    let told = done .before .before .before in
+    let a = told .before .before .before .args in
+    reports-known answerReport (a .out .now) (told .answer2 .given .1) (done .report-record .ensures .0) (done .report-record .ensures .1)
 
 same-length-3 : tie.Need-same-length-3
 same-length-3 c = search needs
@@ -66,7 +70,9 @@ same-length-3 c = search needs
 returns-3 : tie.Need-returns-3
 returns-3 c =
     let done = c .before .before in
-    reports-known answerReport _ (done .before .before .before .before .answer3 .given .1) (done .report-figures2 .ensures .0) (done .report-figures2 .ensures .1)
+    let told = done .before .before .before .before in
+    let a = told .before .before .before .args in
+    reports-known answerReport (a .out .now) (told .answer3 .given .1) (done .report-figures2 .ensures .0) (done .report-figures2 .ensures .1)
 
 same-length-4 : tie.Need-same-length-4
 same-length-4 c = search needs
@@ -74,7 +80,9 @@ same-length-4 c = search needs
 returns-4 : tie.Need-returns-4
 returns-4 c =
     let done = c .before .before in
-    reports-known answerReport _ (done .before .before .before .before .answer4 .given .1) (done .report-figures3 .ensures .0) (done .report-figures3 .ensures .1)
+    let told = done .before .before .before .before in
+    let a = told .before .before .before .args in
+    reports-known answerReport (a .out .now) (told .answer4 .given .1) (done .report-figures3 .ensures .0) (done .report-figures3 .ensures .1)
 
 pub report-search-spec : {M : Type 1} → statement M
 report-search-spec =
