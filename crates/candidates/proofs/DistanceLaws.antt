@@ -29,9 +29,9 @@ pub entry-zero : (n : ℕ) (w : List ℕ) (s : ℕ) → entry 0 n w s ≡ getD w
 entry-zero n w s = let e : 0 * n + s ≡ s = omega arith in ap (λ (i : ℕ). getD w i 0) e
 
 -- the distances from the start, found in region 2 and copied to region 0
-pub started : {g : Graph} {n x : ℕ} {w w₁ w' : List ℕ} → n ≡ g .size → x ≡ g .start
+pub start-distances-put : {g : Graph} {n x : ℕ} {w w₁ w' : List ℕ} → n ≡ g .size → x ≡ g .start
     → DistancesWithin g x n w w₁ → Copied (2 * n) 0 n w₁ w' → StartDistancesPut g w w'
-started {g} {n} {x} {w} {w₁} {w'} en ex found copied =
+start-distances-put {g} {n} {x} {w} {w₁} {w'} en ex found copied =
     record {
       same-length = copied .others .same-length ∙ found .outside .same-length;
       start-distances = record { distances = at };

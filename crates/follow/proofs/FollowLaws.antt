@@ -14,7 +14,7 @@ use Rattle.lasso.specs.Graph.{Graph, WellFormed, pathb}
 use Rattle.lasso.specs.Roll.{leastLength}
 use Rattle.lasso.specs.Distance.{dist}
 use Rattle.lasso.proofs.Least.{isLeast-le, isLeast-has}
-use Rattle.lasso.proofs.Walk.{Walk, walk-append, walk-length, walk-end-state, seg}
+use Rattle.lasso.proofs.Walk.{Walk, walk-append, walk-length, walk-end-state, path-segment}
 use Rattle.lasso.proofs.Distance.{dist-le, dist-walk}
 use Rattle.lasso.proofs.Lasso.{walk-ends}
 use Rattle.lasso.specs.Extends.{Extends}
@@ -61,12 +61,12 @@ module _ {g : Graph} {l place : ℕ} {q : List ℕ} {t : ℕ} (o : Beginning g l
   -- the walk from the initial state to the state at a place
   to-place : (k : ℕ) → k ≤ place → Walk g (g .start) (getD q k 0) k
   to-place k h =
-      walk-length (omega arith) (walk-ends (o .starts) (joined-passed q t [] k (omega arith)) (seg g (q ++ t ∷ []) (o .path) 0 k (omega arith) (simp length-append (omega arith))))
+      walk-length (omega arith) (walk-ends (o .starts) (joined-passed q t [] k (omega arith)) (path-segment g (q ++ t ∷ []) (o .path) 0 k (omega arith) (simp length-append (omega arith))))
 
   -- the walk from the state at a place to t
   from-place : (k : ℕ) → k ≤ place → Walk g (getD q k 0) t (suc place - k)
   from-place k h =
-      walk-length (omega arith) (walk-ends (joined-passed q t [] k (omega arith)) (getD-append-seam q t [] 0) (seg g (q ++ t ∷ []) (o .path) k (length q) (omega arith) (simp length-append (omega arith))))
+      walk-length (omega arith) (walk-ends (joined-passed q t [] k (omega arith)) (getD-append-seam q t [] 0) (path-segment g (q ++ t ∷ []) (o .path) k (length q) (omega arith) (simp length-append (omega arith))))
 
   -- the walk from the initial state to t
   to-next : Walk g (g .start) t (suc place)

@@ -12,8 +12,8 @@ use lib.Seq.{getD-take, length-take-le}
 use lib.Dec.{T}
 use Rattle.lasso.specs.Lists.{differentb}
 use Rattle.lasso.specs.Graph.{Graph, edges, acceptingb, lassob}
-use Rattle.lasso.proofs.Tests.{decide, lt-or-ge, Repeat, repeated}
-use Rattle.lasso.proofs.Walk.{Walk, walk-append, seg}
+use Rattle.lasso.proofs.Tests.{decide, lt-or-ge, Repeat, not-different-repeats}
+use Rattle.lasso.proofs.Walk.{Walk, walk-append, path-segment}
 use Rattle.lasso.proofs.Lasso.{Lasso, Knot, AcceptingThrough, walk-ends, knot→lasso, lassob→lasso, accepting-iff}
 
 -- a lasso by walks through q of fewer than n edges
@@ -31,7 +31,7 @@ module _ {g : Graph} {q : ℕ} {xs : List ℕ} (l : Lasso g q xs) (n : ℕ) (lon
     (i j : ℕ) (order : i < j) (inside : j < n) (same : getD xs i 0 ≡ getD xs j 0) where
   -- the part of the lasso from place x to place y, which hold s and t
   part : (x y : ℕ) {s t : ℕ} → getD xs x 0 ≡ s → getD xs y 0 ≡ t → (x ≤ y) × (y ≤ n) → Walk g s t (y - x)
-  part x y at-x at-y h = walk-ends at-x at-y (seg g xs (l .path) x y (h .0) (omega arith))
+  part x y at-x at-y h = walk-ends at-x at-y (path-segment g xs (l .path) x y (h .0) (omega arith))
 
   -- the last state is the one at k
   closes : getD xs n 0 ≡ getD xs (l .k) 0
@@ -103,10 +103,10 @@ repeat-take n xs h r =
     (inside, sym (getD-take n xs (r .i) 0 (omega arith)) ∙ r .same ∙ getD-take n xs (r .j) 0 inside)
 
 -- a lasso whose states before the last are not all different can be made shorter
-pub cut : {g : Graph} {q : ℕ} {xs : List ℕ} → Lasso g q xs → T (not (differentb (take (edges xs) xs)))
+pub lasso-cut : {g : Graph} {q : ℕ} {xs : List ℕ} → Lasso g q xs → T (not (differentb (take (edges xs) xs)))
     → (ys : List ℕ) × Lasso g q ys × (edges ys < edges xs)
-cut {g} {q} {xs} l twice =
-    let r : Repeat (take (edges xs) xs) = repeated (take (edges xs) xs) twice in
+lasso-cut {g} {q} {xs} l twice =
+    let r : Repeat (take (edges xs) xs) = not-different-repeats (take (edges xs) xs) twice in
     let (inside, same) = repeat-take (edges xs) xs (omega arith) r in
     let s : Shorter g q (edges xs) = cut-places l (edges xs) refl (r .i) (r .j) (r .order) inside same in
     let (ys, m, e) = knot→lasso (s .1) in
@@ -119,7 +119,7 @@ cut-all zero l h = absurd (omega arith)
 cut-all {g} {q} (suc n) {xs} l h = elim (decide (differentb (take (edges xs) xs))) [
   | inl d ↦ (xs, (l, d), le-refl (edges xs))
   | inr twice ↦
-      let (ys, m, less) = cut l twice in
+      let (ys, m, less) = lasso-cut l twice in
       let (zs, acc, le) = cut-all n m (omega arith) in
       (zs, acc, omega arith)
 ]
@@ -135,7 +135,7 @@ pub least-lasso-accepting-through : {g : Graph} {q : ℕ} {xs : List ℕ} → La
 least-lasso-accepting-through {xs = xs} l least = elim (decide (differentb (take (edges xs) xs))) [
   | inl d ↦ (l, d)
   | inr twice ↦
-      let (ys, m, less) = cut l twice in
+      let (ys, m, less) = lasso-cut l twice in
       let (zs, acc, le) = lasso-accepting-through m in
       absurd (omega (arith, least zs acc))
 ]

@@ -11,18 +11,18 @@ use lib.Dec.{T}
 use Rattle.lasso.specs.Lists.{differentb, seek}
 use Rattle.lasso.specs.Graph.{Graph, WellFormed, edgeb, pathb}
 use Rattle.lasso.specs.Distance.{reachb, dist, distPlus}
-use Rattle.lasso.proofs.Tests.{decide, Repeat, repeated}
+use Rattle.lasso.proofs.Tests.{decide, Repeat, not-different-repeats}
 use Rattle.lasso.proofs.Least.{IsLeast, Passes, isLeast-by, isLeast-le, isLeast-has, seek-least}
 use Rattle.lasso.proofs.Different.{length-different}
-use Rattle.lasso.proofs.Walk.{Run, Walk, walk-append, walk-to, walk-cons, walk-uncons, walk-here, walk-edge, run-path, run-last, run-states, seg, reach-walk, walk-reach}
+use Rattle.lasso.proofs.Walk.{Run, Walk, walk-append, walk-to, walk-cons, walk-uncons, walk-here, walk-edge, run-path, run-last, run-states, path-segment, reach-walk, walk-reach}
 
 -- a walk that passes a state twice can be cut
 pub walk-cut : {g : Graph} {s t : ℕ} {us : List ℕ} → Run g s us t → Repeat (s ∷ us)
     → (n : ℕ) × Walk g s t n × (n < length us)
 walk-cut {g} {s} {us = us} r d =
     let h : T (pathb g (s ∷ us)) = run-path r in
-    let front : Walk g s (getD (s ∷ us) (d .i) 0) (d .i - 0) = seg g (s ∷ us) h 0 (d .i) (omega arith) (omega arith) in
-    let back : Walk g (getD (s ∷ us) (d .j) 0) _ (length us - d .j) = seg g (s ∷ us) h (d .j) (length us) (omega arith) (omega arith) in
+    let front : Walk g s (getD (s ∷ us) (d .i) 0) (d .i - 0) = path-segment g (s ∷ us) h 0 (d .i) (omega arith) (omega arith) in
+    let back : Walk g (getD (s ∷ us) (d .j) 0) _ (length us - d .j) = path-segment g (s ∷ us) h (d .j) (length us) (omega arith) (omega arith) in
     (_, walk-append (walk-to front (d .same)) (walk-to back (run-last r)), omega arith)
 
 -- a walk that passes no state twice has fewer edges than there are states
@@ -40,7 +40,7 @@ walk-short-or-cut : {g : Graph} {s t m : ℕ} → WellFormed g → s < g .size �
 walk-short-or-cut {g} {s} {t} {m} wf l w =
     elim (decide (differentb (s ∷ w .0))) [
       | inl d ↦ inl (omega (arith, walk-different wf l (w .1) d))
-      | inr d ↦ let (n, v, less) = walk-cut (w .1) (repeated (s ∷ w .0) d) in inr (n, v, omega arith)
+      | inr d ↦ let (n, v, less) = walk-cut (w .1) (not-different-repeats (s ∷ w .0) d) in inr (n, v, omega arith)
     ]
 
 -- every walk leaves a short one, by cuts; each cut shortens the walk, so fuel for its edges is enough

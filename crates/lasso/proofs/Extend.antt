@@ -13,7 +13,7 @@ use lib.Dec.{T}
 use Rattle.lasso.specs.Graph.{Graph, WellFormed, edgeb, pathb, edges, lassob}
 use Rattle.lasso.specs.Roll.{leastLength}
 use Rattle.lasso.proofs.Tests.{lt-or-ge, parts, join}
-use Rattle.lasso.proofs.Walk.{Run, Walk, run-append, run-path, run-last, seg}
+use Rattle.lasso.proofs.Walk.{Run, Walk, run-append, run-path, run-last, path-segment}
 use Rattle.lasso.proofs.Lasso.{Lasso, lassob→lasso, lasso→lassob, walk-ends, run-end}
 use Rattle.lasso.proofs.RollLaws.{leastLength-le}
 use Rattle.lasso.specs.Extends.{Extends}
@@ -116,11 +116,11 @@ lasso-of-places g xs k m starts path low high inside closes marked =
 module _ (g : Graph) (q : List ℕ) (t : ℕ) (us : List ℕ) (x : ℕ) (o : Lasso g x (q ++ t ∷ us)) (marked : T (g .marked x)) where
   -- the part of the lasso from t to a later place
   from-t : {y : ℕ} (j : ℕ) → length q ≤ j → j ≤ edges (q ++ t ∷ us) → getD (q ++ t ∷ us) j 0 ≡ y → Walk g t y (j - length q)
-  from-t j low high at = walk-ends (getD-append-seam q t us 0) at (seg g (q ++ t ∷ us) (o .path) (length q) j low (omega (arith, joined-edges q t us)))
+  from-t j low high at = walk-ends (getD-append-seam q t us 0) at (path-segment g (q ++ t ∷ us) (o .path) (length q) j low (omega (arith, joined-edges q t us)))
 
   -- the part of the lasso from its mark to its end
   from-mark : {y : ℕ} → getD (q ++ t ∷ us) (o .k) 0 ≡ y → Walk g x y (edges (q ++ t ∷ us) - o .r)
-  from-mark at = walk-ends (o .holds) (o .closes ∙ at) (seg g (q ++ t ∷ us) (o .path) (o .r) (edges (q ++ t ∷ us)) (omega arith) (omega arith))
+  from-mark at = walk-ends (o .holds) (o .closes ∙ at) (path-segment g (q ++ t ∷ us) (o .path) (o .r) (edges (q ++ t ∷ us)) (omega arith) (omega arith))
 
   -- its loop start is at t or later
   lasso-ahead : length q ≤ o .k → Ahead g (edges (q ++ t ∷ us)) q t
@@ -132,7 +132,7 @@ module _ (g : Graph) (q : List ℕ) (t : ℕ) (us : List ℕ) (x : ℕ) (o : Las
     c = edges (q ++ t ∷ us) - o .r;
     marked = marked;
     to-knot = from-t (o .k) low (omega arith) refl;
-    to-mark = walk-ends refl (o .holds) (seg g (q ++ t ∷ us) (o .path) (o .k) (o .r) (omega arith) (omega arith));
+    to-mark = walk-ends refl (o .holds) (path-segment g (q ++ t ∷ us) (o .path) (o .k) (o .r) (omega arith) (omega arith));
     back = from-mark refl;
     turns = omega arith;
     total = omega arith;

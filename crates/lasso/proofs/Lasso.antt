@@ -14,7 +14,7 @@ use Rattle.lasso.specs.Graph.{Graph, WellFormed, pathb, edges, loopsb, l
 use Rattle.lasso.proofs.Tests.{parts, join, decide, T-true, T-false, eq→eqb, eq-or-apart}
 use Rattle.lasso.proofs.Tests.{anyb-some, some-anyb, upFrom-range, range-upFrom, below-lt, lt-below, different-places}
 use Rattle.lasso.proofs.Different.{length-different-places}
-use Rattle.lasso.proofs.Walk.{Run, done, next, Walk, run-append, walk-from, walk-to, run-path, seg, path-states}
+use Rattle.lasso.proofs.Walk.{Run, done, next, Walk, run-append, walk-from, walk-to, run-path, path-segment, path-states}
 
 -- A lasso whose loop holds the state q: a path from the initial state whose last state is the one at the earlier place k,
 -- with q at a place r from k to before the last.
@@ -51,9 +51,9 @@ lasso→knot {g} {q} {xs} l = record {
   a = l .k - 0;
   b = l .r - l .k;
   c = edges xs - l .r;
-  stem = walk-ends (l .starts) refl (seg g xs (l .path) 0 (l .k) (omega arith) (omega arith));
-  there = walk-ends refl (l .holds) (seg g xs (l .path) (l .k) (l .r) (omega arith) (omega arith));
-  back = walk-ends (l .holds) (l .closes) (seg g xs (l .path) (l .r) (edges xs) (omega arith) (omega arith));
+  stem = walk-ends (l .starts) refl (path-segment g xs (l .path) 0 (l .k) (omega arith) (omega arith));
+  there = walk-ends refl (l .holds) (path-segment g xs (l .path) (l .k) (l .r) (omega arith) (omega arith));
+  back = walk-ends (l .holds) (l .closes) (path-segment g xs (l .path) (l .r) (edges xs) (omega arith) (omega arith));
   turns = omega arith;
   total = omega arith;
 }

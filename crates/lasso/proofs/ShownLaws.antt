@@ -13,7 +13,7 @@ use Rattle.lasso.specs.Roll.{leastLength}
 use Rattle.lasso.specs.Shown.{HasLength, OfLeastLength, ToBeShown, NoEdgeOut}
 use Rattle.lasso.proofs.Tests.{parts, join, memb-at, eq→eqb, eq-or-apart, range-upFrom, some-anyb}
 use Rattle.lasso.proofs.Least.{IsLeast, isLeast-by, isLeast-bounds}
-use Rattle.lasso.proofs.Walk.{walk-uncons, walk-length, seg}
+use Rattle.lasso.proofs.Walk.{walk-uncons, walk-length, path-segment}
 use Rattle.lasso.proofs.Lasso.{Lasso, accepting-iff, accepting-length, loop-start}
 use Rattle.lasso.proofs.Cut.{lasso-accepting, least-lasso-accepting}
 use Rattle.lasso.proofs.RollLaws.{accepting-lasso, leastLength-least}
@@ -85,7 +85,7 @@ to-be-shown g wf = record {
 -- a path that goes on from a place leaves its state by an edge
 path-goes-on : (g : Graph) (xs : List ℕ) (j : ℕ) → T (pathb g xs) → j < edges xs → (t : ℕ) × T (edgeb g (getD xs j 0) t)
 path-goes-on g xs j h less =
-    let w = seg g xs h j (j + 1) (omega arith) (omega arith) in
+    let w = path-segment g xs h j (j + 1) (omega arith) (omega arith) in
     let (t, e, rest) = walk-uncons {m = 0} (walk-length (omega arith) w) in
     (t, e)
 

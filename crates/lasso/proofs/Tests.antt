@@ -196,15 +196,15 @@ pub record Repeat (xs : List ℕ) : Type 0 where
   pub same : getD xs i 0 ≡ getD xs j 0
 
 -- a list whose entries are not all different holds some entry twice
-pub repeated : (xs : List ℕ) → T (not (differentb xs)) → Repeat xs
-repeated [] d = absurd d
-repeated (x ∷ xs) d =
+pub not-different-repeats : (xs : List ℕ) → T (not (differentb xs)) → Repeat xs
+not-different-repeats [] d = absurd d
+not-different-repeats (x ∷ xs) d =
     elim (decide (memb x xs)) [
       | inl m ↦
           let r : (j : ℕ) × (j < length xs) × (getD xs j 0 ≡ x) = memb-at x xs m in
           record { i = 0; j = suc (r .0); order = omega arith; inside = omega arith; same = sym (r .2) }
       | inr n ↦
-          let r : Repeat xs = repeated xs (rw (T-false (memb x xs) n) at d) in
+          let r : Repeat xs = not-different-repeats xs (rw (T-false (memb x xs) n) at d) in
           record { i = suc (r .i); j = suc (r .j); order = omega arith; inside = omega arith; same = r .same }
     ]
 
@@ -214,5 +214,5 @@ pub places-different : (xs : List ℕ) → ((i j : ℕ) → i < j → j < length
 places-different xs apart =
     elim (decide (differentb xs)) [
       | inl d ↦ d
-      | inr n ↦ let r : Repeat xs = repeated xs n in absurd (apart (r .i) (r .j) (r .order) (r .inside) (r .same))
+      | inr n ↦ let r : Repeat xs = not-different-repeats xs n in absurd (apart (r .i) (r .j) (r .order) (r .inside) (r .same))
     ]

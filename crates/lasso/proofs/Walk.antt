@@ -93,13 +93,13 @@ path-front g s (u ∷ us) h (suc j) l =
     walk-cons (fst (edgeb g s u) (pathb g (u ∷ us)) h) (path-front g u us (snd (edgeb g s u) (pathb g (u ∷ us)) h) j (omega arith))
 
 -- the segment of a path from place i to place j
-pub seg : (g : Graph) (xs : List ℕ) → T (pathb g xs) → (i j : ℕ) → i ≤ j → j < length xs
+pub path-segment : (g : Graph) (xs : List ℕ) → T (pathb g xs) → (i j : ℕ) → i ≤ j → j < length xs
     → Walk g (getD xs i 0) (getD xs j 0) (j - i)
-seg g [] h i j p q = absurd (omega arith)
-seg g (s ∷ us) h zero j p q = walk-length (omega arith) (path-front g s us h j (omega arith))
-seg g (s ∷ us) h (suc i) zero p q = absurd (omega arith)
-seg g (s ∷ us) h (suc i) (suc j) p q =
-    walk-length (omega arith) (seg g us (path-tail g s us h) i j (omega arith) (omega arith))
+path-segment g [] h i j p q = absurd (omega arith)
+path-segment g (s ∷ us) h zero j p q = walk-length (omega arith) (path-front g s us h j (omega arith))
+path-segment g (s ∷ us) h (suc i) zero p q = absurd (omega arith)
+path-segment g (s ∷ us) h (suc i) (suc j) p q =
+    walk-length (omega arith) (path-segment g us (path-tail g s us h) i j (omega arith) (omega arith))
 
 -- the states of a run from a state are states
 pub run-states : {g : Graph} {s t : ℕ} {us : List ℕ} → WellFormed g → s < g .size → Run g s us t → (x : ℕ)

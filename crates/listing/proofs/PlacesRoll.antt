@@ -76,8 +76,8 @@ pub record Raising (f : List ℕ) (h : Header) (l : ℕ) (w w' : List ℕ) (p bo
   pub bound-is : bound ≡ getD w p 0 + 1
 
 -- one place back, from the state after the one that stands there on
-pub raising : {f w w' : List ℕ} {h : Header} {l place : ℕ} (p bound : ℕ) → Retreating f h l w w' place → place ≡ p + 1 → bound ≡ getD w' p 0 + 1 → Raising f h l w w' p bound
-raising {f} {w} {w'} {h} {l} p bound r at e =
+pub raising-from : {f w w' : List ℕ} {h : Header} {l place : ℕ} (p bound : ℕ) → Retreating f h l w w' place → place ≡ p + 1 → bound ≡ getD w' p 0 + 1 → Raising f h l w w' p bound
+raising-from {f} {w} {w'} {h} {l} p bound r at e =
     record {
       retreating = subst (λ (i : ℕ). Retreating f h l w w' i) at r;
       bound-is = omega (arith, e, r .same .same-before p (omega (arith, r .within, length-fits (r .prepared))));

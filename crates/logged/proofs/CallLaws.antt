@@ -160,12 +160,12 @@ call-fits f (search ask a w) = search-fits f ask (length a) (length w)
 call-fits f (next earlier a w) = next-fits f earlier (length a) (length w)
 
 -- a call is made: its answer is the finder's, its numbers are in the log
-pub made : (f : List ℕ) (c : Call) (place : ℕ) {log a' w' log' : List ℕ} {got : ℕ} (answer : Answer) {kind : ℕ} {figures : List ℕ}
+pub call-made : (f : List ℕ) (c : Call) (place : ℕ) {log a' w' log' : List ℕ} {got : ℕ} (answer : Answer) {kind : ℕ} {figures : List ℕ}
     → answer ≡ finderAt f c .answer → a' ≡ finderAt f c .table → w' ≡ finderAt f c .work → length a' ≡ length (tableLent c)
     → kind ≡ reportOf answer .kind → figures ≡ figuresIn (0 ∷ 0 ∷ 0 ∷ []) (reportOf answer)
     → log' ≡ take place log ++ (kind ∷ figures) ++ drop (place + 4) log → got ≡ entriesOf (foundLength answer)
     → Made f c place log a' w' log' got
-made f c place {log} {a'} {w'} {log'} {got} answer {kind} {figures} e at-a at-w same at-kind at-figures at-log at-got =
+call-made f c place {log} {a'} {w'} {log'} {got} answer {kind} {figures} e at-a at-w same at-kind at-figures at-log at-got =
     let line : (kind ∷ figures) ≡ reportRow (reportOf answer) = cc in
     let row-is : (kind ∷ figures) ≡ callRow (finderAt f c) = line ∙ ap (λ (x : Answer). reportRow (reportOf x)) e in
     let got-is : got ≡ entriesOf (foundLength (finderAt f c .answer)) = at-got ∙ ap (λ (x : Answer). entriesOf (foundLength x)) e in

@@ -128,8 +128,8 @@ edge-found {g} {limit} {target} {at} {end} {count} {u} {w₀} {w} level wf l S H
         isLeast-unique (Timed (g .size) source (λ s m. (1 ≤ m) × Walk g s target m)) (hitLength g source target) (some (suc level)) (hitLength-least wf source target) (into-timed H e, not-less)
 
 -- all levels below the limit have been looked at: what is there up to the limit is in, and no edge leads to the target
-pub exhausted : {g : Graph} {limit target level at count : ℕ} {w₀ w : List ℕ} → WellFormed g → level ≡ limit → State (g .size) (g .succs) limit target w₀ level at at count w → ExhaustedFrom g (sources (g .size) limit w₀) limit target w₀ w count
-exhausted {g} {limit} {target} {level} {at} {count} {w₀} {w} wf same S =
+pub nothing-found : {g : Graph} {limit target level at count : ℕ} {w₀ w : List ℕ} → WellFormed g → level ≡ limit → State (g .size) (g .succs) limit target w₀ level at at count w → ExhaustedFrom g (sources (g .size) limit w₀) limit target w₀ w count
+nothing-found {g} {limit} {target} {level} {at} {count} {w₀} {w} wf same S =
     record {
       outside = S .outside;
       length = isLeast-unique (λ k. into k × (k < suc limit)) (under (suc limit) (hitLength g source target)) none (under-least into (suc limit) (hitLength g source target) (hitLength-least wf source target)) (λ m h. no-length m (h .0) (h .1));

@@ -3,7 +3,7 @@ use borrow.Author.Needs.{needs}
 use mathlib.Core.Path.{refl}
 use native.Mathlib.Omega.{arith}
 use Rattle.model.proofs.Laws.{valid-sizes}
-use Rattle.candidates.proofs.DistanceLaws.{started}
+use Rattle.candidates.proofs.DistanceLaws.{start-distances-put}
 use Rattle.candidates.proofs.start_distances.Statement.{statement}
 use Rattle.candidates.proofs.start_distances.Tie as tie
 
@@ -26,7 +26,7 @@ returns : tie.Need-returns
 returns c =
     let copied = c .before .before in
     let found = copied .before .before .before .before in
-    started refl refl (found .distances .ensures) (copied .copy-down .ensures)
+    start-distances-put refl refl (found .distances .ensures) (copied .copy-down .ensures)
 
 pub start-distances-spec : {M : Type 1} → statement M
 start-distances-spec =

@@ -4,7 +4,7 @@ use mathlib.Core.Path.{ap}
 use lib.ListN.{length}
 use Rattle.next.specs.Next.{nextOutcomeOf, nextOutcome}
 use Rattle.sequence.specs.Calls as calls
-use Rattle.logged.proofs.CallLaws.{made}
+use Rattle.logged.proofs.CallLaws.{call-made}
 use borrow.Author.Needs.{needs}
 use Rattle.logged.proofs.play_next.Statement.{statement}
 use Rattle.logged.proofs.play_next.Tie as tie
@@ -43,7 +43,7 @@ returns c =
     let done = reported .before .before .before .before .before .before in
     let s = done .before .before .before .before .before .before .before .before in
     let a = s .args in
-    made (a .file .now) (calls.next (a .earlier .now) (a .answer .now) (a .work .now)) (a .place) (calls.ofNext (nextOutcomeOf (done .next .result)))
+    call-made (a .file .now) (calls.next (a .earlier .now) (a .answer .now) (a .work .now)) (a .place) (calls.ofNext (nextOutcomeOf (done .next .result)))
     (ap calls.ofNext {y = nextOutcome (a .file .now) (a .earlier .now) (length (a .answer .now)) (length (a .work .now))} (done .next .ensures .0)) (done .next .ensures .1 .0) (done .next .ensures .1 .1) (omega arith)
     (reported .report-next .ensures .0) (reported .report-next .ensures .1) (logged .put-row .ensures) (c .next-entries .ensures)
 

@@ -4,7 +4,7 @@ use mathlib.Core.Path.{ap}
 use lib.ListN.{length}
 use Rattle.search.specs.Search.{searchOutcomeOf, searchOutcome}
 use Rattle.sequence.specs.Calls as calls
-use Rattle.logged.proofs.CallLaws.{made}
+use Rattle.logged.proofs.CallLaws.{call-made}
 use borrow.Author.Needs.{needs}
 use Rattle.logged.proofs.play_search.Statement.{statement}
 use Rattle.logged.proofs.play_search.Tie as tie
@@ -43,7 +43,7 @@ returns c =
     let done = reported .before .before .before .before .before .before in
     let s = done .before .before .before .before .before .before .before in
     let a = s .args in
-    made (a .file .now) (calls.search (a .ask) (a .answer .now) (a .work .now)) (a .place) (calls.ofSearch (searchOutcomeOf (done .search .result)))
+    call-made (a .file .now) (calls.search (a .ask) (a .answer .now) (a .work .now)) (a .place) (calls.ofSearch (searchOutcomeOf (done .search .result)))
     (ap calls.ofSearch {y = searchOutcome (a .file .now) (a .ask) (length (a .answer .now)) (length (a .work .now))} (done .search .ensures .0)) (done .search .ensures .1 .0) (done .search .ensures .1 .1) (omega arith)
     (reported .report-search .ensures .0) (reported .report-search .ensures .1) (logged .put-row .ensures) (c .search-entries .ensures)
 

@@ -16,7 +16,7 @@ use Rattle.frontier.specs.Buckets.{Planned, HasPlan}
 use Rattle.frontier.specs.Search.{State}
 use Rattle.frontier.proofs.PushLaws.{queue-room}
 use Rattle.spread.proofs.RowLaws.{InRow, queued-entry, planned-state, row-start, row-inside, row-hit, row-step, row-done, level-done}
-use Rattle.spread.proofs.EndLaws.{edge-found, exhausted}
+use Rattle.spread.proofs.EndLaws.{edge-found, nothing-found}
 use Rattle.spread.proofs.search_planned.Statement.{statement}
 use Rattle.spread.proofs.search_planned.Tie as tie
 
@@ -233,7 +233,7 @@ same-length c =
 returns : tie.Need-returns Inv-loop2 μ-loop2 Inv-loop μ-loop Inv-levels μ-levels
 returns c =
     let s = start (c .before) in
-    λ w P. exhausted {g = graph s} (valid-well-formed (s .pre .0)) (omega arith) (level-from (c .before) w P)
+    λ w P. nothing-found {g = graph s} (valid-well-formed (s .pre .0)) (omega arith) (level-from (c .before) w P)
 
 admit-requires : tie.Need-admit-requires Inv-loop2 μ-loop2 Inv-loop μ-loop Inv-levels μ-levels
 admit-requires c κs =

@@ -9,7 +9,7 @@ use Rattle.model.specs.Model.{graphIn}
 use Rattle.follow.specs.Follow.{upTo}
 use Rattle.listing.specs.Places.{LeastFollower, Completed}
 use Rattle.listing.proofs.PlacesTable.{length-fits, put-asks, same-kept}
-use Rattle.listing.proofs.PlacesRoll.{Retreating, retreating-none, retreating-all, Raising, raising, raising-asks, raising-nothing, raised-asks, raised-kept, raised-follows}
+use Rattle.listing.proofs.PlacesRoll.{Retreating, retreating-none, retreating-all, Raising, raising-from, raising-asks, raising-nothing, raised-asks, raised-kept, raised-follows}
 use Rattle.listing.proofs.places.advance.Statement.{statement}
 use Rattle.listing.proofs.places.advance.Tie as tie
 
@@ -26,7 +26,7 @@ raise : (c : tie.After-get Inv-loop μ-loop)
     Raising (a .file .now) (a .h) (a .length .0) (a .work .now) (at .loop .work) (at .loop .place - 1) (c .get .result + 1)
 raise c =
     let at = c .before .before .before in
-    raising _ _ (at .loop .inv) (omega arith) (ap (λ x. x + 1) (c .get .ensures .0))
+    raising-from _ _ (at .loop .inv) (omega arith) (ap (λ x. x + 1) (c .get .ensures .0))
 
 -- the state found is the least from the bound on that may stand there
 found : (c : tie.After-next Inv-loop μ-loop)
