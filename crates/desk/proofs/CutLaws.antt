@@ -14,8 +14,7 @@ use lib.Dec.{eqb, ltb, nltb→le}
 use Rattle.lasso.specs.Lists.{someIf}
 use Rattle.lasso.proofs.Tests.{lt-or-ge}
 use Rattle.format.specs.Bytes.{word, long}
-use Rattle.format.specs.Layout.{states}
-use Rattle.format.specs.Layout.{edgeCount, initial, rowsAt, edgesAt, marksAt, totalOf}
+use Rattle.format.specs.Layout.{states, edgeCount, initial, rowsAt, edgesAt, marksAt, totalOf}
 use Rattle.format.specs.Rules.{Reason, rules, firstBroken, shortFile, badStates, badEdges, badInitial, badReserved, badOffsets, badLength}
 use Rattle.format.proofs.Reasons.{none-clear}
 use Rattle.format.proofs.Kept.{states-kept, length-kept}

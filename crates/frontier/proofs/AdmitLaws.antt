@@ -8,8 +8,7 @@ use native.Mathlib.Omega.{arith}
 use native.Mathlib.Decide.{ℕ-discrete}
 use Rattle.lasso.proofs.Tests.{lt-or-ge}
 use Rattle.frontier.specs.Regions.{entry}
-use Rattle.frontier.specs.Buckets.{sources}
-use Rattle.frontier.specs.Buckets.{Greatest}
+use Rattle.frontier.specs.Buckets.{sources, Greatest}
 use Rattle.frontier.specs.Search.{start, ReachedBy, State, Reached}
 use Rattle.frontier.proofs.PushLaws.{reach-state, reach-kept, reach-here}
 

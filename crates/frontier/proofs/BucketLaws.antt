@@ -14,8 +14,7 @@ use Rattle.table.specs.Changes.{SameOutside, Cleared}
 use Rattle.table.proofs.Laws.{sameOutside-widen, sameOutside-set}
 use Rattle.frontier.specs.Regions.{entry, valueOf}
 use Rattle.lasso.specs.Limit.{under}
-use Rattle.frontier.specs.Buckets.{sources}
-use Rattle.frontier.specs.Buckets.{Greatest, SourcesListed, withSource, Planned}
+use Rattle.frontier.specs.Buckets.{sources, Greatest, SourcesListed, withSource, Planned}
 use Rattle.lasso.proofs.UnderLaws.{under-some, under-lt}
 
 -- a start level is told by the entry and is below the limit

@@ -12,8 +12,7 @@ use Rattle.lasso.proofs.Different.{length-different-places}
 use Rattle.table.proofs.Laws.{sameOutside-widen, sameOutside-set, sameOutside-trans, set-sameOutside}
 use Rattle.frontier.specs.Regions.{entry}
 use Rattle.frontier.specs.Buckets.{sources}
-use Rattle.frontier.specs.Search.{Queue}
-use Rattle.frontier.specs.Search.{Hit, ReachedBy, State, Pushed, Reached, before, first}
+use Rattle.frontier.specs.Search.{Queue, Hit, ReachedBy, State, Pushed, Reached, before, first}
 use Rattle.frontier.proofs.BucketLaws.{listed-same}
 
 -- two stores put a state at the end of the queue

@@ -33,14 +33,16 @@ pub record ReachedBy (n v t : ℕ) (w : List ℕ) : Type 0 where
 -- The state of a search from the table w₀ at entry. Every source whose level has an entry up to v is in. The queue's
 -- first `at` states have been looked at: their successors are in, one level later at most, and none is the target. The
 -- states from `at` to `end` have the entry v, those from `end` to `count` the entry v + 1, and every entry is sound.
-pub record State (n : ℕ) (succs : ℕ → List ℕ) (limit target : ℕ) (w₀ : List ℕ) (v at end count : ℕ) (w : List ℕ) : Type 0 where
+pub record State (n : ℕ) (succs : ℕ → List ℕ) (limit target : ℕ) (w₀ : List ℕ)
+    (v at end count : ℕ) (w : List ℕ) : Type 0 where
   pub limited : limit ≤ n
   pub fits : 6 * n ≤ length w
   pub outside : SameOutside (2 * n) (6 * n) w₀ w
   pub lists : SourcesListed (sources n limit w₀) n limit n w
   pub sound : (k t : ℕ) → t < n → entry 2 n w t ≡ suc k → Hit n succs (sources n limit w₀) k t
   pub started : (s a : ℕ) → s < n → sources n limit w₀ s ≡ some a → a < v → ReachedBy n (suc a) s w
-  pub passed : (i t : ℕ) → i < at → T (memb t (succs (entry 3 n w i))) → ReachedBy n (suc (entry 2 n w (entry 3 n w i))) t w
+  pub passed : (i t : ℕ) → i < at → T (memb t (succs (entry 3 n w i)))
+      → ReachedBy n (suc (entry 2 n w (entry 3 n w i))) t w
   pub missed : (i : ℕ) → i < at → T (memb target (succs (entry 3 n w i))) → ⊥
   pub queue : Queue n count w
   pub at-end : at ≤ end

@@ -11,8 +11,7 @@ use lib.Seq.{getD-take, length-take-le}
 use lib.Dec.{T, eqb, leb, eqb→eq, le→leb}
 use Rattle.lasso.specs.Lists.{anyb, differentb, placeOf, upFrom, below}
 use Rattle.lasso.specs.Graph.{Graph, WellFormed, pathb, edges, loopsb, lassob, acceptingb, loopStart}
-use Rattle.lasso.proofs.Tests.{parts, join, decide, T-true, T-false, eq→eqb, eq-or-apart}
-use Rattle.lasso.proofs.Tests.{anyb-some, some-anyb, upFrom-range, range-upFrom, below-lt, lt-below, different-places}
+use Rattle.lasso.proofs.Tests.{parts, join, decide, T-true, T-false, eq→eqb, eq-or-apart, anyb-some, some-anyb, upFrom-range, range-upFrom, below-lt, lt-below, different-places}
 use Rattle.lasso.proofs.Different.{length-different-places}
 use Rattle.lasso.proofs.Walk.{Run, done, next, Walk, run-append, walk-from, walk-to, run-path, path-segment, path-states}
 

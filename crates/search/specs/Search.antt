@@ -1,5 +1,5 @@
 -- A search: the first of the shortest accepting paths, if the allowance suffices.
-use Prim.Native.Nat.{ℕ}
+use Prim.Native.Nat.{ℕ, _≤_}
 use mathlib.Core.Bool.{Bool}
 use mathlib.Core.List.{List, [], _∷_, _++_, head?}
 use mathlib.Core.Option.{Option, none}
@@ -63,6 +63,10 @@ searchReasons f ask answer work = commonRules f work ++ listReasons f (firstDue 
 abbrev pub searchOutcome : List ℕ → Ask → ℕ → ℕ → Outcome Searched
 searchOutcome f ask answer work =
     outcome (firstBroken (searchReasons f ask answer work)) (searched (graphOf f) ask)
+
+-- something is so of every search that is allowed so many rounds
+abbrev pub WithEnough : ℕ → (Ask → Type 0) → Type 0
+WithEnough rounds P = (ask : Ask) → rounds ≤ ask .allowance → P ask
 
 -- the list that a search writes
 abbrev pub searchList : List ℕ → Ask → ℕ → ℕ → Option (List ℕ)

@@ -9,10 +9,9 @@ ghost use Rattle.lasso.specs.Roll.{leastLength};
 ghost use Rattle.lasso.specs.Rounds.{candidates};
 ghost use Rattle.model.specs.Model.{graphIn};
 ghost use Rattle.model.specs.Values.{Valid};
-ghost use Rattle.gate.specs.declared.Ask.{Ask};
 ghost use Rattle.gate.specs.Gate.{workOf};
 ghost use Rattle.candidates.specs.Promises.{RoundsReady};
-ghost use Rattle.search.specs.Search.{searchOutcomeOf, searchOutcome, searchAnswer};
+ghost use Rattle.search.specs.Search.{searchOutcomeOf, searchOutcome, searchAnswer, WithEnough};
 use cursor::Begun;
 use cursor::begin;
 use cursor::to_first;
@@ -48,12 +47,10 @@ fn first_list(
     requires { ⌜ RoundsReady (now file) h (now work) ⌝ }
     requires { ⌜ leastLength (graphIn (now file) h) ≡ some (length .0) ⌝ }
     requires { ⌜ rounds ≡ lib.ListN.length (candidates (graphIn (now file) h)) ⌝ }
-    ensures outcome { λ r. ⌜ ((ask : Ask) → rounds ≤ ask .allowance
-        → searchOutcomeOf r
+    ensures outcome { λ r. ⌜ WithEnough rounds (λ ask. searchOutcomeOf r
         ≡ searchOutcome (now (file .entry)) ask
         (lib.ListN.length (now (answer .entry))) (lib.ListN.length (now (work .entry)))) ⌝ }
-    ensures answer { λ _. ⌜ ((ask : Ask) → rounds ≤ ask .allowance
-        → now (answer .exit)
+    ensures answer { λ _. ⌜ WithEnough rounds (λ ask. now (answer .exit)
         ≡ searchAnswer (now (file .entry)) ask (now (answer .entry)) (lib.ListN.length (now (work .entry)))) ⌝ }
     ensures kept { λ _. ⌜ lib.ListN.length (now (work .exit)) ≡ lib.ListN.length (now (work .entry)) ⌝ }
 {

@@ -6,8 +6,7 @@ use mathlib.Core.Option.{some, none}
 use lib.ListN.{length, replicate}
 use lib.Dec.{eqb}
 use Rattle.lasso.specs.Lists.{pick, below}
-use Rattle.format.specs.Layout.{states}
-use Rattle.format.specs.Layout.{rowsAt, edgesAt, marksAt, markBytes, totalOf}
+use Rattle.format.specs.Layout.{states, rowsAt, edgesAt, marksAt, markBytes, totalOf}
 use Rattle.gate.specs.Gate.{asking}
 use Rattle.outcomes.specs.Outcome.{Outcome, refused, answered}
 use Rattle.search.specs.Search.{Searched, stopped, empty}
@@ -113,11 +112,13 @@ searchOf f allowance = search (asking allowance) lentAnswer (lentWork f)
 
 -- the row of a search that is not refused
 abbrev pub searchRow : List ℕ → ℕ → Searched → List ℕ → Row
-searchRow f allowance s list = record { file = f; call = searchOf f allowance; answer = ofSearch (answered s); list = list }
+searchRow f allowance s list =
+    record { file = f; call = searchOf f allowance; answer = ofSearch (answered s); list = list }
 
 -- the row of a next after an earlier list
 abbrev pub nextRow : List ℕ → List ℕ → Outcome Followed → List ℕ → Row
-nextRow f earlier o list = record { file = f; call = next earlier lentAnswer (lentWork f); answer = ofNext o; list = list }
+nextRow f earlier o list =
+    record { file = f; call = next earlier lentAnswer (lentWork f); answer = ofNext o; list = list }
 
 -- H's row for an allowance that suffices
 abbrev pub rowH : ℕ → Row

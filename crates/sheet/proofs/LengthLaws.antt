@@ -13,8 +13,7 @@ use Rattle.lasso.specs.Roll.{leastLength, roll}
 use Rattle.lasso.specs.Rounds.{candidates}
 use Rattle.lasso.proofs.Sorted.{All}
 use Rattle.lasso.proofs.RollLaws.{roll-empty, leastLength-range}
-use Rattle.format.specs.Layout.{states}
-use Rattle.format.specs.Layout.{edgeCount}
+use Rattle.format.specs.Layout.{states, edgeCount}
 use Rattle.model.specs.Model.{graphOf}
 use Rattle.format.specs.Rules.{Reason, firstBroken, rules, Accepted}
 use Rattle.model.proofs.Laws.{accepted-facts, accepted-well-formed}

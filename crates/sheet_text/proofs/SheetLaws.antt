@@ -9,8 +9,7 @@ use Rattle.lasso.specs.Graph.{edges}
 use Rattle.lasso.specs.Roll.{leastLength, roll}
 use Rattle.lasso.specs.Rounds.{candidates}
 use Rattle.lasso.proofs.RollLaws.{roll-empty}
-use Rattle.format.specs.Layout.{states}
-use Rattle.format.specs.Layout.{edgeCount}
+use Rattle.format.specs.Layout.{states, edgeCount}
 use Rattle.model.specs.Model.{graphOf}
 use Rattle.format.specs.Rules.{Accepted}
 use Rattle.model.specs.declared.Header.{Header}

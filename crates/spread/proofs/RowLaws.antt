@@ -7,8 +7,7 @@ use native.Mathlib.Omega.{arith}
 use lib.ListN.{length, getD}
 use Rattle.lasso.proofs.Tests.{lt-or-ge, memb-at, at-memb}
 use Rattle.frontier.specs.Regions.{entry, queued}
-use Rattle.frontier.specs.Buckets.{sources}
-use Rattle.frontier.specs.Buckets.{Planned}
+use Rattle.frontier.specs.Buckets.{sources, Planned}
 use Rattle.frontier.specs.Search.{Hit, step, ReachedBy, State, Reached}
 use Rattle.frontier.proofs.PushLaws.{reach-state, reach-kept, reach-queue, reach-here}
 

@@ -18,10 +18,9 @@ use Rattle.table.proofs.Laws.{sameOutside-refl, set-sameOutside, sameOutside-se
 use Rattle.spread.specs.declared.SpreadAnswer.{SpreadAnswer}
 use Rattle.frontier.specs.Regions.{entry, valueOf}
 use Rattle.lasso.specs.Limit.{under}
-use Rattle.frontier.specs.Buckets.{sources}
+use Rattle.frontier.specs.Buckets.{sources, withSource, Planned}
 use Rattle.spread.specs.Promises.{SpreadFrom, Spread}
 use Rattle.walks.specs.Through.{onlyIf, DistancesWithin, markedSources, OneSource, PlannedAt, KeptMarked}
-use Rattle.frontier.specs.Buckets.{withSource, Planned}
 use Rattle.frontier.proofs.BucketLaws.{source-entry, entry-source}
 use Rattle.spread.proofs.HitLaws.{Single}
 use Rattle.spread.proofs.SearchLaws.{spread-nothing, spread-same, exhausted-distances}

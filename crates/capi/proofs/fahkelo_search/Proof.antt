@@ -4,10 +4,9 @@ use Prim.Native.Nat.{ℕ, _≤_, _<_}
 use native.Mathlib.Omega.{arith}
 use borrow.Author.Needs.{needs}
 use lib.ListN.{length}
-use Rattle.gate.specs.Gate.{asking}
+use Rattle.gate.specs.Gate.{asking, workOf}
 use Rattle.outcomes.specs.Outcome.{Outcome}
 use Rattle.search.specs.Search.{Searched, searchOutcomeOf, searchOutcome, searchAnswer}
-use Rattle.gate.specs.Gate.{workOf}
 use Rattle.answers.specs.Kinds.{searchReport}
 use Rattle.capi.proofs.CallLaws.{tables-short, tables-enough, reports-short, reports-enough}
 use Rattle.capi.proofs.fahkelo_search.Statement.{statement}

@@ -3,7 +3,6 @@ use borrow.Author.Needs.{needs}
 use native.Mathlib.Omega.{arith}
 use mathlib.Core.Path.{sym}
 use lib.Seq.{length-take-le}
-use borrow.Author.Needs.{needs}
 use Rattle.trials.proofs.calls.step.Statement.{statement}
 use Rattle.trials.proofs.calls.step.Tie as tie
 
