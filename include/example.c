@@ -1,11 +1,12 @@
-/* Prints the rounds, a refused step and all shortest runs of one model, through the C interface (docs/CAPI.md). */
+/* Prints the rounds, a refused step and all shortest runs of one model, and the shortest run of a rule that a property
+ * marks, through the C interface (docs/CAPI.md). */
 #include <stdio.h>
 #include <string.h>
 
 #include "fahkelo.h"
 
-#if FAHKELO_INTERFACE != 2
-#error "this example was written for interface 2"
+#if FAHKELO_INTERFACE != 3
+#error "this example was written for interface 3"
 #endif
 
 /* Five states, 0 to 1 and 2, 1 to 3, 2 to 3, 3 to 1 and 2, 4 to 4; the run starts at 0; 3 and 4 are marked. */
@@ -15,6 +16,23 @@ static const uint8_t model[] = {
     1, 0, 2, 0, 3, 0, 3, 0, 1, 0, 2, 0, 4, 0,                                   /* edge table */
     24};                                                                        /* marks */
 
+/* A rule: 0 to 1, 1 to 0; no mark. Its states have the letters 0 and 1. */
+static const uint8_t rule[] = {
+    2, 0, 2, 0, 0, 0, 0, 0, 24, 0, 0, 0, 30, 0, 0, 0, 34, 0, 0, 0, 35, 0, 0, 0, /* header */
+    0, 0, 1, 0, 2, 0,                                                           /* row table */
+    1, 0, 0, 0,                                                                 /* edge table */
+    0};                                                                         /* marks */
+static const uint8_t letters[] = {0, 1};
+
+/* A property: letter 0 leads to 0, letter 1 to 1, from both states; 1 is marked. */
+static const uint8_t property[] = {
+    2, 0, 4, 0, 0, 0, 0, 0, 24, 0, 0, 0, 30, 0, 0, 0, 38, 0, 0, 0, 47, 0, 0, 0, /* header */
+    0, 0, 2, 0, 4, 0,                                                           /* row table */
+    0, 0, 1, 0, 0, 0, 1, 0,                                                     /* edge table */
+    2,                                                                          /* marks */
+    1, 0, 2, 0, 1, 0, 2, 0};                                                    /* masks */
+
+static uint8_t combined[FAHKELO_FILE_MOST];
 static uint16_t work[FAHKELO_WORK_MOST];
 static uint16_t answer[FAHKELO_ANSWER_MOST];
 static uint16_t earlier[FAHKELO_ANSWER_MOST];
@@ -28,6 +46,31 @@ static void print_run(void)
     for (i = 0; i <= out[0]; i++)
         printf(" %u", (unsigned)answer[i]);
     printf("\n");
+}
+
+/* Combines the rule with the property, and prints the first shortest run of the result. State c of the result is the pair
+ * of state c / 2 of the rule and state c % 2 of the property, which has two states. */
+static int print_combined(void)
+{
+    uint16_t kind, bytes;
+    kind = fahkelo_combine(rule, sizeof rule, letters, sizeof letters, property, sizeof property,
+                           combined, sizeof combined, out, FAHKELO_OUT_ENTRIES);
+    if (kind != FAHKELO_WRITTEN)
+        return 0;
+    bytes = out[0];
+    printf("combined: %u bytes\n", (unsigned)bytes);
+    kind = fahkelo_search(combined, bytes, 65535, answer, FAHKELO_ANSWER_MOST,
+                          work, FAHKELO_WORK_MOST, out, FAHKELO_OUT_ENTRIES);
+    if (kind != FAHKELO_FOUND)
+        return 0;
+    print_run();
+
+    /* An output that is one byte too short is refused, and not written to. */
+    combined[0] = 255;
+    kind = fahkelo_combine(rule, sizeof rule, letters, sizeof letters, property, sizeof property,
+                           combined, (size_t)(bytes - 1), out, FAHKELO_OUT_ENTRIES);
+    printf("refused with %u, first byte %u\n", (unsigned)kind, (unsigned)combined[0]);
+    return 1;
 }
 
 int main(void)
@@ -61,5 +104,5 @@ int main(void)
                             work, FAHKELO_WORK_MOST, out, FAHKELO_OUT_ENTRIES);
     }
     printf("ended with kind %u\n", (unsigned)kind);
-    return kind == FAHKELO_NO_MORE ? 0 : 1;
+    return kind == FAHKELO_NO_MORE && print_combined() ? 0 : 1;
 }

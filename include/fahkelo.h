@@ -6,8 +6,9 @@
  * Tables. Each table is given as a pointer and a number of entries. Any lengths and any contents are allowed, and any
  * bytes as the file: what does not fit is refused with a number. A pointer whose length is 0 may be NULL; nothing is read
  * or written through it. Every other pointer must have so many entries behind it, 16-bit ones at even addresses. The
- * tables that a call writes (answer, work, out) must not overlap each other, nor the file or the earlier list. The library
- * keeps nothing between two calls and allocates nothing; calls on tables of their own may run at the same time.
+ * tables that a call writes (answer, work, output, out) must not overlap each other, nor a table that the call reads; those
+ * that it only reads may overlap. The library keeps nothing between two calls and allocates nothing; calls on tables of
+ * their own may run at the same time.
  *
  *   file     the bytes of a model file, at most FAHKELO_FILE_MOST (docs/FORMAT.md)
  *   work     working table: 6 entries for each state of the model, FAHKELO_WORK_MOST for every model. Untouched after
@@ -15,11 +16,14 @@
  *   answer   the run that is found: entries 0 to L, a run of L transitions having L + 1 states. The run starts at entry 0;
  *            from entry k on it repeats for ever, and entry L equals entry k. FAHKELO_ANSWER_MOST entries do for every
  *            model. Entries past L never change, and no entry does unless the answer is FAHKELO_FOUND
+ *   output   the model file that fahkelo_combine writes, from byte 0 on; FAHKELO_FILE_MOST bytes do for every result. Bytes
+ *            past the file never change, and no byte does unless the answer is FAHKELO_WRITTEN
  *   out      the figures of the answer: at least FAHKELO_OUT_ENTRIES entries. Entries past the figures never change, and
  *            no entry does after a refusal
  *
  * Answers. What a call returns tells by itself what happened. A value below FAHKELO_KINDS_FROM, `kind < 100`, is a refusal:
- * the value is the number of the first reason that holds, 1 to 15 (docs/REFUSALS.md), and neither out nor answer is changed.
+ * the value is the number of the first reason that holds, 1 to 18 (docs/REFUSALS.md), and out, answer and output are not
+ * changed.
  * Every other value is a kind of answer, whose figures are in out, from entry 0 on:
  *
  *   FAHKELO_OUT_TOO_SHORT   (none)              out has fewer than FAHKELO_OUT_ENTRIES entries; nothing at all was done
@@ -29,6 +33,7 @@
  *   FAHKELO_NO_MORE         (none)              the earlier list is the last one
  *   FAHKELO_FINISHED        done, has, best     no round is left: the record that was given
  *   FAHKELO_ADVANCED        done, has, best     the record after one more round
+ *   FAHKELO_WRITTEN         bytes               the model file has so many bytes
  *
  * In the figures of a record `has` is 1 if there is a best length, and 0 if there is none; then `best` is 0.
  */
@@ -39,7 +44,7 @@
 #include <stdint.h>
 
 /* Raised whenever a declaration or a number of this file changes: a caller can ask for the one that it was written for. */
-#define FAHKELO_INTERFACE 2
+#define FAHKELO_INTERFACE 3
 
 /* The kinds of answer start here; what is below is the number of a refusal. */
 #define FAHKELO_KINDS_FROM 100
@@ -52,10 +57,12 @@
 #define FAHKELO_NO_MORE 104
 #define FAHKELO_FINISHED 105
 #define FAHKELO_ADVANCED 106
+#define FAHKELO_WRITTEN 107
 
 /* The entries that out must have, and the table sizes that do for every model. */
 #define FAHKELO_OUT_ENTRIES 4
 #define FAHKELO_FILE_MOST 25114
+#define FAHKELO_PROPERTY_MOST 41498
 #define FAHKELO_WORK_MOST 24576
 #define FAHKELO_ANSWER_MOST 4097
 
@@ -95,6 +102,22 @@ uint16_t fahkelo_next(const uint8_t *file, size_t file_len,
                       uint16_t *answer, size_t answer_len,
                       uint16_t *work, size_t work_len,
                       uint16_t *out, size_t out_len);
+
+/*
+ * Combines a rule with a property: a model file whose accepting runs are the runs of the rule that the property marks. The
+ * rule is a model file; letters has one byte for each of its states, a letter 0 to 15; the property is a model file with a
+ * 16-bit mask for each edge behind its marks, bit l for letter l (docs/FORMAT.md), at most FAHKELO_PROPERTY_MOST bytes.
+ * State (s, q) of the result has the number s * Q + q, where the property has Q states. It has an edge to (s', q') exactly
+ * if s has one to s' and q has one to q' whose mask holds the letter of s. It is marked if q is; the marks of the rule are
+ * not used.
+ * Returns a refusal (the rule's 1 to 11; 16 for the letters, 17 for the property, 18 for a result that is too large, last
+ * 15 for an output that is too short), FAHKELO_WRITTEN with the file in output, or FAHKELO_OUT_TOO_SHORT.
+ */
+uint16_t fahkelo_combine(const uint8_t *rule, size_t rule_len,
+                         const uint8_t *letters, size_t letters_len,
+                         const uint8_t *property, size_t property_len,
+                         uint8_t *output, size_t output_len,
+                         uint16_t *out, size_t out_len);
 
 #ifdef __cplusplus
 }

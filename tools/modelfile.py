@@ -1,6 +1,8 @@
-# The model file for the scripts in this folder: its limits, encode, decode with the reasons to
-# refuse, and what the scripts share for arguments, input and output. Layout: docs/FORMAT.md.
+# The model file, the property file and the letter table for the scripts in this folder: their limits,
+# encode, decode with the reasons to refuse, the combination of a rule with a property, and what the
+# scripts share for arguments, input and output. Layout: docs/FORMAT.md.
 # A convenience outside the proofs: nothing in crates/ uses it.
+import itertools
 import os
 import struct
 import sys
@@ -10,6 +12,8 @@ MAX_STATES = 4096
 MAX_EDGES = 8192
 HEADER_BYTES = 24
 MAX_BYTES = 25114
+MAX_LETTER = 15
+ALL_LETTERS = 0xFFFF
 
 
 class Model(NamedTuple):
@@ -18,6 +22,13 @@ class Model(NamedTuple):
     start: int
     rows: list
     marks: set
+
+
+class Property(NamedTuple):
+    """A property. masks gives each edge, a pair of states, its mask: bit l is set if it holds letter l."""
+
+    model: Model
+    masks: dict
 
 
 class Refused(Exception):
@@ -29,30 +40,50 @@ class Refused(Exception):
         self.words = words
 
 
-def layout(states, edges):
-    """Offsets of the row table, the edge table and the marks, and the total length."""
+def layout(states, edges, masked):
+    """The places of the row table, the edge table, the marks and the masks, and the total length."""
     edge_table = HEADER_BYTES + 2 * (states + 1)
-    mark_bytes = edge_table + 2 * edges
-    return [HEADER_BYTES, edge_table, mark_bytes, mark_bytes + (states + 7) // 8]
+    marks = edge_table + 2 * edges
+    masks = marks + (states + 7) // 8
+    return [HEADER_BYTES, edge_table, marks, masks, masks + 2 * edges if masked else masks]
+
+
+def edges_of(model):
+    """The edges, pairs of states, in the order of the edge table."""
+    return [(source, target) for source, row in enumerate(model.rows) for target in row]
+
+
+def encode_up_to_masks(model, masked):
+    """The bytes of a file up to the end of its marks; its header counts the masks of a property."""
+    states = len(model.rows)
+    targets = [target for _, target in edges_of(model)]
+    row_table = [0]
+    for row in model.rows:
+        row_table.append(row_table[-1] + len(row))
+    *offsets, masks, total = layout(states, len(targets), masked)
+    bits = sum(1 << state for state in model.marks)
+    data = struct.pack("<4H4I", states, len(targets), model.start, 0, *offsets, total)
+    data += struct.pack(f"<{states + 1}H{len(targets)}H", *row_table, *targets)
+    return data + bits.to_bytes(masks - len(data), "little")
 
 
 def encode(model):
     """The bytes of the model's file. A model that gives no valid file raises Refused."""
-    states = len(model.rows)
-    targets = [target for row in model.rows for target in row]
-    row_table = [0]
-    for row in model.rows:
-        row_table.append(row_table[-1] + len(row))
-    bits = sum(1 << state for state in model.marks)
-    data = struct.pack("<4H4I", states, len(targets), model.start, 0, *layout(states, len(targets)))
-    data += struct.pack(f"<{states + 1}H{len(targets)}H", *row_table, *targets)
-    data += bits.to_bytes((states + 7) // 8, "little")
+    data = encode_up_to_masks(model, False)
     decode(data)
     return data
 
 
-def decode(data):
-    """The model that a file holds. Raises Refused with the first reason that holds, in order."""
+def encode_property(property):
+    """The bytes of the property's file. A property that gives no valid file raises Refused 17."""
+    masks = [property.masks[edge] for edge in edges_of(property.model)]
+    data = encode_up_to_masks(property.model, True) + struct.pack(f"<{len(masks)}H", *masks)
+    decode_property(data)
+    return data
+
+
+def decode(data, masked=False):
+    """The model that a file holds, or if masked a property file. Raises Refused with the first reason that holds."""
     if len(data) < HEADER_BYTES:
         raise Refused(1, f"the file has {len(data)} bytes, and the header alone has 24")
     states, edges, start, zero, *places = struct.unpack_from("<4H4I", data)
@@ -65,13 +96,14 @@ def decode(data):
     if zero != 0:
         raise Refused(5, f"bytes 6 and 7 hold {zero}, not zero")
     names = ["offset of the row table", "offset of the edge table", "offset of the marks", "total length"]
-    for name, place, right in zip(names, places, layout(states, edges)):
+    *offsets, masks, total = layout(states, edges, masked)
+    for name, place, right in zip(names, places, offsets + [total]):
         if place != right:
             raise Refused(6, f"the {name} is {place}; {states} states and {edges} edges give {right}")
-    if len(data) != places[3]:
-        raise Refused(7, f"the file's own length, {len(data)}, is not its total length, {places[3]}")
-    row_table = struct.unpack_from(f"<{states + 1}H", data, places[0])
-    targets = struct.unpack_from(f"<{edges}H", data, places[1])
+    if len(data) != total:
+        raise Refused(7, f"the file's own length, {len(data)}, is not its total length, {total}")
+    row_table = struct.unpack_from(f"<{states + 1}H", data, offsets[0])
+    targets = struct.unpack_from(f"<{edges}H", data, offsets[1])
     check_row_table(row_table, edges)
     for place, target in enumerate(targets):
         if target >= states:
@@ -80,7 +112,7 @@ def decode(data):
     for state, row in enumerate(rows):
         if any(one >= other for one, other in zip(row, row[1:])):
             raise Refused(10, f"the targets of state {state} are not strictly ascending")
-    bits = int.from_bytes(data[places[2]:], "little")
+    bits = int.from_bytes(data[offsets[2]:masks], "little")
     if bits >> states:
         raise Refused(11, f"a bit after the mark of state {states - 1}, the last one, is set")
     return Model(start, rows, {state for state in range(states) if bits >> state & 1})
@@ -95,6 +127,68 @@ def check_row_table(row_table, edges):
             raise Refused(8, f"the row table goes down after entry {state}, from {low} to {high}")
     if row_table[-1] != edges:
         raise Refused(8, f"the row table ends at {row_table[-1]}, not at {edges}, the number of edges")
+
+
+def decode_property(data):
+    """The property that a file holds. Raises Refused 17, with the number and the words of what it breaks."""
+    try:
+        model = decode(data, masked=True)
+    except Refused as refused:
+        raise Refused(17, f"the property file breaks {refused.number}: {refused.words}") from None
+    edges = edges_of(model)
+    place = layout(len(model.rows), len(edges), True)[3]
+    masks = dict(zip(edges, struct.unpack_from(f"<{len(edges)}H", data, place)))
+    for source, target in edges:
+        if masks[source, target] == 0:
+            raise Refused(17, f"the mask of the edge {source} -> {target} is zero")
+    return Property(model, masks)
+
+
+def decode_letters(data, states):
+    """The letters that a letter table holds, one byte for each state of its rule. Raises Refused 16."""
+    if len(data) != states:
+        raise Refused(16, f"the letter table has {len(data)} bytes, and the rule has {states} states")
+    for state, letter in enumerate(data):
+        if letter > MAX_LETTER:
+            raise Refused(16, f"the letter of state {state} is {letter}, and 0 to {MAX_LETTER} are allowed")
+    return list(data)
+
+
+def combine(model, letters, property):
+    """The model that a rule, read, gives with its letter table and a property file, both as bytes.
+
+    Raises Refused 16, 17 or 18, in this order; combine(decode(rule), ..) raises the rule's 1 to 11 before them.
+    """
+    letters = decode_letters(letters, len(model.rows))
+    property = decode_property(property)
+    states = len(model.rows) * len(property.model.rows)
+    if states > MAX_STATES:
+        raise Refused(18, f"the result has {states} states, and at most {MAX_STATES} are allowed")
+    edges = set(itertools.islice(agreeing_edges(model, letters, property), MAX_EDGES + 1))
+    if len(edges) > MAX_EDGES:
+        raise Refused(18, f"the result has more than {MAX_EDGES} edges")
+    return model_of_pairs(model, property.model, edges)
+
+
+def agreeing_edges(model, letters, property):
+    """Each edge from (s, q) to (s', q'): s has an edge to s' and q one to q' whose mask holds the letter of s."""
+    for s, s_next in edges_of(model):
+        for (q, q_next), mask in property.masks.items():
+            if mask >> letters[s] & 1:
+                yield (s, q), (s_next, q_next)
+
+
+def model_of_pairs(rule, property, edges):
+    """The model of all pairs: (s, q) has number s times the property's state count plus q, and the mark of q."""
+
+    def number(s, q):
+        return s * len(property.rows) + q
+
+    rows = [[] for _ in range(len(rule.rows) * len(property.rows))]
+    for source, target in sorted(edges):
+        rows[number(*source)].append(number(*target))
+    marks = {number(s, q) for s in range(len(rule.rows)) for q in property.marks}
+    return Model(number(rule.start, property.start), rows, marks)
 
 
 def below(rng, limit):
@@ -116,6 +210,12 @@ def random_model(rng, states, edges, marks):
     for pair in sorted(distinct(rng, edges, states * states)):
         rows[pair // states].append(pair % states)
     return Model(below(rng, states), rows, distinct(rng, marks, states))
+
+
+def random_property(rng, states, edges, marks):
+    """A random property with these numbers of states, edges and marks; every mask is possible."""
+    model = random_model(rng, states, edges, marks)
+    return Property(model, {edge: 1 + below(rng, ALL_LETTERS) for edge in edges_of(model)})
 
 
 def fail(message, code=2):

@@ -1,4 +1,5 @@
-# What the tests of the scripts in this folder share: example D, running a tool, and saying what fails.
+# What the tests of the scripts in this folder share: example D, an example of a combination, running a
+# tool, and saying what fails.
 # A convenience outside the proofs: nothing in crates/ uses it.
 import os
 import subprocess
@@ -9,6 +10,20 @@ D_TEXT = "states 5\nstart 0\n0 -> 1 2\n1 -> 3\n2 -> 3\n3 -> 1 2\n4 -> 4\nmark 3 
 D_BYTES = bytes.fromhex(
     "0500070000000000 18000000240000003200000033000000"
     "000002000300040006000700 0100020003000300010002000400 18"
+)
+# A rule of two states that take turns, with the letters 0 and 1; a property whose edges into its marked
+# state 1 hold letter 1, the others letter 0; and the model that they give together.
+RULE_TEXT = "states 2\nstart 0\n0 -> 1\n1 -> 0\nletter 0 0\nletter 1 1\n"
+RULE_BYTES = bytes.fromhex("0200020000000000 180000001e0000002200000023000000 000001000200 01000000 00")
+RULE_LETTERS = bytes([0, 1])
+PROPERTY_TEXT = (
+    "states 2\nstart 0\n0 -> 0 1\n1 -> 0 1\nmark 1\nmask 0 0 0\nmask 0 1 1\nmask 1 0 0\nmask 1 1 1\n"
+)
+PROPERTY_BYTES = bytes.fromhex(
+    "0200040000000000 180000001e000000260000002f000000 000002000400 0000010000000100 02 0100020001000200"
+)
+COMBINED_BYTES = bytes.fromhex(
+    "0400040000000000 18000000220000002a0000002b000000 00000100020003000400 0200020001000100 0a"
 )
 
 
@@ -32,6 +47,11 @@ def made(words, data=b"", tools=TOOLS):
     got = run(words, data, tools)
     expect(words, got[0] == 0 and got[2] == "", got)
     return got[1]
+
+
+def expect_round_trip(case, data, option=""):
+    """A valid file, shown and made again with the same option, is the same file."""
+    expect(f"{case}, there and back", made(f"make-model {option}", made(f"show-model {option}", data)) == data)
 
 
 def expect_failure(words, data, code, *parts, tools=TOOLS):

@@ -22,7 +22,7 @@ const MOST_LISTS: usize = 60;
 
 /// Counts of a run.
 #[derive(Default)]
-struct Counts {
+pub struct Counts {
     small: u64,
     large: u64,
     refused_files: [u64; 16],
@@ -33,11 +33,11 @@ struct Counts {
     values: BTreeMap<u16, u64>,
     lists: u64,
     out_too_short: u64,
-    differences: u64,
+    pub differences: u64,
 }
 
 impl Counts {
-    fn difference(&mut self, what: &str, file: &[u8]) {
+    pub fn difference(&mut self, what: &str, file: &[u8]) {
         self.differences += 1;
         if self.differences <= 10 {
             println!("difference: {what}\n  file {file:02x?}");
@@ -83,7 +83,7 @@ fn compare_family(lot: &mut Random, counts: &mut Counts, file: &[u8]) {
     compare_roll(lot, counts, file, &verdict, roll, model.states());
 }
 
-fn print(counts: &Counts) {
+pub fn print(counts: &Counts) {
     let words = |shown: Vec<String>| shown.join(", ");
     let of_list = |numbers: &[u64]| {
         let shown = numbers.iter().enumerate().filter(|(_, &n)| n != 0);
@@ -116,7 +116,7 @@ fn print(counts: &Counts) {
 }
 
 /// The file's verdict by the reference. A model that was written must be read back.
-fn verdict_of(counts: &mut Counts, file: &[u8], written: Option<&Model>) -> Verdict {
+pub fn verdict_of(counts: &mut Counts, file: &[u8], written: Option<&Model>) -> Verdict {
     let model = match read(file) {
         Err(number) => {
             if written.is_some() {
@@ -245,7 +245,7 @@ fn compare_all_steps(
 }
 
 /// Searches, then asks for the next list until there are no more.
-fn compare_roll(
+pub fn compare_roll(
     lot: &mut Random,
     counts: &mut Counts,
     file: &[u8],

@@ -1,7 +1,11 @@
 //! The examples of the contract through the wrapper, for `cargo test`; they show how the calls are used.
 
-use crate::fahkelo::{next, search, step, NextAnswer, Record, SearchAnswer, StepAnswer};
+use crate::fahkelo::{
+    combine, combine_into, kind, next, search, step, CombineAnswer, NextAnswer, Record,
+    SearchAnswer, StepAnswer,
+};
 use crate::model::Model;
+use crate::property::Property;
 
 const NOTHING_DONE: Record = Record {
     done: 0,
@@ -163,4 +167,118 @@ fn the_longest_ring() {
         SearchAnswer::Refused(15)
     );
     assert_eq!(short, vec![9; 4096]);
+}
+
+/// A rule that goes back and forth, with the letters 0 and 1.
+fn rule_file() -> Vec<u8> {
+    file_of(2, &[(0, 1), (1, 0)], &[])
+}
+
+const LETTERS: [u8; 2] = [0, 1];
+
+/// A property whose state tells the last letter: 0 leads to state 0, 1 to state 1, which is marked.
+fn property_file() -> Vec<u8> {
+    let mut model = Model::new(2);
+    for (from, to) in [(0, 0), (0, 1), (1, 0), (1, 1)] {
+        model.edge(from, to);
+    }
+    model.marks[1] = true;
+    let mut property = Property::new(model, 0);
+    property.masks = vec![vec![1, 2], vec![1, 2]];
+    property.to_bytes()
+}
+
+/// What the rule and the property combine to.
+const COMBINED: [u8; 43] = [
+    4, 0, 4, 0, 0, 0, 0, 0, 24, 0, 0, 0, 34, 0, 0, 0, 42, 0, 0, 0, 43, 0, 0, 0, 0, 0, 1, 0, 2, 0,
+    3, 0, 4, 0, 2, 0, 2, 0, 1, 0, 1, 0, 10,
+];
+
+#[test]
+fn property_file_is_the_printed_one() {
+    let printed = [
+        2, 0, 4, 0, 0, 0, 0, 0, 24, 0, 0, 0, 30, 0, 0, 0, 38, 0, 0, 0, 47, 0, 0, 0, 0, 0, 2, 0, 4,
+        0, 0, 0, 1, 0, 0, 0, 1, 0, 2, 1, 0, 2, 0, 1, 0, 2, 0,
+    ];
+    assert_eq!(property_file(), printed);
+}
+
+#[test]
+fn a_combination_and_its_search() {
+    let mut output = [9; 50];
+    assert_eq!(
+        combine(&rule_file(), &LETTERS, &property_file(), &mut output),
+        CombineAnswer::Written(43)
+    );
+    assert_eq!(output[..43], COMBINED);
+    assert_eq!(output[43..], [9; 7]);
+    assert_eq!(
+        searched(&output[..43], 65535),
+        (found(3, 1, 1), vec![0, 2, 1, 2])
+    );
+}
+
+#[test]
+fn an_output_that_just_does() {
+    let mut output = [9; 43];
+    assert_eq!(
+        combine(&rule_file(), &LETTERS, &property_file(), &mut output[..42]),
+        CombineAnswer::Refused(15)
+    );
+    assert_eq!(output, [9; 43]);
+    assert_eq!(
+        combine(&rule_file(), &LETTERS, &property_file(), &mut output),
+        CombineAnswer::Written(43)
+    );
+    assert_eq!(output, COMBINED);
+}
+
+#[test]
+fn the_figure_of_a_combination() {
+    let mut output = [0; 43];
+    let mut out = [7; 5];
+    let (rule, property) = (rule_file(), property_file());
+    assert_eq!(
+        combine_into(&rule, &LETTERS, &property, &mut output, &mut out),
+        kind::WRITTEN
+    );
+    assert_eq!(out, [43, 7, 7, 7, 7]);
+    let mut short = [7; 3];
+    assert_eq!(
+        combine_into(&[], &LETTERS, &property, &mut output, &mut short),
+        kind::OUT_TOO_SHORT
+    );
+    assert_eq!((short, output), ([7; 3], COMBINED));
+}
+
+#[test]
+fn refused_combinations() {
+    let (rule, property) = (rule_file(), property_file());
+    let mut last_mask_zero = property.clone();
+    last_mask_zero[45] = 0;
+    let large = file_of(2049, &[], &[]);
+    let refused = |rule: &[u8], letters: &[u8], property: &[u8]| {
+        let mut output = [9; 60];
+        let answer = combine(rule, letters, property, &mut output);
+        assert_eq!(output, [9; 60]);
+        answer
+    };
+    let inputs: [(&[u8], &[u8], &[u8], u16); 10] = [
+        (&[], &[16], &[], 1),
+        (&rule[..rule.len() - 1], &LETTERS, &property, 7),
+        (&property, &LETTERS, &property, 6),
+        (&rule, &[0], &property, 16),
+        (&rule, &[0, 1, 0], &property, 16),
+        (&rule, &[0, 16], &[], 16),
+        (&rule, &LETTERS, &property[..46], 17),
+        (&rule, &LETTERS, &rule, 17),
+        (&rule, &LETTERS, &last_mask_zero, 17),
+        (&large, &[0; 2049], &property, 18),
+    ];
+    for (rule, letters, property, number) in inputs {
+        assert_eq!(
+            refused(rule, letters, property),
+            CombineAnswer::Refused(number)
+        );
+    }
 }

@@ -1,7 +1,8 @@
 //! The proved library, as a Rust program uses it: slices go in, enums come out, and all unsafe code of the use is here.
 //!
 //! Any bytes may be lent as the file and tables of any length as the tables. The working table needs six entries a
-//! state, the answer table one entry more than the path has transitions; with less the call is refused with its number.
+//! state, the answer table one entry more than the path has transitions, the output of a combination the bytes of the
+//! result, at most 25,114; with less the call is refused with its number.
 
 /// The functions of the static library, as `include/fahkelo.h` declares them: a slice is a pointer and a length.
 mod c {
@@ -37,6 +38,18 @@ mod c {
             answer_len: usize,
             work: *mut u16,
             work_len: usize,
+            out: *mut u16,
+            out_len: usize,
+        ) -> u16;
+        pub fn fahkelo_combine(
+            rule: *const u8,
+            rule_len: usize,
+            letters: *const u8,
+            letters_len: usize,
+            property: *const u8,
+            property_len: usize,
+            output: *mut u8,
+            output_len: usize,
             out: *mut u16,
             out_len: usize,
         ) -> u16;
@@ -81,6 +94,13 @@ pub enum NextAnswer {
     NoMore,
 }
 
+/// The answer of a combination. On `Written` the model file stands in the first so many bytes of the output.
+#[derive(Clone, Copy, Debug, PartialEq, Eq)]
+pub enum CombineAnswer {
+    Refused(u16),
+    Written(usize),
+}
+
 /// The return values of the C functions: the kinds of answer. A value below them is the number of a refusal.
 pub mod kind {
     pub const FROM: u16 = 100;
@@ -91,6 +111,7 @@ pub mod kind {
     pub const NO_MORE: u16 = 104;
     pub const FINISHED: u16 = 105;
     pub const ADVANCED: u16 = 106;
+    pub const WRITTEN: u16 = 107;
 }
 
 /// `fahkelo_step` over slices: the kind, with its figures in `out`, or the number of the refusal.
@@ -164,6 +185,31 @@ pub fn next_into(
     }
 }
 
+/// `fahkelo_combine` over slices: the kind, with its figures in `out`, or the number of the refusal.
+pub fn combine_into(
+    rule: &[u8],
+    letters: &[u8],
+    property: &[u8],
+    output: &mut [u8],
+    out: &mut [u16],
+) -> u16 {
+    // SAFETY: as in `step_into`; the rule, the letters and the property are only read and may overlap each other.
+    unsafe {
+        c::fahkelo_combine(
+            rule.as_ptr(),
+            rule.len(),
+            letters.as_ptr(),
+            letters.len(),
+            property.as_ptr(),
+            property.len(),
+            output.as_mut_ptr(),
+            output.len(),
+            out.as_mut_ptr(),
+            out.len(),
+        )
+    }
+}
+
 /// The record that three figures stand for.
 fn record_of(figures: &[u16; 4]) -> Record {
     Record {
@@ -210,5 +256,15 @@ pub fn next(file: &[u8], earlier: &[u16], answer: &mut [u16], work: &mut [u16]) 
         },
         kind::NO_MORE => NextAnswer::NoMore,
         other => unreachable!("next has no answer of kind {other}"),
+    }
+}
+
+/// The combination of a rule, whose states have the letters, with a property: a model file, written to the output.
+pub fn combine(rule: &[u8], letters: &[u8], property: &[u8], output: &mut [u8]) -> CombineAnswer {
+    let mut out = [0; 4];
+    match combine_into(rule, letters, property, output, &mut out) {
+        number if number < kind::FROM => CombineAnswer::Refused(number),
+        kind::WRITTEN => CombineAnswer::Written(out[0] as usize),
+        other => unreachable!("a combination has no answer of kind {other}"),
     }
 }

@@ -1,6 +1,10 @@
 //! Compares the proved library with Rust versions: in speed, and in every answer and table.
 
 mod clock;
+mod combinations;
+mod combine_differential;
+mod combine_measure;
+mod combine_samples;
 mod differential;
 #[cfg(test)]
 mod examples;
@@ -10,6 +14,8 @@ mod measure;
 mod model;
 mod oracle;
 mod ported;
+mod product;
+mod property;
 mod random;
 mod reference;
 mod samples;
@@ -19,15 +25,19 @@ mod versions;
 use std::path::Path;
 use std::process::ExitCode;
 
-use versions::{Finder, Proved, SAFE, UNCHECKED};
+use versions::{Combiner, Finder, Proved, SAFE, UNCHECKED};
 
 const USAGE: &str = "\
-fahkelo-bench [WORD]                    measure the families whose names hold the word (default: all)
-fahkelo-bench differential COUNT SEED   compare answers and tables on COUNT files
-fahkelo-bench counts [SIZE]             the work of a search on each family, by phase
-fahkelo-bench once VERSION FAMILY SIZE  one search, for a profiler (proved, safe, unchecked, textbook)
-fahkelo-bench families                  the names of the families
-fahkelo-bench files FOLDER              write the files of all families";
+fahkelo-bench [WORD]                           measure the families whose names hold the word (default: all)
+fahkelo-bench differential COUNT SEED          compare answers and tables on COUNT files
+fahkelo-bench counts [SIZE]                    the work of a search on each family, by phase
+fahkelo-bench once VERSION FAMILY SIZE         one search, for a profiler (proved, safe, unchecked, textbook)
+fahkelo-bench families                         the names of the families
+fahkelo-bench files FOLDER                     write the files of all families
+fahkelo-bench combine [WORD]                   measure the combinations whose names hold the word (default: all)
+fahkelo-bench combine-differential COUNT SEED  compare answers and outputs on COUNT combinations
+fahkelo-bench combine-once VERSION FAMILY      one combination, for a profiler (proved, safe, unchecked)
+fahkelo-bench combine-families                 the families of combinations: name, mask tests a pass, blocks";
 
 fn main() -> ExitCode {
     let words: Vec<String> = std::env::args().skip(1).collect();
@@ -46,6 +56,21 @@ fn main() -> ExitCode {
         }
         ["files", folder] => {
             measure::write_all(Path::new(folder));
+            Some(ExitCode::SUCCESS)
+        }
+        ["combine"] => combined(""),
+        ["combine", word] => combined(word),
+        ["combine-differential", count, seed] => combine_differential(count, seed),
+        ["combine-once", version, family] => combination(version, family),
+        ["combine-families"] => {
+            for family in combinations::COMBINATIONS {
+                println!(
+                    "{} {} {}",
+                    family.name,
+                    family.mask_tests(),
+                    family.blocks()
+                );
+            }
             Some(ExitCode::SUCCESS)
         }
         [word] if !word.starts_with('-') => measured(word),
@@ -67,13 +92,27 @@ fn counted(size: &str) -> Option<ExitCode> {
     Some(ExitCode::SUCCESS)
 }
 
+fn combined(word: &str) -> Option<ExitCode> {
+    combine_measure::run(word);
+    Some(ExitCode::SUCCESS)
+}
+
 fn differential(count: &str, seed: &str) -> Option<ExitCode> {
     let differences = differential::run(count.parse().ok()?, seed.parse().ok()?);
-    Some(if differences == 0 {
+    Some(status_of(differences))
+}
+
+fn combine_differential(count: &str, seed: &str) -> Option<ExitCode> {
+    let differences = combine_differential::run(count.parse().ok()?, seed.parse().ok()?);
+    Some(status_of(differences))
+}
+
+fn status_of(differences: u64) -> ExitCode {
+    if differences == 0 {
         ExitCode::SUCCESS
     } else {
         ExitCode::from(1)
-    })
+    }
 }
 
 fn once(version: &str, family: &str, size: &str) -> Option<ExitCode> {
@@ -87,5 +126,15 @@ fn once(version: &str, family: &str, size: &str) -> Option<ExitCode> {
     }
     let version = versions.iter().find(|known| known.name() == version)?;
     println!("{:?}", measure::search_once(*version, &file, states).0);
+    Some(ExitCode::SUCCESS)
+}
+
+fn combination(version: &str, family: &str) -> Option<ExitCode> {
+    let input = combinations::named(family)?.make();
+    let versions: [&dyn Combiner; 3] = [&Proved, &SAFE, &UNCHECKED];
+    let version = versions.iter().find(|known| known.name() == version)?;
+    let mut output = [0; combine_measure::OUTPUT_MOST];
+    let answer = combine_measure::combine_once(*version, &input, &mut output);
+    println!("{answer:?}");
     Some(ExitCode::SUCCESS)
 }

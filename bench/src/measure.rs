@@ -66,22 +66,27 @@ struct Row {
     spreads: u64,
 }
 
-/// Measures the versions in turn, so that what disturbs one disturbs all, and keeps the least time of each.
-fn times(file: &[u8], states: usize) -> [Duration; 4] {
-    let versions: [&dyn Finder; 3] = [&Proved, &SAFE, &UNCHECKED];
-    let once = batch_time(1, || drop(search_once(&Proved, file, states)));
+/// Measures versions in turn, so that what disturbs one disturbs all, and keeps the least time of each.
+pub fn least_times<const K: usize>(mut versions: [&mut dyn FnMut(); K]) -> [Duration; K] {
+    let once = batch_time(1, &mut *versions[0]);
     let calls = (BATCH.as_nanos() / once.as_nanos().max(1)).clamp(1, 10_000) as u32;
     let batches = ALL_BATCHES.as_nanos() / (once * calls).as_nanos().max(1);
-    let mut least = [Duration::MAX; 4];
+    let mut least = [Duration::MAX; K];
     for _ in 0..batches.max(BATCHES.into()) {
-        for (version, least) in versions.iter().zip(&mut least) {
-            let time = batch_time(calls, || drop(search_once(*version, file, states)));
-            *least = time.min(*least);
+        for (version, least) in versions.iter_mut().zip(&mut least) {
+            *least = batch_time(calls, version).min(*least);
         }
-        let time = batch_time(calls, || drop(textbook_once(file)));
-        least[3] = time.min(least[3]);
     }
     least
+}
+
+fn times(file: &[u8], states: usize) -> [Duration; 4] {
+    least_times([
+        &mut || drop(search_once(&Proved, file, states)),
+        &mut || drop(search_once(&SAFE, file, states)),
+        &mut || drop(search_once(&UNCHECKED, file, states)),
+        &mut || drop(textbook_once(file)),
+    ])
 }
 
 /// All versions must give the same first list.
@@ -208,7 +213,7 @@ fn millis(time: Duration) -> f64 {
     time.as_secs_f64() * 1000.0
 }
 
-fn ratio(a: Duration, b: Duration) -> f64 {
+pub fn ratio(a: Duration, b: Duration) -> f64 {
     a.as_secs_f64() / b.as_secs_f64()
 }
 

@@ -16,6 +16,19 @@ fn long(file: &[u8], at: usize) -> u64 {
 
 /// The model that a file holds, or the number of the first rule from 1 to 11 that it breaks.
 pub fn read(file: &[u8]) -> Result<Model, u16> {
+    read_kind(file, 0)
+}
+
+/// The model and the masks that a property file holds, the masks in the order of the edges, or the number of the first
+/// rule from 1 to 11 that it breaks. Its total length counts two bytes more for each edge.
+pub fn read_property(file: &[u8]) -> Result<(Model, Vec<u16>), u16> {
+    let model = read_kind(file, 2)?;
+    let masks = file[file.len() - 2 * model.edges()..].chunks_exact(2);
+    Ok((model, masks.map(|two| word(two, 0)).collect()))
+}
+
+/// The model of a file that has so many bytes for each edge behind the marks.
+fn read_kind(file: &[u8], bytes_an_edge: usize) -> Result<Model, u16> {
     if file.len() < 24 {
         return Err(1);
     }
@@ -39,7 +52,8 @@ pub fn read(file: &[u8]) -> Result<Model, u16> {
     let rows_at = 24;
     let edges_at = rows_at + 2 * (n + 1);
     let marks_at = edges_at + 2 * m;
-    let total = marks_at + n / 8 + usize::from(n % 8 != 0);
+    let marks_end = marks_at + n / 8 + usize::from(n % 8 != 0);
+    let total = marks_end + bytes_an_edge * m;
     let given = [8, 12, 16, 20].map(|at| long(file, at));
     if given != [rows_at, edges_at, marks_at, total].map(|number| number as u64) {
         return Err(6);
@@ -69,7 +83,7 @@ pub fn read(file: &[u8]) -> Result<Model, u16> {
         return Err(10);
     }
     let bit = |s: usize| file[marks_at + s / 8] & (1 << (s % 8)) != 0;
-    if (n..8 * (total - marks_at)).any(bit) {
+    if (n..8 * (marks_end - marks_at)).any(bit) {
         return Err(11);
     }
     let marks = (0..n).map(bit).collect();

@@ -2,9 +2,9 @@
 
 use std::marker::PhantomData;
 
-use crate::fahkelo::{self, NextAnswer, Record, SearchAnswer, StepAnswer};
+use crate::fahkelo::{self, CombineAnswer, NextAnswer, Record, SearchAnswer, StepAnswer};
 use crate::ported::access::{Access, Checked, Unchecked};
-use crate::ported::finder;
+use crate::ported::{combine, finder};
 
 /// A finder with the three operations.
 pub trait Finder {
@@ -26,8 +26,36 @@ pub trait Finder {
     ) -> NextAnswer;
 }
 
+/// What combines a rule with a property.
+pub trait Combiner {
+    fn name(&self) -> &'static str;
+    fn combine(
+        &self,
+        rule: &[u8],
+        letters: &[u8],
+        property: &[u8],
+        output: &mut [u8],
+    ) -> CombineAnswer;
+}
+
 /// The proved library.
 pub struct Proved;
+
+impl Combiner for Proved {
+    fn name(&self) -> &'static str {
+        "proved"
+    }
+
+    fn combine(
+        &self,
+        rule: &[u8],
+        letters: &[u8],
+        property: &[u8],
+        output: &mut [u8],
+    ) -> CombineAnswer {
+        fahkelo::combine(rule, letters, property, output)
+    }
+}
 
 impl Finder for Proved {
     fn name(&self) -> &'static str {
@@ -95,5 +123,21 @@ impl<A: Access> Finder for Ported<A> {
         work: &mut [u16],
     ) -> NextAnswer {
         finder::next::<A>(file, earlier, answer, work)
+    }
+}
+
+impl<A: Access> Combiner for Ported<A> {
+    fn name(&self) -> &'static str {
+        self.0
+    }
+
+    fn combine(
+        &self,
+        rule: &[u8],
+        letters: &[u8],
+        property: &[u8],
+        output: &mut [u8],
+    ) -> CombineAnswer {
+        combine::combine::<A>(rule, letters, property, output)
     }
 }

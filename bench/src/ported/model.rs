@@ -1,4 +1,4 @@
-//! The model file: its check by the rules 1 to 11, and the leaves that read it.
+//! The model file: its check by the rules 1 to 11, where its tables stand, and the leaves that read it.
 
 use super::access::Access;
 
@@ -10,11 +10,13 @@ pub struct Header {
     pub start: usize,
 }
 
-fn word<A: Access>(file: &[u8], at: usize) -> usize {
+#[inline]
+pub fn word<A: Access>(file: &[u8], at: usize) -> usize {
     A::get(file, at) as usize + 256 * A::get(file, at + 1) as usize
 }
 
-fn entry<A: Access>(file: &[u8], table: usize, k: usize) -> usize {
+#[inline]
+pub fn entry<A: Access>(file: &[u8], table: usize, k: usize) -> usize {
     word::<A>(file, table + 2 * k)
 }
 
@@ -22,12 +24,43 @@ fn long<A: Access>(file: &[u8], at: usize) -> usize {
     word::<A>(file, at) + 65536 * word::<A>(file, at + 2)
 }
 
-fn bit<A: Access>(file: &[u8], at: usize, s: usize) -> bool {
+#[inline]
+pub fn bit<A: Access>(file: &[u8], at: usize, s: usize) -> bool {
     (A::get(file, at + s / 8) >> (s % 8)) % 2 == 1
+}
+
+/// The offset of the edge table.
+#[inline]
+pub fn edges_at(n: usize) -> usize {
+    24 + 2 * (n + 1)
+}
+
+/// The offset of the marks.
+#[inline]
+pub fn marks_at(n: usize, m: usize) -> usize {
+    edges_at(n) + 2 * m
+}
+
+/// The number of mark bytes.
+#[inline]
+pub fn mark_bytes(n: usize) -> usize {
+    n.div_ceil(8)
+}
+
+/// The total length of a model file.
+#[inline]
+pub fn total_of(n: usize, m: usize) -> usize {
+    marks_at(n, m) + mark_bytes(n)
 }
 
 /// The header, or the number of the first broken rule.
 pub fn check<A: Access>(file: &[u8]) -> Result<Header, u16> {
+    let h = check_head::<A>(file)?;
+    check_tables::<A>(file, h, total_of(h.states, h.edges))
+}
+
+/// The rules 1 to 5.
+pub fn check_head<A: Access>(file: &[u8]) -> Result<Header, u16> {
     if file.len() < 24 {
         return Err(1);
     }
@@ -46,20 +79,18 @@ pub fn check<A: Access>(file: &[u8]) -> Result<Header, u16> {
     if word::<A>(file, 6) != 0 {
         return Err(5);
     }
-    check_tables::<A>(
-        file,
-        Header {
-            states,
-            edges,
-            start,
-        },
-    )
+    Ok(Header {
+        states,
+        edges,
+        start,
+    })
 }
 
-fn check_tables<A: Access>(file: &[u8], h: Header) -> Result<Header, u16> {
+/// The rules 6 to 11, by the total length that the kind of file is to have.
+pub fn check_tables<A: Access>(file: &[u8], h: Header, total: usize) -> Result<Header, u16> {
     let n = h.states;
     let m = h.edges;
-    if offsets_broken::<A>(file, n, m) {
+    if offsets_broken::<A>(file, n, m, total) {
         return Err(6);
     }
     if file.len() != long::<A>(file, 20) {
@@ -80,13 +111,10 @@ fn check_tables<A: Access>(file: &[u8], h: Header) -> Result<Header, u16> {
     Ok(h)
 }
 
-fn offsets_broken<A: Access>(file: &[u8], n: usize, m: usize) -> bool {
-    let edges = 24 + 2 * (n + 1);
-    let marks = edges + 2 * m;
-    let total = marks + n.div_ceil(8);
+fn offsets_broken<A: Access>(file: &[u8], n: usize, m: usize, total: usize) -> bool {
     long::<A>(file, 8) != 24
-        || long::<A>(file, 12) != edges
-        || long::<A>(file, 16) != marks
+        || long::<A>(file, 12) != edges_at(n)
+        || long::<A>(file, 16) != marks_at(n, m)
         || long::<A>(file, 20) != total
 }
 
@@ -103,7 +131,7 @@ fn rows_broken<A: Access>(file: &[u8], n: usize, m: usize) -> bool {
 }
 
 fn targets_broken<A: Access>(file: &[u8], n: usize, m: usize) -> bool {
-    let base = 24 + 2 * (n + 1);
+    let base = edges_at(n);
     (0..m).any(|e| n <= entry::<A>(file, base, e))
 }
 
@@ -116,16 +144,22 @@ fn order_broken<A: Access>(file: &[u8], n: usize) -> bool {
 }
 
 fn spare_set<A: Access>(file: &[u8], n: usize, m: usize) -> bool {
-    let marks = 24 + 2 * (n + 1) + 2 * m;
-    (n..8 * n.div_ceil(8)).any(|s| bit::<A>(file, marks, s))
+    let marks = marks_at(n, m);
+    (n..8 * mark_bytes(n)).any(|s| bit::<A>(file, marks, s))
 }
 
+/// The part of a table with a 16-bit number for each edge, from byte `base` on, that belongs to row s.
 #[inline]
-fn row<A: Access>(file: &[u8], n: usize, s: usize) -> &[u8] {
-    let base = 24 + 2 * (n + 1);
+pub fn edge_part<A: Access>(file: &[u8], base: usize, s: usize) -> &[u8] {
     let from = base + 2 * entry::<A>(file, 24, s);
     let to = base + 2 * entry::<A>(file, 24, s + 1);
     A::part(file, from, to)
+}
+
+/// The part of the file that holds the targets of row s, in a file of n states.
+#[inline]
+pub fn row<A: Access>(file: &[u8], n: usize, s: usize) -> &[u8] {
+    edge_part::<A>(file, edges_at(n), s)
 }
 
 /// The part of the file that holds the targets of one state's row.
@@ -149,5 +183,5 @@ pub fn successor<A: Access>(part: &[u8], k: usize) -> usize {
 /// State s is marked.
 #[inline]
 pub fn is_marked<A: Access>(file: &[u8], h: Header, s: usize) -> bool {
-    bit::<A>(file, 24 + 2 * (h.states + 1) + 2 * h.edges, s)
+    bit::<A>(file, marks_at(h.states, h.edges), s)
 }

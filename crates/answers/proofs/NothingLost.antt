@@ -17,7 +17,7 @@ use Rattle.step.specs.Step.{Stepped, finished, advanced, stepped}
 use Rattle.search.specs.Search.{Searched, stopped, empty, searched, searchReasons}
 use Rattle.next.specs.Next.{Followed, noMore, followed, nextReasons}
 use Rattle.gate.specs.Gate.{commonRules}
-use Rattle.answers.specs.Kinds.{Report, hasBest, bestFigure, recordGiven, stepReport, searchReport, nextReport}
+use Rattle.answers.specs.Kinds.{Report, hasBest, bestFigure, recordGiven, stepReport, searchReport, nextReport, combineReport}
 use Rattle.answers.specs.NothingLost.{Numbered, NothingLost}
 use Rattle.answers.proofs.Numbers.{broken-numbered}
 
@@ -74,6 +74,11 @@ next-back (refused n) h = refusal-back n (followedIn (nextReport (refused n))) h
 next-back (answered (Followed.found l k)) h = refl
 next-back (answered noMore) h = refl
 
+-- a combination
+combine-back : (o : Outcome ℕ) → Numbered 99 o → outcomeBack (combineReport o) (reportFigure (combineReport o) 0) ≡ o
+combine-back (refused n) h = refusal-back n 0 h
+combine-back (answered bytes) h = refl
+
 -- equal reports come from equal outcomes, where the outcome is read off its report
 injective : {A : Type 0} (report : Outcome A → Report) (back : Report → Outcome A)
     → ((o : Outcome A) → Numbered 99 o → back (report o) ≡ o)
@@ -111,6 +116,11 @@ nothing-lost = record {
     refusals = λ n. refl;
     kinds = next-kinds;
     injective = injective nextReport (λ (r : Report). outcomeBack r (followedIn r)) next-back;
+  };
+  combine = record {
+    refusals = λ n. refl;
+    kinds = λ bytes. omega arith;
+    injective = injective combineReport (λ (r : Report). outcomeBack r (reportFigure r 0)) combine-back;
   };
   step-numbers = λ f rec work. broken-numbered 12 (stepped (graphOf f) rec) (commonRules f work) tt;
   search-numbers = λ f ask answer work.

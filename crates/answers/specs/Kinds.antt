@@ -57,6 +57,11 @@ nextReport (refused n) = refusal n
 nextReport (answered (Followed.found l k)) = record { kind = 102; figures = l ∷ k ∷ [] }
 nextReport (answered noMore) = record { kind = 104; figures = [] }
 
+-- a combination: 107 written (bytes)
+abbrev pub combineReport : Outcome ℕ → Report
+combineReport (refused n) = refusal n
+combineReport (answered bytes) = record { kind = 107; figures = bytes ∷ [] }
+
 -- a table afterwards: the figures from entry 0 on; later entries do not change
 abbrev pub figuresIn : List ℕ → Report → List ℕ
 figuresIn out r = written (some (r .figures)) out

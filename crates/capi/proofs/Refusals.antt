@@ -18,8 +18,10 @@ use Rattle.outcomes.specs.Tables.{written, unlessRefused}
 use Rattle.step.specs.Step.{stepOutcome}
 use Rattle.search.specs.Search.{searched, firstDue, searchReasons, searchOutcome}
 use Rattle.next.specs.Next.{followed, nextReasons, nextOutcome}
-use Rattle.answers.specs.Kinds.{Report, figuresIn, refusal, stepReport, searchReport, nextReport}
+use Rattle.combine.specs.Combine.{combinedFile, combineReasons, combineBroken, combineOutcome}
+use Rattle.answers.specs.Kinds.{Report, figuresIn, refusal, stepReport, searchReport, nextReport, combineReport}
 use Rattle.answers.specs.NothingLost.{Numbered, Tells}
+use Rattle.answers.proofs.Numbers.{broken-numbered}
 use Rattle.answers.proofs.NothingLost.{nothing-lost}
 use Rattle.capi.specs.Interface.{outTooShort}
 use Rattle.capi.specs.Refusals.{Value, RefusalsChangeNothing}
@@ -71,7 +73,7 @@ module _ {A : Type 0} (most : ℕ) (small : most ≤ 99) (out : List ℕ) where
     pub value-told : (o : Outcome A) → Numbered most o → Value most o out (pick (ltb (length out) 4) outTooShort (report o))
     value-told = value-decided (ltb (length out) 4) refl
 
--- the answer table of a call that tells no answer
+-- what a call writes to, if it tells no answer
 answer-untold : {A : Type 0} (report : Outcome A → Report) → Tells report → (x : A) (due : Option (List ℕ)) (a : List ℕ) (short : Bool) (broken : Option ℕ)
     → pick short outTooShort (report (outcome broken x)) .kind ≤ 100 → pick short a (written (unlessRefused broken due) a) ≡ a
 answer-untold report tells x due a true broken l = refl
@@ -89,10 +91,16 @@ refusals-change-nothing = record {
   next = λ f earlier a w out.
       value-told 15 (omega arith) out nextReport (nothing-lost .next) (nextOutcome f earlier (length a) (length w))
       (nothing-lost .next-numbers f earlier (length a) (length w));
+  combine = λ f letters p output out.
+      value-told 18 (omega arith) out combineReport (nothing-lost .combine) (combineOutcome f letters p (length output))
+      (broken-numbered 18 (length (combinedFile f letters p)) (combineReasons f letters p (length output)) tt);
   search-answer = λ f ask a w out.
       answer-untold searchReport (nothing-lost .search) (searched (graphOf f) ask) (firstDue (graphOf f) ask) a
       (ltb (length out) 4) (firstBroken (searchReasons f ask (length a) (length w)));
   next-answer = λ f earlier a w out.
       answer-untold nextReport (nothing-lost .next) (followed (following earlier (roll (graphOf f)))) (following earlier (roll (graphOf f))) a
       (ltb (length out) 4) (firstBroken (nextReasons f earlier (length a) (length w)));
+  combine-output = λ f letters p output out.
+      answer-untold combineReport (nothing-lost .combine) (length (combinedFile f letters p)) (some (combinedFile f letters p)) output
+      (ltb (length out) 4) (combineBroken f letters p (length output));
 }

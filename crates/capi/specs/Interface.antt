@@ -10,7 +10,8 @@ use Rattle.gate.specs.Gate.{workOf}
 use Rattle.step.specs.Step.{stepOutcome}
 use Rattle.search.specs.Search.{searchOutcome, searchAnswer}
 use Rattle.next.specs.Next.{nextOutcome, nextAnswer}
-use Rattle.answers.specs.Kinds.{Report, stepReport, searchReport, nextReport}
+use Rattle.combine.specs.Combine.{combineOutcome, combineOutput}
+use Rattle.answers.specs.Kinds.{Report, stepReport, searchReport, nextReport, combineReport}
 
 -- 100, with no figures: `out` has fewer than 4 entries
 abbrev pub outTooShort : Report
@@ -32,6 +33,10 @@ searchCall f ask a w out = ifShort out outTooShort (searchReport (searchOutcome 
 abbrev pub nextCall : (f earlier a w out : List ℕ) → Report
 nextCall f earlier a w out = ifShort out outTooShort (nextReport (nextOutcome f earlier (length a) (length w)))
 
+-- the report of a combination, lent the output
+abbrev pub combineCall : (f letters p output out : List ℕ) → Report
+combineCall f letters p output out = ifShort out outTooShort (combineReport (combineOutcome f letters p (length output)))
+
 -- the answer table after a search: untouched if `out` is too short
 abbrev pub answerAfterSearch : List ℕ → Ask → (a w out : List ℕ) → List ℕ
 answerAfterSearch f ask a w out = ifShort out a (searchAnswer f ask a (length w))
@@ -40,6 +45,10 @@ answerAfterSearch f ask a w out = ifShort out a (searchAnswer f ask a (length w)
 abbrev pub answerAfterNext : (f earlier a w out : List ℕ) → List ℕ
 answerAfterNext f earlier a w out = ifShort out a (nextAnswer f earlier a (length w))
 
--- the working table after each of the three: untouched if `out` is too short
+-- the output after a combination: untouched if `out` is too short
+abbrev pub outputAfterCombine : (f letters p output out : List ℕ) → List ℕ
+outputAfterCombine f letters p output out = ifShort out output (combineOutput f letters p output)
+
+-- the working table after step, search and next: untouched if `out` is too short
 abbrev pub workAfterCall : (f w out : List ℕ) → List ℕ
 workAfterCall f w out = ifShort out w (workOf f w)

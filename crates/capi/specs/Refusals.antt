@@ -10,8 +10,9 @@ use Rattle.outcomes.specs.Outcome.{Outcome, refused, answered}
 use Rattle.step.specs.Step.{stepOutcome}
 use Rattle.search.specs.Search.{searchOutcome}
 use Rattle.next.specs.Next.{nextOutcome}
+use Rattle.combine.specs.Combine.{combineOutcome}
 use Rattle.answers.specs.Kinds.{Report, figuresIn}
-use Rattle.capi.specs.Interface.{stepCall, searchCall, nextCall, answerAfterSearch, answerAfterNext}
+use Rattle.capi.specs.Interface.{stepCall, searchCall, nextCall, combineCall, answerAfterSearch, answerAfterNext, outputAfterCombine}
 
 -- What a report tells, where the finder answers o, refusals having numbers from 1 to `most`, and `out` was lent.
 pub record Value {A : Type 0} (most : ℕ) (o : Outcome A) (out : List ℕ) (r : Report) : Type 0 where
@@ -27,7 +28,7 @@ pub record Value {A : Type 0} (most : ℕ) (o : Outcome A) (out : List ℕ) (r :
   -- above 100 the call is not refused
   pub kinds : 100 < r .kind → (a : A) × (o ≡ answered a)
 
--- So it is with all three functions; and up to 100 no entry of the answer table changes.
+-- So it is with all four functions; and up to 100 no entry of the answer table and no byte of the output changes.
 pub record RefusalsChangeNothing : Type 0 where
   pub step : (f : List ℕ) (rec : Record) (w out : List ℕ)
       → Value 12 (stepOutcome f rec (length w)) out (stepCall f rec w out)
@@ -35,7 +36,11 @@ pub record RefusalsChangeNothing : Type 0 where
       → Value 15 (searchOutcome f ask (length a) (length w)) out (searchCall f ask a w out)
   pub next : (f earlier a w out : List ℕ)
       → Value 15 (nextOutcome f earlier (length a) (length w)) out (nextCall f earlier a w out)
+  pub combine : (f letters p output out : List ℕ)
+      → Value 18 (combineOutcome f letters p (length output)) out (combineCall f letters p output out)
   pub search-answer : (f : List ℕ) (ask : Ask) (a w out : List ℕ) → searchCall f ask a w out .kind ≤ 100
       → answerAfterSearch f ask a w out ≡ a
   pub next-answer : (f earlier a w out : List ℕ) → nextCall f earlier a w out .kind ≤ 100
       → answerAfterNext f earlier a w out ≡ a
+  pub combine-output : (f letters p output out : List ℕ) → combineCall f letters p output out .kind ≤ 100
+      → outputAfterCombine f letters p output out ≡ output

@@ -1,15 +1,21 @@
-// The C interface: step, search and next under plain names, with answers as numbers. What is returned is the number of the
+// The C interface: step, search, next and combine under plain names, with answers as numbers. What is returned is the number of the
 // refusal, 1 to 99, or the kind of answer, whose figures go to `out`: a refused call changes nothing there. With fewer than
 // 4 entries in `out` the answer is 100 and nothing at all is done.
 ghost use mathlib.Core.Path.{_≡_};
+ghost use Prim.Native.Nat.{_≤_};
+ghost use lib.ListN.{length};
 ghost use Rattle.lasso.specs.Values.{recordOf};
-ghost use Rattle.answers.specs.Kinds.{recordGiven, figuresIn};
+ghost use Rattle.combine.specs.Combine.{combineOutcomeOf};
+ghost use Rattle.answers.specs.Kinds.{recordGiven, figuresIn, combineReport};
 ghost use Rattle.gate.specs.Gate.{asking};
-ghost use Rattle.capi.specs.Interface.{stepCall, searchCall, nextCall};
-ghost use Rattle.capi.specs.Interface.{answerAfterSearch, answerAfterNext, workAfterCall};
+ghost use Rattle.capi.specs.Interface.{stepCall, searchCall, nextCall, combineCall};
+ghost use Rattle.capi.specs.Interface.{answerAfterSearch, answerAfterNext, outputAfterCombine, workAfterCall};
+ghost use Rattle.capi.specs.Figures.{FigureFits};
 use answers::report_next;
 use answers::report_search;
 use answers::report_step;
+use combine::CombineAnswer;
+use combine::combine;
 use gate::Ask;
 use lasso::Best;
 use lasso::RoundRecord;
@@ -23,6 +29,9 @@ const OUT_ENTRIES: usize = 4;
 
 // The kind of answer if it has fewer.
 const OUT_TOO_SHORT: u16 = 100;
+
+// The kind of answer of a combination that was written.
+const WRITTEN: u16 = 107;
 
 // The record that three figures stand for.
 fn record_given(done: u16, has_best: u8, best: u16) -> RoundRecord
@@ -115,4 +124,43 @@ pub extern "C" fn fahkelo_next(
     }
     let followed = next(file, earlier, answer, work);
     report_next(followed, out)
+}
+
+// Reports the answer of a combination: its number of bytes is the one figure.
+fn report_combine(answer: CombineAnswer, out: &mut [u16]) -> u16
+    requires { ⌜ 1 ≤ length (now out) ⌝ }
+    requires { ⌜ FigureFits answer ⌝ }
+    ensures kind { λ r. ⌜ r ≡ combineReport (combineOutcomeOf answer) .kind ⌝ }
+    ensures out { λ _. ⌜ now (out .exit) ≡ figuresIn (now (out .entry)) (combineReport (combineOutcomeOf answer)) ⌝ }
+{
+    match answer {
+        CombineAnswer::Refused(number) => number,
+        CombineAnswer::Written(bytes) => {
+            out[0] = bytes as u16;
+            WRITTEN
+        }
+    }
+}
+
+// The combination of a rule with a property, written to the output as a model file.
+#[no_mangle]
+pub extern "C" fn fahkelo_combine(
+    rule: &[u8],
+    letters: &[u8],
+    property: &[u8],
+    output: &mut [u8],
+    out: &mut [u16],
+) -> u16
+    ensures value { λ r. ⌜ r ≡ combineCall (now (rule .entry)) (now (letters .entry)) (now (property .entry))
+        (now (output .entry)) (now (out .entry)) .kind ⌝ }
+    ensures out { λ _. ⌜ now (out .exit) ≡ figuresIn (now (out .entry)) (combineCall (now (rule .entry))
+        (now (letters .entry)) (now (property .entry)) (now (output .entry)) (now (out .entry))) ⌝ }
+    ensures output { λ _. ⌜ now (output .exit) ≡ outputAfterCombine (now (rule .entry)) (now (letters .entry))
+        (now (property .entry)) (now (output .entry)) (now (out .entry)) ⌝ }
+{
+    if out.len() < OUT_ENTRIES {
+        return OUT_TOO_SHORT;
+    }
+    let combined = combine(rule, letters, property, output);
+    report_combine(combined, out)
 }

@@ -20,8 +20,8 @@ use Rattle.next.specs.Next.{followed, dueReasons, nextReasons}
 use Rattle.gate.specs.Gate.{commonRules, workAfter, workOf}
 use Rattle.conditions.specs.Reasons.{numbersOf}
 use Rattle.conditions.specs.Condition1.{stepNumbers, searchNumbers, nextNumbers, Refuses, AnswerKept, WorkLeft, Condition1Holds}
-use Rattle.gate.proofs.GateLaws.{clear-append, broken-append}
 use Rattle.conditions.proofs.FirstLaws.{noneHolds-firstBroken, clear-none, broken-first, first-broken, betweenb, broken-between, refused-some, answered-none}
+use Rattle.format.proofs.Reasons.{clear-append, broken-append}
 
 -- a refusal is no answer
 refused-answered : {A : Type 0} {n : ℕ} {x : A} → refused n ≡ answered x → ⊥

@@ -11,7 +11,7 @@ use Rattle.lasso.proofs.Tests.{parts}
 use Rattle.format.specs.Rules.{Reason, firstBroken}
 use Rattle.outcomes.specs.Outcome.{refused, answered, outcome}
 use Rattle.conditions.specs.Reasons.{numbersOf, NoneHolds, FirstHolds}
-use Rattle.gate.proofs.GateLaws.{clear-append}
+use Rattle.format.proofs.Reasons.{clear-append}
 
 -- none is found if none holds
 pub noneHolds-firstBroken : (rs : List Reason) → NoneHolds rs → firstBroken rs ≡ none

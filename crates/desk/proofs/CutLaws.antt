@@ -16,9 +16,8 @@ use Rattle.lasso.proofs.Tests.{lt-or-ge}
 use Rattle.format.specs.Bytes.{word, long}
 use Rattle.format.specs.Layout.{states, edgeCount, initial, rowsAt, edgesAt, marksAt, totalOf}
 use Rattle.format.specs.Rules.{Reason, rules, firstBroken, shortFile, badStates, badEdges, badInitial, badReserved, badOffsets, badLength}
-use Rattle.format.proofs.Reasons.{none-clear}
+use Rattle.format.proofs.Reasons.{none-clear, clear-append, broken-append}
 use Rattle.format.proofs.Kept.{states-kept, length-kept}
-use Rattle.gate.proofs.GateLaws.{clear-append, broken-append}
 use Rattle.sheet_text.specs.SheetText.{textOf}
 use Rattle.desk.specs.Desk.{inputBytes, inputText}
 use Rattle.desk.specs.Sizes.{FirstBytesDecide}

@@ -15,7 +15,8 @@ use Rattle.gate.specs.Gate.{commonRules}
 use Rattle.outcomes.specs.Tables.{listReasons}
 use Rattle.search.specs.Search.{searched, firstDue}
 use Rattle.search.proofs.SearchLaws.{search-empty, search-found, roll-first}
-use Rattle.gate.proofs.GateLaws.{broken-append, common-refused}
+use Rattle.format.proofs.Reasons.{broken-append}
+use Rattle.gate.proofs.GateLaws.{common-refused}
 use Rattle.sheet_text.specs.SheetText.{sheetAsk}
 use Rattle.sheet_text.proofs.SheetLaws.{outcome-answered, enough-rounds}
 use Rattle.sheet.proofs.LengthLaws.{broken-number}

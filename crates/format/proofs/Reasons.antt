@@ -1,10 +1,11 @@
 -- What it says that no reason of a table holds, and how the first one that holds is found.
 use Prim.Native.Nat.{ℕ, _+_, _≤_, _<_}
-use mathlib.Core.Path.{_≡_, ap, _∙_}
+use mathlib.Core.Path.{_≡_, refl, sym, ap, _∙_}
 use mathlib.Core.Bool.{Bool, true, false, _||_, not}
-use mathlib.Core.List.{List, [], _∷_}
-use mathlib.Core.Option.{Option, none, Option·some-ne-none}
+use mathlib.Core.List.{List, [], _∷_, _++_}
+use mathlib.Core.Option.{Option, some, none, Option·some-ne-none}
 use native.Mathlib.Omega.{arith}
+use lib.ListN.{drop}
 use lib.Dec.{T, eqb, not-T, T-not}
 use Rattle.lasso.specs.Lists.{anyb, upFrom, below, someIf}
 use Rattle.lasso.proofs.Tests.{some-anyb, range-upFrom, eq→eqb}
@@ -26,6 +27,42 @@ none-clear [] e = tt
 none-clear (r ∷ rs) e =
     let p : T (not (r .holds)) × (firstBroken rs ≡ none) = skipped (r .holds) (r .number) (firstBroken rs) e in
     (p .0, none-clear rs (p .1))
+
+-- the first value, or the second if there is none
+abbrev orElse : Option ℕ → Option ℕ → Option ℕ
+orElse none b = b
+orElse (some a) b = some a
+
+-- a test in front of two tables is in front of the first
+someIf-orElse : (b : Bool) (n : ℕ) (p q : Option ℕ) → someIf b n (orElse p q) ≡ orElse (someIf b n p) q
+someIf-orElse true n p q = refl
+someIf-orElse false n p q = refl
+
+-- the first reason of two tables, one after the other
+firstBroken-append : (rs ss : List Reason) → firstBroken (rs ++ ss) ≡ orElse (firstBroken rs) (firstBroken ss)
+firstBroken-append [] ss = refl
+firstBroken-append (r ∷ rs) ss =
+    rw (firstBroken-append rs ss) (someIf-orElse (r .holds) (r .number) (firstBroken rs) (firstBroken ss))
+
+-- if no reason of a table holds, those behind it decide
+pub clear-append : (rs ss : List Reason) → firstBroken rs ≡ none → firstBroken (rs ++ ss) ≡ firstBroken ss
+clear-append rs ss e = firstBroken-append rs ss ∙ ap (λ (o : Option ℕ). orElse o (firstBroken ss)) e
+
+-- if a reason of a table holds, those behind it do not count
+pub broken-append : (rs ss : List Reason) (n : ℕ) → firstBroken rs ≡ some n → firstBroken (rs ++ ss) ≡ some n
+broken-append rs ss n e = firstBroken-append rs ss ∙ ap (λ (o : Option ℕ). orElse o (firstBroken ss)) e
+
+-- if no reason of two tables holds, none of the first does
+pub append-clear : (rs ss : List Reason) → firstBroken (rs ++ ss) ≡ none → firstBroken rs ≡ none
+append-clear rs ss e = go (firstBroken rs) (sym (firstBroken-append rs ss) ∙ e)
+  where
+    go : (o : Option ℕ) → orElse o (firstBroken ss) ≡ none → o ≡ none
+    go none q = refl
+    go (some n) q = let z : _≡_ {A = ℕ} 0 1 = cc in absurd (omega arith)
+
+-- the first k reasons of a table do not hold: those behind them decide
+abbrev pub KeptTo : ℕ → List Reason → Type 0
+KeptTo k rs = firstBroken rs ≡ firstBroken (drop k rs)
 
 -- a reason that does not hold leaves the answer to the reasons behind it
 pub unheld-skipped : (o : Option ℕ) (b : Bool) (n : ℕ) (rest : Option ℕ) → o ≡ someIf b n rest → b ≡ false → o ≡ rest

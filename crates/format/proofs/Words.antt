@@ -12,7 +12,7 @@ use borrow.Author.Tests.{lt-ltb, le-ltb}
 use Rattle.lasso.specs.Graph.{ascendingb}
 use Rattle.lasso.specs.Lists.{upFrom}
 use Rattle.format.specs.Bytes.{word, words}
-use Rattle.format.specs.Layout.{states, edgesAt, rowEntry, rowTargets}
+use Rattle.format.specs.Layout.{rowEntry, rowNumbers}
 
 -- a part holds half as many numbers as bytes
 pub words-length : (xs : List ℕ) → length (words xs) ≡ length xs / 2
@@ -46,13 +46,13 @@ words-part f base a (suc n) h =
     let d : drop at f ≡ getD f at 0 ∷ getD f (suc at) 0 ∷ drop (suc (suc at)) f = two-more f at (omega arith) in
     rw (e, d, add-one at, ← words-part f base (suc a) n (omega arith), q)
 
--- the part of a file between two row entries holds the targets of that row
+-- the part of a table between two row entries holds the numbers of that row
 pub words-row :
-    (f : List ℕ) (n s a b : ℕ) → n ≡ states f → a ≡ rowEntry f s → b ≡ rowEntry f (s + 1) → a ≤ b → edgesAt n + 2 * b ≤ length f
-    → words (take (edgesAt n + 2 * b - (edgesAt n + 2 * a)) (drop (edgesAt n + 2 * a) f)) ≡ rowTargets f s
-words-row f n s a b en ea eb l h =
-    let q : edgesAt n + 2 * b - (edgesAt n + 2 * a) ≡ 2 * (b - a) = omega arith in
-    rw (q, words-part f (edgesAt n) a (b - a) (omega arith), en, ea, eb)
+    (f : List ℕ) (base s a b : ℕ) → a ≡ rowEntry f s → b ≡ rowEntry f (s + 1) → a ≤ b → base + 2 * b ≤ length f
+    → words (take (base + 2 * b - (base + 2 * a)) (drop (base + 2 * a) f)) ≡ rowNumbers f base s
+words-row f base s a b ea eb l h =
+    let q : base + 2 * b - (base + 2 * a) ≡ 2 * (b - a) = omega arith in
+    rw (q, words-part f base a (b - a) (omega arith), ea, eb)
 
 -- the test of the numbers from place k on compares the first two and goes on behind the first
 ascending-step :

@@ -51,9 +51,14 @@ rowEntry f s = word f (rowsAt + 2 * s)
 abbrev pub target : List ℕ → ℕ → ℕ
 target f e = word f (edgesAt (states f) + 2 * e)
 
--- the targets of row s: the places from entry s up to, not including, entry s + 1
+-- the numbers of row s in a table that has one for each edge, in edge order, from byte `base` on: the places from entry s
+-- up to, not including, entry s + 1
+abbrev pub rowNumbers : List ℕ → ℕ → ℕ → List ℕ
+rowNumbers f base s = map (λ e. word f (base + 2 * e)) (upFrom (rowEntry f s) (rowEntry f (s + 1) - rowEntry f s))
+
+-- the targets of row s
 abbrev pub rowTargets : List ℕ → ℕ → List ℕ
-rowTargets f s = map (target f) (upFrom (rowEntry f s) (rowEntry f (s + 1) - rowEntry f s))
+rowTargets f s = rowNumbers f (edgesAt (states f)) s
 
 -- the mark of s: bit s mod 8 of byte s div 8 of the marks
 abbrev pub markBit : List ℕ → ℕ → Bool

@@ -2,9 +2,9 @@
 use Prim.Native.Nat.{ℕ, _+_, _*_, _-_}
 use mathlib.Core.Path.{_≡_}
 use mathlib.Core.Bool.{Bool, _||_, not}
-use mathlib.Core.List.{List, [], _∷_}
+use mathlib.Core.List.{List, [], _∷_, _++_}
 use mathlib.Core.Option.{Option, none}
-use lib.ListN.{length, drop}
+use lib.ListN.{length}
 use lib.Dec.{eqb, ltb}
 use Rattle.lasso.specs.Lists.{anyb, upFrom, below, someIf}
 use Rattle.lasso.specs.Graph.{ascendingb}
@@ -72,24 +72,25 @@ badOrder f = anyb (λ s. not (ascendingb (rowTargets f s))) (below (states f))
 abbrev pub badSpare : List ℕ → Bool
 badSpare f = anyb (markBit f) (upFrom (states f) (8 * markBytes (states f) - states f))
 
--- the table of reasons for a kind of file, by the total length that this kind is to have
-abbrev pub rulesWith : ℕ → List ℕ → List Reason
-rulesWith total f =
+-- the reasons 1 to 5, about the header's first fields, which are the same for every kind of file
+abbrev pub headRules : List ℕ → List Reason
+headRules f =
     record { number = 1; holds = shortFile f } ∷
     record { number = 2; holds = badStates f } ∷
     record { number = 3; holds = badEdges f } ∷
     record { number = 4; holds = badInitial f } ∷
-    record { number = 5; holds = badReserved f } ∷
+    record { number = 5; holds = badReserved f } ∷ []
+
+-- the table of reasons for a kind of file, by the total length that this kind is to have
+abbrev pub rulesWith : ℕ → List ℕ → List Reason
+rulesWith total f =
+    headRules f ++
     record { number = 6; holds = badOffsets total f } ∷
     record { number = 7; holds = badLength f } ∷
     record { number = 8; holds = badRows f } ∷
     record { number = 9; holds = badTargets f } ∷
     record { number = 10; holds = badOrder f } ∷
     record { number = 11; holds = badSpare f } ∷ []
-
--- the first k rules of a kind of file are kept: those behind them decide
-abbrev pub KeptTo : ℕ → ℕ → List ℕ → Type 0
-KeptTo k total f = firstBroken (rulesWith total f) ≡ firstBroken (drop k (rulesWith total f))
 
 -- the table of reasons that every call applies to its file: the total length is the one that N and M give
 abbrev pub rules : List ℕ → List Reason

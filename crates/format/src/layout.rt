@@ -4,7 +4,7 @@ ghost use mathlib.Core.Path.{_≡_};
 ghost use Prim.Native.Nat.{_+_, _*_, _≤_, _<_};
 ghost use lib.ListN.{length};
 ghost use Rattle.format.specs.Bytes.{words};
-ghost use Rattle.format.specs.Layout.{states, rowsAt, edgesAt, marksAt, markBytes, totalOf, rowEntry, rowTargets};
+ghost use Rattle.format.specs.Layout.{states, rowsAt, edgesAt, marksAt, markBytes, totalOf, rowEntry, rowNumbers, rowTargets};
 use crate::bytes::entry_at;
 
 // The offset of the row table.
@@ -50,6 +50,19 @@ pub fn row_entry(file: &[u8], s: usize) -> usize
     entry_at(file, ROWS_AT, s)
 }
 
+// The part of a table that belongs to row s: the table has one 16-bit number for each edge, in edge order, and starts at
+// byte `base`; the row's entries s and s + 1 are in order and within the table.
+pub fn edge_part(file: &[u8], base: usize, s: usize) -> &[u8]
+    requires { ⌜ rowsAt + 2 * (s + 1) + 1 < length (now file) ⌝ }
+    requires { ⌜ rowEntry (now file) s ≤ rowEntry (now file) (s + 1) ⌝ }
+    requires { ⌜ base + 2 * rowEntry (now file) (s + 1) ≤ length (now file) ⌝ }
+    ensures { λ r. ⌜ words (now r) ≡ rowNumbers (now (file .entry)) base s ⌝ }
+{
+    let from = base + 2 * row_entry(file, s);
+    let to = base + 2 * row_entry(file, s + 1);
+    &file[from..to]
+}
+
 // The part of the file that holds the targets of row s, in a file of n states whose entries s and s + 1 are in order
 // and within the edge table.
 pub fn row(file: &[u8], n: usize, s: usize) -> &[u8]
@@ -59,8 +72,5 @@ pub fn row(file: &[u8], n: usize, s: usize) -> &[u8]
     requires { ⌜ edgesAt n + 2 * rowEntry (now file) (s + 1) ≤ length (now file) ⌝ }
     ensures { λ r. ⌜ words (now r) ≡ rowTargets (now (file .entry)) s ⌝ }
 {
-    let base = edges_at(n);
-    let from = base + 2 * row_entry(file, s);
-    let to = base + 2 * row_entry(file, s + 1);
-    &file[from..to]
+    edge_part(file, edges_at(n), s)
 }

@@ -6,6 +6,7 @@ pub use bytes::bit;
 pub use bytes::entry_at;
 pub use bytes::long;
 pub use bytes::word;
+pub use layout::edge_part;
 pub use layout::edges_at;
 pub use layout::mark_bytes;
 pub use layout::marks_at;

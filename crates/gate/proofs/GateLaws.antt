@@ -17,40 +17,9 @@ use Rattle.model.specs.declared.Header.{Header}
 use Rattle.model.specs.declared.Checked.{Checked}
 use Rattle.model.specs.declared.Checked.the-variants.{Refused, Accept}
 use Rattle.model.specs.Values.{answerOf, checkOf, Valid}
+use Rattle.format.proofs.Reasons.{clear-append, broken-append, append-clear}
 use Rattle.model.proofs.Laws.{valid-sizes}
 use Rattle.gate.specs.Gate.{smallTable, commonRules, gateOf, workAfter, workOf, Zeroed, Passed, GateSays}
-
--- the first value, or the second if there is none
-abbrev orElse : Option ℕ → Option ℕ → Option ℕ
-orElse none b = b
-orElse (some a) b = some a
-
--- a test in front of two tables is in front of the first
-someIf-orElse : (b : Bool) (n : ℕ) (p q : Option ℕ) → someIf b n (orElse p q) ≡ orElse (someIf b n p) q
-someIf-orElse true n p q = refl
-someIf-orElse false n p q = refl
-
--- the first reason of two tables, one after the other
-firstBroken-append : (rs ss : List Reason) → firstBroken (rs ++ ss) ≡ orElse (firstBroken rs) (firstBroken ss)
-firstBroken-append [] ss = refl
-firstBroken-append (r ∷ rs) ss =
-    rw (firstBroken-append rs ss) (someIf-orElse (r .holds) (r .number) (firstBroken rs) (firstBroken ss))
-
--- if no reason of a table holds, those behind it decide
-pub clear-append : (rs ss : List Reason) → firstBroken rs ≡ none → firstBroken (rs ++ ss) ≡ firstBroken ss
-clear-append rs ss e = firstBroken-append rs ss ∙ ap (λ (o : Option ℕ). orElse o (firstBroken ss)) e
-
--- if a reason of a table holds, those behind it do not count
-pub broken-append : (rs ss : List Reason) (n : ℕ) → firstBroken rs ≡ some n → firstBroken (rs ++ ss) ≡ some n
-broken-append rs ss n e = firstBroken-append rs ss ∙ ap (λ (o : Option ℕ). orElse o (firstBroken ss)) e
-
--- if no reason of two tables holds, none of the first does
-pub append-clear : (rs ss : List Reason) → firstBroken (rs ++ ss) ≡ none → firstBroken rs ≡ none
-append-clear rs ss e = go (firstBroken rs) (sym (firstBroken-append rs ss) ∙ e)
-  where
-    go : (o : Option ℕ) → orElse o (firstBroken ss) ≡ none → o ≡ none
-    go none q = refl
-    go (some n) q = let z : _≡_ {A = ℕ} 0 1 = cc in absurd (omega arith)
 
 -- the reason that the common table has behind those of the file
 abbrev pub tableReason : List ℕ → ℕ → List Reason
@@ -95,22 +64,6 @@ valid-small {f} v work less = common-small f work (v .accepted) (omega (arith, v
 -- it breaks none of 1 to 12 if the table has that room
 pub valid-clear : {f : List ℕ} {h : Header} → Valid f h → (work : ℕ) → 6 * h .states ≤ work → firstBroken (commonRules f work) ≡ none
 valid-clear {f} v work room = common-clear f work (v .accepted) (valid-room v room)
-
--- the check refuses a file with the first reason that holds
-pub check-refused : (f : List ℕ) (n : ℕ) → Refused n ≡ checkOf f → firstBroken (rules f) ≡ some n
-check-refused f n e = go (firstBroken (rules f)) e
-  where
-    go : (o : Option ℕ) → Refused n ≡ answerOf o f → o ≡ some n
-    go none q = let z : _≡_ {A = ℕ} 0 1 = cc in absurd (omega arith)
-    go (some m) q = let same : m ≡ n = cc in ap some same
-
--- the check accepts a file that breaks none of 1 to 11, and answers its header
-pub check-valid : (f : List ℕ) (h : Header) → Accept h ≡ checkOf f → Valid f h
-check-valid f h e = go (firstBroken (rules f)) refl e
-  where
-    go : (o : Option ℕ) → firstBroken (rules f) ≡ o → Accept h ≡ answerOf o f → Valid f h
-    go none p q = record { accepted = p; header = cc }
-    go (some m) p q = let z : _≡_ {A = ℕ} 0 1 = cc in absurd (omega arith)
 
 -- what the gate answers is so: with a refusal its number is that of the first reason that holds, with a header the call
 -- may go on

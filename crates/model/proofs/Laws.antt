@@ -4,7 +4,9 @@ use mathlib.Core.Path.{_≡_, refl, sym, ap, subst, _∙_}
 use mathlib.Core.Bool.{true, false, not}
 use mathlib.Core.List.{List, [], List·Memᴰ, Memᴰ·of-map}
 use mathlib.Core.Logic.{inl, inr}
+use mathlib.Core.Option.{none}
 use native.Mathlib.Omega.{arith}
+use native.Mathlib.Nat.{le-refl}
 use lib.ListN.{length, length-map}
 use borrow.Author.Tests.{lt-ltb, le-ltb, ltb-true}
 use lib.Dec.{T, ltb, ltb→lt, nltb→le}
@@ -13,14 +15,14 @@ use Rattle.lasso.specs.Graph.{WellFormed, edgeb, ascendingb}
 use Rattle.lasso.proofs.Tests.{lt-or-ge, memb-mem, upFrom-range}
 use Rattle.format.specs.Bytes.{words}
 use Rattle.format.specs.Layout.{states, edgeCount, initial, markBytes, totalOf, rowEntry, target, rowTargets, markBit}
-use Rattle.format.specs.Rules.{rules, Accepted}
+use Rattle.format.specs.Rules.{firstBroken, rulesWith, Accepted}
 use Rattle.model.specs.Model.{graphIn, graphOf, stepsOf, listIf}
 use Rattle.model.specs.declared.Header.{Header}
 use Rattle.model.specs.Values.{Valid, headerOf}
 use Rattle.format.proofs.Reasons.{none-clear, not-not}
 use Rattle.format.proofs.Kept.{states-kept, length-kept, row-first-kept, rows-ascend-kept, row-last-kept, targets-kept, order-kept, spare-kept, row-end-within}
 
--- what acceptance gives of a file's fields and tables
+-- what keeping the rules gives of a file's fields and tables, of whatever kind the file is
 pub record Facts (f : List ℕ) : Type 0 where
   pub states-range : (1 ≤ states f) × (states f ≤ 4096)
   pub edges-range : edgeCount f ≤ 8192
@@ -33,17 +35,17 @@ pub record Facts (f : List ℕ) : Type 0 where
   pub targets-ascend : (s : ℕ) → s < states f → T (ascendingb (rowTargets f s))
   pub spare-clear : (s : ℕ) → states f ≤ s → s < 8 * markBytes (states f) → T (not (markBit f s))
 
--- an accepted file's facts
-pub accepted-facts : (f : List ℕ) → Accepted f → Facts f
-accepted-facts f a =
-    let from2 = none-clear (rules f) a .1 in
+-- the facts of a file of a kind that keeps its rules, if its total length is at least a model file's
+pub kept-facts : (total : ℕ) (f : List ℕ) → totalOf (states f) (edgeCount f) ≤ total → firstBroken (rulesWith total f) ≡ none → Facts f
+kept-facts total f le a =
+    let from2 = none-clear (rulesWith total f) a .1 in
     let from6 = from2 .1 .1 .1 .1 in
     let from8 = from6 .1 .1 in
     record {
       states-range = states-kept f (from2 .0);
       edges-range = nltb→le 8192 (edgeCount f) (from2 .1 .0);
       initial-below = ltb→lt (initial f) (states f) (not-not (ltb (initial f) (states f)) (from2 .1 .1 .0));
-      file-length = omega (arith, length-kept (totalOf (states f) (edgeCount f)) f (from6 .0) (from6 .1 .0));
+      file-length = omega (arith, length-kept total f (from6 .0) (from6 .1 .0));
       row-first = row-first-kept f (from8 .0);
       rows-ascend = rows-ascend-kept f (from8 .0);
       row-last = row-last-kept f (from8 .0);
@@ -52,12 +54,22 @@ accepted-facts f a =
       spare-clear = spare-kept f (from8 .1 .1 .1 .0);
     }
 
+-- a file of a kind that keeps its rules has the length of its kind
+pub kept-length : (total : ℕ) (f : List ℕ) → firstBroken (rulesWith total f) ≡ none → length f ≡ total
+kept-length total f a =
+    let from6 = none-clear (rulesWith total f) a .1 .1 .1 .1 .1 in
+    length-kept total f (from6 .0) (from6 .1 .0)
+
+-- an accepted file's facts
+pub accepted-facts : (f : List ℕ) → Accepted f → Facts f
+accepted-facts f a = kept-facts (totalOf (states f) (edgeCount f)) f (le-refl _) a
+
 -- a row ends within the edge table
 pub row-end-le : {f : List ℕ} → Facts f → (s : ℕ) → s < states f → rowEntry f (s + 1) ≤ edgeCount f
 row-end-le {f} F s l = row-end-within f (F .rows-ascend) (F .row-last) s l
 
 -- a row's targets are states
-row-targets-below : {f : List ℕ} → Facts f → (s t : ℕ) → s < states f → T (memb t (rowTargets f s)) → t < states f
+pub row-targets-below : {f : List ℕ} → Facts f → (s t : ℕ) → s < states f → T (memb t (rowTargets f s)) → t < states f
 row-targets-below {f} F s t l h =
     let a : ℕ = rowEntry f s in
     let n : ℕ = rowEntry f (s + 1) - a in
@@ -101,10 +113,9 @@ succs-ascend {f} F s =
       | inr g ↦ rw (le-ltb s (states f) g) tt
     ]
 
--- the graph of an accepted file is well formed
-pub accepted-well-formed : (f : List ℕ) → Accepted f → WellFormed (graphOf f)
-accepted-well-formed f a =
-    let F : Facts f = accepted-facts f a in
+-- the graph of a file that keeps the rules of its kind is well formed
+pub facts-well-formed : {f : List ℕ} → Facts f → WellFormed (graphOf f)
+facts-well-formed {f} F =
     record {
       start-state = F .initial-below;
       edge-states = λ s t h.
@@ -112,6 +123,10 @@ accepted-well-formed f a =
           (e .0, row-targets-below F s t (e .0) (e .1));
       ascending = succs-ascend F;
     }
+
+-- the graph of an accepted file is well formed
+pub accepted-well-formed : (f : List ℕ) → Accepted f → WellFormed (graphOf f)
+accepted-well-formed f a = facts-well-formed (accepted-facts f a)
 
 -- the graph read by a valid header is the file's own
 pub valid-graph : {f : List ℕ} {h : Header} → Valid f h → graphIn f h ≡ graphOf f
@@ -145,7 +160,7 @@ pub valid-well-formed : {f : List ℕ} {h : Header} → Valid f h → WellFormed
 valid-well-formed {f} v = subst WellFormed (sym (valid-graph v)) (accepted-well-formed f (v .accepted))
 
 -- a range has as many numbers as asked
-upFrom-length : (a n : ℕ) → length (upFrom a n) ≡ n
+pub upFrom-length : (a n : ℕ) → length (upFrom a n) ≡ n
 upFrom-length a zero = refl
 upFrom-length a (suc n) = ap suc (upFrom-length (suc a) n)
 

@@ -2,4 +2,5 @@
 pub mod Steps
 pub mod Member
 pub mod Answers
+pub mod HeadLaws
 pub mod Laws

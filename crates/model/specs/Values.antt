@@ -7,7 +7,7 @@ use Rattle.model.specs.declared.Header.{Header}
 use Rattle.model.specs.declared.Checked.{Checked}
 use Rattle.model.specs.declared.Checked.the-variants.{Refused, Accept}
 use Rattle.format.specs.Layout.{states, edgeCount, initial, totalOf}
-use Rattle.format.specs.Rules.{firstBroken, rulesWith, Accepted}
+use Rattle.format.specs.Rules.{firstBroken, headRules, rulesWith, Accepted}
 
 -- the header fields that the code keeps
 abbrev pub headerOf : List ℕ → Header
@@ -17,6 +17,10 @@ headerOf f = record { states = states f; edges = edgeCount f; start = initial f 
 abbrev pub answerOf : Option ℕ → List ℕ → Checked
 answerOf none f = Accept (headerOf f)
 answerOf (some n) f = Refused n
+
+-- the answer of the check by the rules 1 to 5 alone
+abbrev pub headOf : List ℕ → Checked
+headOf f = answerOf (firstBroken (headRules f)) f
 
 -- the answer of the check of a file of a kind, by the total length that this kind is to have
 abbrev pub checkWith : ℕ → List ℕ → Checked

@@ -6,8 +6,8 @@ ghost use lib.ListN.{length, getD};
 ghost use Rattle.lasso.specs.Graph.{edgeb};
 ghost use Rattle.model.specs.Model.{graphIn, stepsOf};
 ghost use Rattle.format.specs.Layout.{totalOf};
-ghost use Rattle.format.specs.Rules.{KeptTo};
-ghost use Rattle.model.specs.Values.{Valid, headerOf, checkWith, checkOf};
+ghost use Rattle.model.specs.Values.{Valid, headOf, checkWith, checkOf};
+ghost use Rattle.model.specs.declared.Checked.the-variants.{Accept};
 use format::bit;
 use format::long;
 use format::marks_at;
@@ -37,6 +37,20 @@ pub enum Checked {
 pub fn check(file: &[u8]) -> Checked
     ensures { λ r. ⌜ r ≡ checkOf (now (file .entry)) ⌝ }
 {
+    let head = check_head(file);
+    match head {
+        Checked::Refused(_) => head,
+        Checked::Accept(header) => {
+            let total = total_of(header.states, header.edges);
+            check_tables(file, header, total)
+        }
+    }
+}
+
+// Applies the rules 1 to 5 in order.
+pub fn check_head(file: &[u8]) -> Checked
+    ensures { λ r. ⌜ r ≡ headOf (now (file .entry)) ⌝ }
+{
     if file.len() < 24 {
         return Checked::Refused(1);
     }
@@ -58,21 +72,17 @@ pub fn check(file: &[u8]) -> Checked
     if word(file, 6) != 0 {
         return Checked::Refused(5);
     }
-    let header = Header {
+    Checked::Accept(Header {
         states,
         edges,
         start,
-    };
-    check_tables(file, header, total_of(states, edges))
+    })
 }
 
 // Applies the rules 6 to 11 to a file that keeps the rules 1 to 5, by the total length that its kind is to have.
-fn check_tables(file: &[u8], h: Header, total: usize) -> Checked
-    requires { ⌜ 24 ≤ length (now file) ⌝ }
-    requires { ⌜ h ≡ headerOf (now file) ⌝ }
-    requires { ⌜ (h .states ≤ 4096) × (h .edges ≤ 8192) ⌝ }
+pub fn check_tables(file: &[u8], h: Header, total: usize) -> Checked
+    requires { ⌜ headOf (now file) ≡ Accept h ⌝ }
     requires { ⌜ totalOf (h .states) (h .edges) ≤ total ⌝ }
-    requires { ⌜ KeptTo 5 total (now file) ⌝ }
     ensures { λ r. ⌜ r ≡ checkWith total (now (file .entry)) ⌝ }
 {
     let n = h.states;

@@ -24,7 +24,8 @@ use Rattle.outcomes.specs.Tables.{noRoom, lengthDue, listReasons}
 use Rattle.outcomes.proofs.OutcomeLaws.{CallIs, call-answer, call-broken, call-kept, never-too-long}
 use Rattle.outcomes.proofs.ReadBack.{transitions, loses-nothing}
 use Rattle.gate.specs.Gate.{commonRules}
-use Rattle.gate.proofs.GateLaws.{broken-append, clear-append, common-clear}
+use Rattle.format.proofs.Reasons.{broken-append, clear-append}
+use Rattle.gate.proofs.GateLaws.{common-clear}
 use Rattle.paths.proofs.LoopTests.{lassoOf}
 use Rattle.next.specs.declared.NextAnswer.{NextAnswer}
 use Rattle.next.specs.declared.NextAnswer.the-variants as NextAnswers

@@ -23,7 +23,8 @@ use Rattle.outcomes.specs.Tables.{noRoom, lengthDue, listReasons}
 use Rattle.outcomes.proofs.OutcomeLaws.{CallIs, call-answer, call-broken, call-kept, never-too-long}
 use Rattle.outcomes.proofs.ReadBack.{transitions, readRecord, readRecord-recordOf, loses-nothing}
 use Rattle.gate.specs.Gate.{commonRules}
-use Rattle.gate.proofs.GateLaws.{broken-append, clear-append, common-clear}
+use Rattle.format.proofs.Reasons.{broken-append, clear-append}
+use Rattle.gate.proofs.GateLaws.{common-clear}
 use Rattle.search.specs.declared.SearchAnswer.{SearchAnswer}
 use Rattle.search.specs.declared.SearchAnswer.the-variants as SearchAnswers
 use Rattle.search.specs.Search.{Searched, stopped, empty, searchOutcomeOf, SearchLosesNothing, stopsb, firstOf, searched, firstDue, searchReasons, searchOutcome, searchAnswer}

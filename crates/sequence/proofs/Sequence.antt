@@ -26,11 +26,11 @@ use Rattle.next.specs.Next.{notShortest, dueReasons, followed}
 use Rattle.next.proofs.NextLaws.{thirteen-decides}
 use Rattle.gate.specs.declared.Ask.{Ask}
 use Rattle.gate.specs.Gate.{commonRules, workOf}
-use Rattle.gate.proofs.GateLaws.{broken-append, clear-append}
 use Rattle.sequence.specs.Calls.{Call, search, next, ofSearch, ofNext, Result, finderAt, foundLength, copyOf, received}
 use Rattle.sequence.specs.Book.{listAt, page, afterSearch, afterNext, unlessRefusedℕ, bookResults, bookEnd}
 use Rattle.sequence.specs.Claim.{lastReceived, Lent, Proper, addReceived, listsReceived, Condition3Holds}
 use Rattle.sequence.proofs.Places.{listAt-getElem, getElem-lt, getElem-mem, take-getElem, following-getElem, roll-entries, copy-written}
+use Rattle.format.proofs.Reasons.{broken-append, clear-append}
 
 -- the copy last received when h lists were: none, or the list at place h − 1
 abbrev copyAt : List (List ℕ) → ℕ → Option (List ℕ)

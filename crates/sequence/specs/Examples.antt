@@ -1,86 +1,55 @@
 -- The starred examples: one table, and one claim about its rows.
-use Prim.Native.Nat.{ℕ, _+_, _*_, _-_, _/_, _%_, _^_, _≤_}
+use Prim.Native.Nat.{ℕ, _*_, _-_, _≤_}
 use mathlib.Core.Path.{_≡_}
 use mathlib.Core.List.{List, [], _∷_, _++_, map}
 use mathlib.Core.Option.{some, none}
-use lib.ListN.{length, replicate}
-use lib.Dec.{eqb}
-use Rattle.lasso.specs.Lists.{pick, below}
-use Rattle.format.specs.Layout.{states, rowsAt, edgesAt, marksAt, markBytes, totalOf}
+use lib.ListN.{length, getD, replicate}
+use Rattle.lasso.specs.Lists.{memb}
+use Rattle.lasso.specs.Graph.{Graph}
+use Rattle.format.specs.Layout.{states}
+use Rattle.writer.specs.File.{fileOf}
 use Rattle.gate.specs.Gate.{asking}
 use Rattle.outcomes.specs.Outcome.{Outcome, refused, answered}
 use Rattle.search.specs.Search.{Searched, stopped, empty}
 use Rattle.next.specs.Next.{Followed, noMore}
 use Rattle.sequence.specs.Calls.{Call, search, next, Answer, ofSearch, ofNext, Result, finderAt}
 
--- the two bytes of a 16-bit number
-abbrev pub word16 : ℕ → List ℕ
-word16 x = x % 256 ∷ x / 256 ∷ []
-
--- the four bytes of a 32-bit number
-abbrev pub word32 : ℕ → List ℕ
-word32 x = word16 (x % 65536) ++ word16 (x / 65536)
-
--- the bytes of 16-bit numbers, one after another
-abbrev pub words16 : List ℕ → List ℕ
-words16 [] = []
-words16 (x ∷ xs) = word16 x ++ words16 xs
-
--- the entries of the row table: the place where each row begins, and where the last ends
-abbrev pub rowEntries : ℕ → List (List ℕ) → List ℕ
-rowEntries place [] = place ∷ []
-rowEntries place (row ∷ rows) = place ∷ rowEntries (place + length row) rows
-
--- the entries of the edge table: the rows, one after another
-abbrev pub targets : List (List ℕ) → List ℕ
-targets [] = []
-targets (row ∷ rows) = row ++ targets rows
-
--- a mark byte: bit s mod 8 is set for each marked state s with s div 8 the byte's place
-abbrev pub markByte : List ℕ → ℕ → ℕ
-markByte [] place = 0
-markByte (s ∷ marks) place = pick (eqb (s / 8) place) (2 ^ (s % 8)) 0 + markByte marks place
-
--- the model file with the initial state, the successors of each state, and the marked states
-abbrev pub fileOf : ℕ → List (List ℕ) → List ℕ → List ℕ
-fileOf start rows marks =
-    let n : ℕ = length rows in
-    let m : ℕ = length (targets rows) in
-    words16 (n ∷ m ∷ start ∷ 0 ∷ []) ++
-    word32 rowsAt ++ word32 (edgesAt n) ++ word32 (marksAt n m) ++ word32 (totalOf n m) ++
-    words16 (rowEntries 0 rows) ++ words16 (targets rows) ++ map (markByte marks) (below (markBytes n))
+-- the model with the initial state, the successors of each state, and the marked states
+abbrev pub graphWith : ℕ → List (List ℕ) → List ℕ → Graph
+graphWith start rows marks =
+    record { size = length rows; start = start; succs = λ s. getD rows s []; marked = λ s. memb s marks }
 
 -- A: N = 1, no edge, 0 marked
 abbrev pub fileA : List ℕ
-fileA = fileOf 0 ([] ∷ []) (0 ∷ [])
+fileA = fileOf (graphWith 0 ([] ∷ []) (0 ∷ []))
 
 -- B: 0→0, 0 marked
 abbrev pub fileB : List ℕ
-fileB = fileOf 0 ((0 ∷ []) ∷ []) (0 ∷ [])
+fileB = fileOf (graphWith 0 ((0 ∷ []) ∷ []) (0 ∷ []))
 
 -- C: 0→0, no mark
 abbrev pub fileC : List ℕ
-fileC = fileOf 0 ((0 ∷ []) ∷ []) []
+fileC = fileOf (graphWith 0 ((0 ∷ []) ∷ []) [])
 
 -- D: 0→1, 0→2, 1→3, 2→3, 3→1, 3→2, 4→4, marks 3 and 4
 abbrev pub fileD : List ℕ
-fileD = fileOf 0 ((1 ∷ 2 ∷ []) ∷ (3 ∷ []) ∷ (3 ∷ []) ∷ (1 ∷ 2 ∷ []) ∷ (4 ∷ []) ∷ []) (3 ∷ 4 ∷ [])
+fileD = fileOf (graphWith 0 ((1 ∷ 2 ∷ []) ∷ (3 ∷ []) ∷ (3 ∷ []) ∷ (1 ∷ 2 ∷ []) ∷ (4 ∷ []) ∷ []) (3 ∷ 4 ∷ []))
 
 -- E: 0→1, 1→1, 0 marked
 abbrev pub fileE : List ℕ
-fileE = fileOf 0 ((1 ∷ []) ∷ (1 ∷ []) ∷ []) (0 ∷ [])
+fileE = fileOf (graphWith 0 ((1 ∷ []) ∷ (1 ∷ []) ∷ []) (0 ∷ []))
 
 -- F: 0→1, 1→0, 1 marked
 abbrev pub fileF : List ℕ
-fileF = fileOf 0 ((1 ∷ []) ∷ (0 ∷ []) ∷ []) (1 ∷ [])
+fileF = fileOf (graphWith 0 ((1 ∷ []) ∷ (0 ∷ []) ∷ []) (1 ∷ []))
 
 -- G: 0→1, 1→1, 1 marked
 abbrev pub fileG : List ℕ
-fileG = fileOf 0 ((1 ∷ []) ∷ (1 ∷ []) ∷ []) (1 ∷ [])
+fileG = fileOf (graphWith 0 ((1 ∷ []) ∷ (1 ∷ []) ∷ []) (1 ∷ []))
 
 -- H: 0→1, 0→5, 1→2, 2→3, 3→4, 4→1, 5→6, 6→6, marks 1 and 6
 abbrev pub fileH : List ℕ
-fileH = fileOf 0 ((1 ∷ 5 ∷ []) ∷ (2 ∷ []) ∷ (3 ∷ []) ∷ (4 ∷ []) ∷ (1 ∷ []) ∷ (6 ∷ []) ∷ (6 ∷ []) ∷ []) (1 ∷ 6 ∷ [])
+fileH = fileOf (graphWith 0 ((1 ∷ 5 ∷ []) ∷ (2 ∷ []) ∷ (3 ∷ []) ∷ (4 ∷ []) ∷ (1 ∷ []) ∷ (6 ∷ []) ∷ (6 ∷ []) ∷ []) (1 ∷ 6 ∷ []))
 
 -- D's bytes as the paper gives them: header, offsets and total, rows, targets, mark byte
 abbrev pub bytesD : List ℕ

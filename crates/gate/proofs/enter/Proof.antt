@@ -8,7 +8,8 @@ use lib.ListN.{length}
 use Rattle.model.specs.declared.Checked.the-variants.{Accept}
 use Rattle.model.specs.Values.{Valid, answerOf}
 use Rattle.model.proofs.Laws.{valid-sizes}
-use Rattle.gate.proofs.GateLaws.{check-refused, check-valid, common-refused, valid-small, valid-clear}
+use Rattle.model.proofs.Answers.{check-refused, check-valid}
+use Rattle.gate.proofs.GateLaws.{common-refused, valid-small, valid-clear}
 use Rattle.gate.proofs.enter.Statement.{statement}
 use Rattle.gate.proofs.enter.Tie as tie
 

@@ -11,10 +11,11 @@ use lib.ListN.{length}
 use Prim.Native.Nat.{ℕ, _≤_}
 use Rattle.format.specs.Bytes.{long}
 use Rattle.format.specs.Layout.{HasTables}
-use Rattle.format.specs.Rules.{badOffsets, badLength, badRows, badTargets, badOrder, badSpare, KeptTo}
-use Rattle.format.proofs.Reasons.{unheld-skipped, false-not}
+use Rattle.format.specs.Rules.{badOffsets, badLength, badRows, badTargets, badOrder, badSpare, rulesWith}
+use Rattle.format.proofs.Reasons.{KeptTo, unheld-skipped, false-not}
 use Rattle.model.proofs.Answers.{held-refuses, none-accepts}
 use Rattle.format.proofs.Kept.{length-kept}
+use Rattle.model.proofs.HeadLaws.{HeadKept, head-kept, head-decides}
 use Rattle.model.proofs.Laws.{header-numbers}
 use borrow.Author.Needs.{needs}
 use Rattle.model.proofs.check_tables.Statement.{statement}
@@ -44,6 +45,10 @@ fileOf c = now (c .args .file)
 abbrev totalFor : tie.Start → ℕ
 totalFor c = c .args .total
 
+-- the rules 1 to 5 are kept
+headKept : (c : tie.Start) → HeadKept (fileOf c) (c .args .h)
+headKept c = head-kept (fileOf c) (c .args .h) (c .pre .0)
+
 -- past rule 6 its test is false
 offsets-kept : (c : tie.Else1) → badOffsets (totalFor (from6 c)) (fileOf (from6 c)) ≡ false
 offsets-kept c = sym (c .before .offsets-broken .ensures) ∙ c .if1 .left
@@ -59,20 +64,20 @@ rows-kept : (c : tie.Else3) → badRows (fileOf (from8 c)) ≡ false
 rows-kept c = sym (c .before .rows-broken .ensures) ∙ c .if3 .left
 
 -- past each rule those behind it decide
-kept-6 : (c : tie.Else1) → KeptTo 6 (totalFor (from6 c)) (fileOf (from6 c))
-kept-6 c = unheld-skipped _ (badOffsets (totalFor (from6 c)) (fileOf (from6 c))) 6 _ (from6 c .pre .1 .1 .1 .1) (offsets-kept c)
+kept-6 : (c : tie.Else1) → KeptTo 6 (rulesWith (totalFor (from6 c)) (fileOf (from6 c)))
+kept-6 c = unheld-skipped _ (badOffsets (totalFor (from6 c)) (fileOf (from6 c))) 6 _ (head-decides (headKept (from6 c)) (totalFor (from6 c))) (offsets-kept c)
 
-kept-7 : (c : tie.Else2) → KeptTo 7 (totalFor (from7 c)) (fileOf (from7 c))
+kept-7 : (c : tie.Else2) → KeptTo 7 (rulesWith (totalFor (from7 c)) (fileOf (from7 c)))
 kept-7 c = unheld-skipped _ (badLength (fileOf (from7 c))) 7 _ (kept-6 (c .before .before)) (own-length-kept c)
 
-kept-8 : (c : tie.Else3) → KeptTo 8 (totalFor (from8 c)) (fileOf (from8 c))
+kept-8 : (c : tie.Else3) → KeptTo 8 (rulesWith (totalFor (from8 c)) (fileOf (from8 c)))
 kept-8 c = unheld-skipped _ (badRows (fileOf (from8 c))) 8 _ (kept-7 (c .before .before)) (rows-kept c)
 
-kept-9 : (c : tie.Else4) → KeptTo 9 (totalFor (from9 c)) (fileOf (from9 c))
+kept-9 : (c : tie.Else4) → KeptTo 9 (rulesWith (totalFor (from9 c)) (fileOf (from9 c)))
 kept-9 c =
     unheld-skipped _ (badTargets (fileOf (from9 c))) 9 _ (kept-8 (c .before .before)) (sym (c .before .targets-broken .ensures) ∙ c .if4 .left)
 
-kept-10 : (c : tie.Else5) → KeptTo 10 (totalFor (from10 c)) (fileOf (from10 c))
+kept-10 : (c : tie.Else5) → KeptTo 10 (rulesWith (totalFor (from10 c)) (fileOf (from10 c)))
 kept-10 c =
     unheld-skipped _ (badOrder (fileOf (from10 c))) 10 _ (kept-9 (c .before .before)) (sym (c .before .order-broken .ensures) ∙ c .if5 .left)
 
@@ -83,26 +88,29 @@ sized : (c : tie.Else2) →
 sized c =
     let file = fileOf (from7 c) in
     let total = totalFor (from7 c) in
-    let numbers = header-numbers file (from7 c .pre .1 .0) in
+    let head = headKept (from7 c) in
+    let numbers = header-numbers file (head .header) in
     let long = length-kept total file (false-not (badOffsets total file) (offsets-kept (c .before .before))) (false-not (badLength file) (own-length-kept c)) in
     omega arith
 
 offsets-broken-requires : tie.Need-offsets-broken-requires
-offsets-broken-requires c κs = omega (arith, header-numbers (fileOf (c .before)) (c .before .pre .1 .0))
+offsets-broken-requires c κs =
+    let head = headKept (c .before) in
+    omega (arith, header-numbers (fileOf (c .before)) (head .header))
 
 returns : tie.Need-returns
 returns c =
     let start = c .before .before .before in
-    held-refuses (totalFor start) (fileOf start) (badOffsets (totalFor start) (fileOf start)) 6 _ (start .pre .1 .1 .1 .1) (sym (c .before .offsets-broken .ensures) ∙ c .if1 .taken)
+    held-refuses (rulesWith (totalFor start) (fileOf start)) (fileOf start) (badOffsets (totalFor start) (fileOf start)) 6 _ (head-decides (headKept start) (totalFor start)) (sym (c .before .offsets-broken .ensures) ∙ c .if1 .taken)
 
 long-requires : tie.Need-long-requires
-long-requires c κs = search needs
+long-requires c κs = omega (arith, headKept (from6 c) .long-enough)
 
 returns-2 : tie.Need-returns-2
 returns-2 c =
     let start = from6 (c .before .before) in
     let file = fileOf start in
-    held-refuses (totalFor start) file (badLength file) 7 _ (kept-6 (c .before .before)) (rw (ne-eqb (length file) (long file 20) (omega arith)))
+    held-refuses (rulesWith (totalFor start) file) file (badLength file) 7 _ (kept-6 (c .before .before)) (rw (ne-eqb (length file) (long file 20) (omega arith)))
 
 rows-broken-requires : tie.Need-rows-broken-requires
 rows-broken-requires c κs = sized c
@@ -111,7 +119,7 @@ returns-3 : tie.Need-returns-3
 returns-3 c =
     let start = from7 (c .before .before) in
     let file = fileOf start in
-    held-refuses (totalFor start) file (badRows file) 8 _ (kept-7 (c .before .before)) (sym (c .before .rows-broken .ensures) ∙ c .if3 .taken)
+    held-refuses (rulesWith (totalFor start) file) file (badRows file) 8 _ (kept-7 (c .before .before)) (sym (c .before .rows-broken .ensures) ∙ c .if3 .taken)
 
 targets-broken-requires : tie.Need-targets-broken-requires
 targets-broken-requires c κs = sized (c .before .before)
@@ -120,7 +128,7 @@ returns-4 : tie.Need-returns-4
 returns-4 c =
     let start = from8 (c .before .before) in
     let file = fileOf start in
-    held-refuses (totalFor start) file (badTargets file) 9 _ (kept-8 (c .before .before)) (sym (c .before .targets-broken .ensures) ∙ c .if4 .taken)
+    held-refuses (rulesWith (totalFor start) file) file (badTargets file) 9 _ (kept-8 (c .before .before)) (sym (c .before .targets-broken .ensures) ∙ c .if4 .taken)
 
 order-broken-requires : tie.Need-order-broken-requires
 order-broken-requires c κs =
@@ -130,7 +138,7 @@ returns-5 : tie.Need-returns-5
 returns-5 c =
     let start = from9 (c .before .before) in
     let file = fileOf start in
-    held-refuses (totalFor start) file (badOrder file) 10 _ (kept-9 (c .before .before)) (sym (c .before .order-broken .ensures) ∙ c .if5 .taken)
+    held-refuses (rulesWith (totalFor start) file) file (badOrder file) 10 _ (kept-9 (c .before .before)) (sym (c .before .order-broken .ensures) ∙ c .if5 .taken)
 
 spare-set-requires : tie.Need-spare-set-requires
 spare-set-requires c κs = sized (c .before .before .before .before .before .before)
@@ -139,13 +147,13 @@ returns-6 : tie.Need-returns-6
 returns-6 c =
     let start = from10 (c .before .before) in
     let file = fileOf start in
-    held-refuses (totalFor start) file (badSpare file) 11 _ (kept-10 (c .before .before)) (sym (c .before .spare-set .ensures) ∙ c .if6 .taken)
+    held-refuses (rulesWith (totalFor start) file) file (badSpare file) 11 _ (kept-10 (c .before .before)) (sym (c .before .spare-set .ensures) ∙ c .if6 .taken)
 
 returns-7 : tie.Need-returns-7
 returns-7 c =
     let start = from10 (c .before .before) in
     let file = fileOf start in
-    none-accepts (totalFor start) file (start .args .h) (start .pre .1 .0)
+    none-accepts (rulesWith (totalFor start) file) file (start .args .h) (headKept start .header)
     (unheld-skipped _ (badSpare file) 11 none (kept-10 (c .before .before)) (sym (c .before .spare-set .ensures) ∙ c .if6 .left))
 
 pub check-tables-spec : {M : Type 1} → statement M

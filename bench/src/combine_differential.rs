@@ -1,0 +1,208 @@
+//! The differential run of combinations: rules, letters and properties, valid and damaged, whose answers, figures and
+//! outputs are compared with what the reference says; then searches on the files that were written.
+
+use std::collections::BTreeMap;
+
+use crate::combinations::{Input, COMBINATIONS};
+use crate::combine_measure::OUTPUT_MOST;
+use crate::combine_samples::{
+    at_limits, damage_input, dirty_bytes, large, middle, output_len, small,
+};
+use crate::differential::{self, compare_roll, verdict_of};
+use crate::fahkelo::{combine_into, kind, CombineAnswer};
+use crate::model::Model;
+use crate::product::{is_pair_of_paths, product};
+use crate::random::Random;
+use crate::samples::dirty;
+use crate::versions::{Combiner, SAFE};
+
+/// Lists of a result's roll that are compared.
+const MOST_LISTS: usize = 4;
+
+/// Counts of a run.
+#[derive(Default)]
+struct Counts {
+    combinations: u64,
+    values: BTreeMap<u16, u64>,
+    largest: (usize, usize),
+    paths: u64,
+    out_too_short: u64,
+    searches: differential::Counts,
+}
+
+impl Counts {
+    fn difference(&mut self, what: &str, input: &Input) {
+        self.searches.difference(what, &input.rule);
+        if self.searches.differences <= 10 {
+            println!("  letters {:02x?}", input.letters);
+            println!("  property {:02x?}", input.property);
+        }
+    }
+}
+
+/// Runs the comparison; the number of differences.
+pub fn run(count: u64, seed: u64) -> u64 {
+    let mut lot = Random::new(seed);
+    let mut counts = Counts::default();
+    for round in 0..count {
+        let mut input = match round % 40 {
+            0..=31 => small(&mut lot),
+            32..=37 => middle(&mut lot),
+            _ => large(&mut lot),
+        };
+        if round % 3 == 2 {
+            damage_input(&mut lot, &mut input);
+        }
+        compare(&mut lot, &mut counts, &input);
+    }
+    for family in COMBINATIONS {
+        compare(&mut lot, &mut counts, &family.make());
+    }
+    for (input, refusal) in at_limits() {
+        if product(&input.rule, &input.letters, &input.property).err() != refusal {
+            counts.difference("the reference at a limit", &input);
+        }
+        compare(&mut lot, &mut counts, &input);
+    }
+    print(&counts);
+    counts.searches.differences
+}
+
+fn print(counts: &Counts) {
+    let shown = |values: &BTreeMap<u16, u64>| {
+        let words: Vec<String> = values.iter().map(|(i, n)| format!("{i}: {n}")).collect();
+        words.join(", ")
+    };
+    println!(
+        "combinations: {}; largest result: {} states, {} edges; lists held to be pairs of paths: {}",
+        counts.combinations, counts.largest.0, counts.largest.1, counts.paths
+    );
+    println!(
+        "calls by value: {}; of the calls in C, with too short a table for the figures: {}",
+        shown(&counts.values),
+        counts.out_too_short
+    );
+    println!("searches on the results:");
+    differential::print(&counts.searches);
+}
+
+/// All comparisons on one input: several outputs, and searches on the result.
+fn compare(lot: &mut Random, counts: &mut Counts, input: &Input) {
+    counts.combinations += 1;
+    let verdict = product(&input.rule, &input.letters, &input.property);
+    let file = verdict.as_ref().map(Model::to_bytes).map_err(|&n| n);
+    let needed = match &file {
+        Ok(file) => file.len(),
+        Err(_) if lot.once_in(4) => OUTPUT_MOST,
+        Err(_) => 60,
+    };
+    let lengths = [needed, output_len(lot, needed), output_len(lot, needed)];
+    for length in lengths {
+        let output = dirty_bytes(lot, length);
+        compare_call(lot, counts, input, &file, &output);
+    }
+    if let (Ok(model), Ok(file)) = (&verdict, &file) {
+        counts.largest = counts.largest.max((model.states(), model.edges()));
+        compare_searches(lot, counts, input, model, file);
+    }
+}
+
+/// The answer for an output of a length.
+fn answer_of(file: &Result<Vec<u8>, u16>, length: usize) -> CombineAnswer {
+    match file {
+        Err(number) => CombineAnswer::Refused(*number),
+        Ok(file) if length < file.len() => CombineAnswer::Refused(15),
+        Ok(file) => CombineAnswer::Written(file.len()),
+    }
+}
+
+/// One call of the library and of the safe version, with copies of the output.
+fn compare_call(
+    lot: &mut Random,
+    counts: &mut Counts,
+    input: &Input,
+    file: &Result<Vec<u8>, u16>,
+    before: &[u8],
+) {
+    let expected = answer_of(file, before.len());
+    let mut after = before.to_vec();
+    let (value, figure) = match (expected, file) {
+        (CombineAnswer::Written(bytes), Ok(file)) => {
+            after[..bytes].copy_from_slice(file);
+            (kind::WRITTEN, Some(bytes as u16))
+        }
+        (CombineAnswer::Refused(number), _) => (number, None),
+        _ => unreachable!("only a file is written"),
+    };
+    *counts.values.entry(value).or_default() += 1;
+    let Input {
+        rule,
+        letters,
+        property,
+    } = input;
+    let out_len = match lot.below(12) {
+        0 => lot.below(4),
+        _ => lot.between(4, 6),
+    };
+    let mut out = dirty(lot, out_len);
+    let out_before = out.clone();
+    let mut output = before.to_vec();
+    let got = combine_into(rule, letters, property, &mut output, &mut out);
+    let same = if out_len < 4 {
+        counts.out_too_short += 1;
+        got == kind::OUT_TOO_SHORT && out == out_before && output == before
+    } else {
+        let mut out_after = out_before;
+        if let Some(figure) = figure {
+            out_after[0] = figure;
+        }
+        got == value && out == out_after && output == after
+    };
+    if !same {
+        counts.difference(&format!("combine, {} bytes: proved", before.len()), input);
+    }
+    let mut output = before.to_vec();
+    let got = SAFE.combine(rule, letters, property, &mut output);
+    if got != expected || output != after {
+        counts.difference(&format!("combine, {} bytes: safe", before.len()), input);
+    }
+}
+
+/// Searches on the file that the library wrote, compared with those on the pairs; each list must be a path of the rule
+/// beside one of the property that agrees with its letters.
+fn compare_searches(
+    lot: &mut Random,
+    counts: &mut Counts,
+    input: &Input,
+    model: &Model,
+    file: &[u8],
+) {
+    let mut written = vec![0; file.len()];
+    let Input {
+        rule,
+        letters,
+        property,
+    } = input;
+    if combine_into(rule, letters, property, &mut written, &mut [0; 4]) != kind::WRITTEN {
+        return;
+    }
+    let verdict = verdict_of(&mut counts.searches, &written, Some(model));
+    let Ok((_, facts)) = &verdict else {
+        return;
+    };
+    let roll = &facts.roll[..facts.roll.len().min(MOST_LISTS)];
+    compare_roll(
+        lot,
+        &mut counts.searches,
+        &written,
+        &verdict,
+        roll,
+        model.states(),
+    );
+    for list in roll {
+        counts.paths += 1;
+        if !is_pair_of_paths(rule, letters, property, list) {
+            counts.difference(&format!("not a pair of paths: {list:?}"), input);
+        }
+    }
+}

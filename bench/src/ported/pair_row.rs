@@ -1,0 +1,69 @@
+//! The edges of one combined state (s, q), from the parts that hold the rows of s and of q: a block for each successor
+//! of s. The masks are looked at for the first block; each further block is made from the first one in the output.
+
+use super::access::Access;
+use super::model::{degree, successor, word};
+use super::property::mask_holds;
+use super::writer::write_word;
+
+/// Writes the first block: base plus each target whose mask holds the letter.
+#[inline]
+fn write_block<A: Access>(
+    out: &mut [u8],
+    at: usize,
+    targets: &[u8],
+    masks: &[u8],
+    letter: usize,
+    base: usize,
+) -> usize {
+    let mut next = at;
+    for k in 0..targets.len() / 2 {
+        if mask_holds(word::<A>(masks, 2 * k), letter) {
+            next = write_word::<A>(out, next, base + word::<A>(targets, 2 * k));
+        }
+    }
+    next
+}
+
+/// Writes a block made from an earlier one: the `count` entries from place `from` on, with base replaced by another.
+#[inline]
+fn copy_block<A: Access>(
+    out: &mut [u8],
+    at: usize,
+    from: usize,
+    count: usize,
+    base: usize,
+    other: usize,
+) -> usize {
+    let mut next = at;
+    for j in 0..count {
+        let entry = word::<A>(out, from + 2 * j);
+        next = write_word::<A>(out, next, other + (entry - base));
+    }
+    next
+}
+
+/// Writes the edges of (s, q), where s has the row `part` and the letter, and the property has `size` states.
+#[inline]
+pub fn write_row<A: Access>(
+    out: &mut [u8],
+    at: usize,
+    part: &[u8],
+    targets: &[u8],
+    masks: &[u8],
+    letter: usize,
+    size: usize,
+) -> usize {
+    let d = degree(part);
+    if d == 0 {
+        return at;
+    }
+    let base = successor::<A>(part, 0) * size;
+    let mut next = write_block::<A>(out, at, targets, masks, letter, base);
+    let count = (next - at) / 2;
+    for k in 1..d {
+        let other = successor::<A>(part, k) * size;
+        next = copy_block::<A>(out, next, at, count, base, other);
+    }
+    next
+}

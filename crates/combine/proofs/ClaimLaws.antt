@@ -1,0 +1,122 @@
+-- The file that a combination writes is accepted and holds the combined model; the rule's marks do not matter; the example.
+use Prim.Native.Nat.{ℕ, _≤_}
+use mathlib.Core.Path.{_≡_, refl, sym, ap, ap₂, subst, fun-ext, _∙_}
+use mathlib.Core.Bool.{false}
+use mathlib.Core.List.{List}
+use mathlib.Core.Option.{Option, some, none}
+use native.Mathlib.Omega.{arith}
+use lib.ListN.{length, drop}
+use lib.Dec.{ltb, nltb→le}
+use Rattle.lasso.specs.Graph.{Graph}
+use Rattle.format.specs.Layout.{states, initial}
+use Rattle.format.specs.Rules.{rules, Accepted}
+use Rattle.format.proofs.Reasons.{none-clear, append-clear, clear-append, neither-l, neither-r}
+use Rattle.model.specs.Model.{graphOf}
+use Rattle.model.proofs.Laws.{accepted-well-formed}
+use Rattle.outcomes.specs.Outcome.{Outcome, refused, answered, outcome}
+use Rattle.outcomes.specs.Tables.{unlessRefused, written}
+use Rattle.outcomes.proofs.ReadBack.{loses-nothing}
+use Rattle.writer.specs.File.{edgeTotal, fileOf}
+use Rattle.writer.specs.WritesBack.{Writable}
+use Rattle.writer.proofs.ReadLaws.{file-reserved}
+use Rattle.writer.proofs.WritesBackLaws.{writes-back}
+use Rattle.product.specs.Product.{product}
+use Rattle.product.specs.Paths.{Combines}
+use Rattle.product.proofs.ProductLaws.{product-well-formed, product-marks}
+use Rattle.product.proofs.PathsLaws.{product-combines}
+use Rattle.property.specs.Property.{propertyOf, badProperty}
+use Rattle.property.proofs.PropertyLaws.{bad-kept, property-well-formed}
+use Rattle.product_file.specs.Combined.{letterOf, combined}
+use Rattle.combine.specs.declared.CombineAnswer.{CombineAnswer}
+use Rattle.combine.specs.declared.CombineAnswer.the-variants.{Refused, Written}
+use Rattle.combine.specs.Combine.{badLetters, tooLarge, combinedFile, combineReasons, combineBroken, combineOutcome, combineOutcomeOf, CombineLosesNothing}
+use Rattle.combine.specs.Claim.{CombinationHolds, SameButMarks, RuleMarksUnused}
+use Rattle.combine.specs.Examples.{ExampleHolds}
+use Rattle.combine.proofs.ReasonLaws.{firstBehind, behind}
+
+-- a combination that is not refused has an accepted rule and a property that keeps its rules, and is small enough to be written
+written-model : (f letters p : List ℕ) (out : ℕ) → combineBroken f letters p out ≡ none
+    → Writable (combined f letters p) × Combines (combined f letters p) (graphOf f) (letterOf letters) (propertyOf p)
+written-model f letters p out e =
+    let accepted : Accepted f = append-clear (rules f) (drop 11 (combineReasons f letters p out)) e in
+    let behind = none-clear (drop 11 (combineReasons f letters p out)) (sym (clear-append (rules f) (drop 11 (combineReasons f letters p out)) accepted) ∙ e) in
+    let property = behind .1 .0 in
+    let large = behind .1 .1 .0 in
+    let rule-formed = accepted-well-formed f accepted in
+    let property-formed = property-well-formed (bad-kept p property) in (
+      record {
+        well-formed = product-well-formed (graphOf f) (letterOf letters) (propertyOf p) rule-formed property-formed;
+        marks-states = product-marks (graphOf f) (letterOf letters) (propertyOf p);
+        states-limit = nltb→le 4096 (combined f letters p .size) (neither-l (ltb 4096 (combined f letters p .size)) (ltb 8192 (edgeTotal (combined f letters p))) large);
+        edges-limit = nltb→le 8192 (edgeTotal (combined f letters p)) (neither-r (ltb 4096 (combined f letters p .size)) (ltb 8192 (edgeTotal (combined f letters p))) large);
+      },
+      product-combines (graphOf f) (letterOf letters) (propertyOf p) rule-formed property-formed,
+    )
+
+-- a combination that is not refused has written the file of the combined model
+pub combination-holds : CombinationHolds
+combination-holds f letters p out e =
+    let model = written-model f letters p (length out) e in
+    let back = writes-back (combined f letters p) (model .0) in
+    record {
+      bytes = ap (λ (o : Option ℕ). outcome o (length (combinedFile f letters p))) e;
+      output = ap (λ (o : Option ℕ). written (unlessRefused o (some (combinedFile f letters p))) out) e;
+      bytes-limit = omega (arith, back .file-length, model .0 .states-limit, model .0 .edges-limit);
+      accepted = back .accepted;
+      reserved-zero = file-reserved (combined f letters p);
+      same-graph = back .same-graph;
+      combines = subst (λ (c : Graph). Combines c (graphOf f) (letterOf letters) (propertyOf p)) (sym (back .same-graph)) (model .1);
+    }
+
+-- an answer that says so many bytes says how many the file has: no more than 25,114
+pub answered-bytes : (f letters p out : List ℕ) (n : ℕ) → answered n ≡ combineOutcome f letters p (length out) → n ≤ 25114
+answered-bytes f letters p out n e = go (combineBroken f letters p (length out)) refl e
+  where
+    go : (o : Option ℕ) → combineBroken f letters p (length out) ≡ o → answered n ≡ outcome o (length (combinedFile f letters p)) → n ≤ 25114
+    go (some m) q e = let z : _≡_ {A = ℕ} 0 1 = cc in absurd (omega arith)
+    go none q e = let same : length (combinedFile f letters p) ≡ n = cc in omega (arith, combination-holds f letters p out q .bytes-limit)
+
+-- rules with the same states, initial state and edges give the same combined model
+same-combined : {f f' : List ℕ} → SameButMarks f f' → (letters p : List ℕ) → combined f letters p ≡ combined f' letters p
+same-combined {f} {f'} same letters p =
+    let with : ℕ → ℕ → (ℕ → List ℕ) → Graph =
+    λ n i ss. product (record { size = n; start = i; succs = ss; marked = λ s. false }) (letterOf letters) (propertyOf p) in
+    ap₂ (λ (n i : ℕ). with n i (graphOf f .succs)) (same .same-states) (same .same-initial)
+    ∙ ap (with (states f') (initial f')) (fun-ext (same .same-edges))
+
+-- the rule's own marks are not used
+pub rule-marks-unused : RuleMarksUnused
+rule-marks-unused f f' letters p out a a' same =
+    let broken : ℕ → Graph → Option ℕ =
+    λ n g. firstBehind (badLetters n letters) (badProperty p) (tooLarge g) (ltb (length out) (length (fileOf g))) in
+    let answer : ℕ → Graph → Outcome ℕ = λ n g. outcome (broken n g) (length (fileOf g)) in
+    let output : ℕ → Graph → List ℕ = λ n g. written (unlessRefused (broken n g) (some (fileOf g))) out in
+    let told = behind f letters p out a in
+    let told' = behind f' letters p out a' in
+    let g : Graph = combined f letters p in
+    let g' : Graph = combined f' letters p in (
+      ap (λ (o : Option ℕ). outcome o (length (fileOf g))) told
+          ∙ ap₂ answer (same .same-states) (same-combined same letters p)
+          ∙ sym (ap (λ (o : Option ℕ). outcome o (length (fileOf g'))) told'),
+      ap (λ (o : Option ℕ). written (unlessRefused o (some (fileOf g))) out) told
+          ∙ ap₂ output (same .same-states) (same-combined same letters p)
+          ∙ sym (ap (λ (o : Option ℕ). written (unlessRefused o (some (fileOf g'))) out) told'),
+    )
+
+-- the answer that says the same as an outcome
+abbrev readAnswer : Outcome ℕ → CombineAnswer
+readAnswer (refused n) = Refused n
+readAnswer (answered bytes) = Written bytes
+
+-- an answer is read off its outcome
+read-back : (r : CombineAnswer) → readAnswer (combineOutcomeOf r) ≡ r
+read-back (Refused n) = refl
+read-back (Written bytes) = refl
+
+-- no answer of a combination is lost in its outcome
+pub combine-loses-nothing : CombineLosesNothing
+combine-loses-nothing = loses-nothing combineOutcomeOf readAnswer read-back
+
+-- the worked example
+pub example-holds : ExampleHolds
+example-holds = record { bytes = refl; output = refl; short = refl; untouched = refl; shortest = refl }

@@ -1,0 +1,4 @@
+-- The laws of a combination.
+pub mod LetterLaws
+pub mod ReasonLaws
+pub mod ClaimLaws

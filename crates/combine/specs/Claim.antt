@@ -1,0 +1,45 @@
+-- What a combination that is not refused has written; and that the rule's own marks do not matter.
+use Prim.Native.Nat.{ℕ, _≤_}
+use mathlib.Core.Path.{_≡_}
+use mathlib.Core.List.{List, _++_}
+use mathlib.Core.Option.{none}
+use lib.ListN.{length, drop}
+use Rattle.format.specs.Layout.{states, initial, reserved}
+use Rattle.format.specs.Rules.{Accepted}
+use Rattle.model.specs.Model.{graphOf}
+use Rattle.product.specs.Paths.{Combines}
+use Rattle.property.specs.Property.{propertyOf}
+use Rattle.product_file.specs.Combined.{letterOf, combined}
+use Rattle.outcomes.specs.Outcome.{answered}
+use Rattle.combine.specs.Combine.{combinedFile, combineBroken, combineOutcome, combineOutput}
+
+-- What a combination that is not refused answers and has written.
+pub record CombinationWritten (f letters p out : List ℕ) : Type 0 where
+  -- the answer is the number of bytes of a file, which stands from byte 0 of the output on; later bytes do not change
+  pub bytes : combineOutcome f letters p (length out) ≡ answered (length (combinedFile f letters p))
+  pub output : combineOutput f letters p out ≡ combinedFile f letters p ++ drop (length (combinedFile f letters p)) out
+  pub bytes-limit : length (combinedFile f letters p) ≤ 25114
+  -- the reader accepts the file, whose bytes 6–7 are zero
+  pub accepted : Accepted (combinedFile f letters p)
+  pub reserved-zero : reserved (combinedFile f letters p) ≡ 0
+  -- its graph is the combined model
+  pub same-graph : graphOf (combinedFile f letters p) ≡ combined f letters p
+  -- its states, edges and marks are as told, and its paths are exactly the pairs of paths that agree on letters
+  pub combines : Combines (graphOf (combinedFile f letters p)) (graphOf f) (letterOf letters) (propertyOf p)
+
+-- So it is for every combination that is not refused.
+abbrev pub CombinationHolds : Type 0
+CombinationHolds = (f letters p out : List ℕ) → combineBroken f letters p (length out) ≡ none → CombinationWritten f letters p out
+
+-- Two rules with the same states, initial state and edges; their marks may differ.
+pub record SameButMarks (f f' : List ℕ) : Type 0 where
+  pub same-states : states f ≡ states f'
+  pub same-initial : initial f ≡ initial f'
+  pub same-edges : (s : ℕ) → graphOf f .succs s ≡ graphOf f' .succs s
+
+-- The rule's own marks are not used: with two accepted rules that differ in their marks alone a combination answers and
+-- writes the same.
+abbrev pub RuleMarksUnused : Type 0
+RuleMarksUnused = (f f' letters p out : List ℕ) → Accepted f → Accepted f' → SameButMarks f f'
+    → (combineOutcome f letters p (length out) ≡ combineOutcome f' letters p (length out))
+    × (combineOutput f letters p out ≡ combineOutput f' letters p out)

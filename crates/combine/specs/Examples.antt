@@ -1,0 +1,55 @@
+-- A worked example: a rule of two states that alternate, with letters 0 and 1, and a property of two states whose edges into
+-- state 1 read letter 1; state 1 is marked.
+use Prim.Native.Nat.{ℕ}
+use mathlib.Core.Path.{_≡_}
+use mathlib.Core.List.{List, [], _∷_, _++_}
+use lib.ListN.{length, replicate}
+use Rattle.lasso.specs.Roll.{roll}
+use Rattle.model.specs.Model.{graphOf}
+use Rattle.outcomes.specs.Outcome.{Outcome, refused, answered}
+use Rattle.combine.specs.Combine.{combineOutcome, combineOutput}
+
+-- the rule: 0→1, 1→0, no mark
+abbrev pub exampleRule : List ℕ
+exampleRule =
+    2 ∷ 0 ∷ 2 ∷ 0 ∷ 0 ∷ 0 ∷ 0 ∷ 0 ∷
+    24 ∷ 0 ∷ 0 ∷ 0 ∷ 30 ∷ 0 ∷ 0 ∷ 0 ∷ 34 ∷ 0 ∷ 0 ∷ 0 ∷ 35 ∷ 0 ∷ 0 ∷ 0 ∷
+    0 ∷ 0 ∷ 1 ∷ 0 ∷ 2 ∷ 0 ∷
+    1 ∷ 0 ∷ 0 ∷ 0 ∷
+    0 ∷ []
+
+-- its letters
+abbrev pub exampleLetters : List ℕ
+exampleLetters = 0 ∷ 1 ∷ []
+
+-- the property: 0→0, 0→1, 1→0, 1→1 with masks 1, 2, 1, 2, state 1 marked
+abbrev pub exampleProperty : List ℕ
+exampleProperty =
+    2 ∷ 0 ∷ 4 ∷ 0 ∷ 0 ∷ 0 ∷ 0 ∷ 0 ∷
+    24 ∷ 0 ∷ 0 ∷ 0 ∷ 30 ∷ 0 ∷ 0 ∷ 0 ∷ 38 ∷ 0 ∷ 0 ∷ 0 ∷ 47 ∷ 0 ∷ 0 ∷ 0 ∷
+    0 ∷ 0 ∷ 2 ∷ 0 ∷ 4 ∷ 0 ∷
+    0 ∷ 0 ∷ 1 ∷ 0 ∷ 0 ∷ 0 ∷ 1 ∷ 0 ∷
+    2 ∷
+    1 ∷ 0 ∷ 2 ∷ 0 ∷ 1 ∷ 0 ∷ 2 ∷ 0 ∷ []
+
+-- the combination: 0→2, 1→2, 2→1, 3→1, states 1 and 3 marked
+abbrev pub exampleResult : List ℕ
+exampleResult =
+    4 ∷ 0 ∷ 4 ∷ 0 ∷ 0 ∷ 0 ∷ 0 ∷ 0 ∷
+    24 ∷ 0 ∷ 0 ∷ 0 ∷ 34 ∷ 0 ∷ 0 ∷ 0 ∷ 42 ∷ 0 ∷ 0 ∷ 0 ∷ 43 ∷ 0 ∷ 0 ∷ 0 ∷
+    0 ∷ 0 ∷ 1 ∷ 0 ∷ 2 ∷ 0 ∷ 3 ∷ 0 ∷ 4 ∷ 0 ∷
+    2 ∷ 0 ∷ 2 ∷ 0 ∷ 1 ∷ 0 ∷ 1 ∷ 0 ∷
+    10 ∷ []
+
+-- what the example's combination answers with so many bytes of output
+abbrev pub exampleAnswer : ℕ → Outcome ℕ
+exampleAnswer out = combineOutcome exampleRule exampleLetters exampleProperty out
+
+-- The example: 43 bytes are written and a later byte does not change; with 42 bytes of output it is refused 15, and the
+-- output is untouched; the shortest accepting path of the result is 0 2 1 2, the only one.
+pub record ExampleHolds : Type 0 where
+  pub bytes : exampleAnswer 45 ≡ answered 43
+  pub output : combineOutput exampleRule exampleLetters exampleProperty (replicate 45 9) ≡ exampleResult ++ 9 ∷ 9 ∷ []
+  pub short : exampleAnswer 42 ≡ refused 15
+  pub untouched : combineOutput exampleRule exampleLetters exampleProperty (replicate 42 9) ≡ replicate 42 9
+  pub shortest : roll (graphOf exampleResult) ≡ (0 ∷ 2 ∷ 1 ∷ 2 ∷ []) ∷ []

@@ -1,0 +1,122 @@
+// A public operation: the combination of a rule with a property, written as a model file.
+ghost use mathlib.Core.Path.{_≡_};
+ghost use mathlib.Core.Bool.{false};
+ghost use Prim.Native.Nat.{_≤_};
+ghost use lib.ListN.{length};
+ghost use Rattle.format.specs.Layout.{states};
+ghost use Rattle.model.specs.Values.{Valid};
+ghost use Rattle.property.specs.Property.{badProperty, ValidProperty};
+ghost use Rattle.combine.specs.Combine.{badLetters, combineOutcome, combineOutput, combineOutcomeOf};
+use format::total_of;
+use model::Checked;
+use model::Header;
+use model::check;
+use product_file::count_edges;
+use product_file::write_product;
+use property::check_property;
+use property::has_zero_mask;
+
+// The answer of a combination: the number of the reason to refuse it, or the number of bytes written.
+pub enum CombineAnswer {
+    Refused(u16),
+    Written(usize),
+}
+
+// Combines a rule, whose states have the letters, with a property, and writes the combination as a model file from the
+// first byte of the output on. Refused: the rule's 1 to 11, 16 for the letters, 17 for the property, 18 for a result that
+// is too large, 15 for an output that is too short.
+pub fn combine(rule: &[u8], letters: &[u8], property: &[u8], out: &mut [u8]) -> CombineAnswer
+    ensures outcome { λ r. ⌜ combineOutcomeOf r ≡ combineOutcome (now (rule .entry)) (now (letters .entry))
+        (now (property .entry)) (length (now (out .entry))) ⌝ }
+    ensures output { λ _. ⌜ now (out .exit) ≡ combineOutput (now (rule .entry)) (now (letters .entry))
+        (now (property .entry)) (now (out .entry)) ⌝ }
+{
+    let checked = check(rule);
+    match checked {
+        Checked::Refused(n) => CombineAnswer::Refused(n),
+        Checked::Accept(h) => {
+            if letters_broken(letters, h.states) {
+                return CombineAnswer::Refused(16);
+            }
+            with_property(rule, h, letters, property, out)
+        }
+    }
+}
+
+// Reason 16: there is not one letter per state, or a letter is above 15.
+fn letters_broken(letters: &[u8], n: usize) -> bool
+    ensures { λ r. ⌜ r ≡ badLetters n (now (letters .entry)) ⌝ }
+{
+    if letters.len() != n {
+        return true;
+    }
+    let mut s = 0;
+    while s < n {
+        if 15 < letters[s] {
+            return true;
+        }
+        s += 1;
+    }
+    false
+}
+
+// From reason 17 on: an accepted rule with its letters.
+fn with_property(
+    rule: &[u8],
+    h: Header,
+    letters: &[u8],
+    property: &[u8],
+    out: &mut [u8],
+) -> CombineAnswer
+    requires { ⌜ Valid (now rule) h ⌝ }
+    requires { ⌜ badLetters (states (now rule)) (now letters) ≡ false ⌝ }
+    ensures outcome { λ r. ⌜ combineOutcomeOf r ≡ combineOutcome (now (rule .entry)) (now (letters .entry))
+        (now (property .entry)) (length (now (out .entry))) ⌝ }
+    ensures output { λ _. ⌜ now (out .exit) ≡ combineOutput (now (rule .entry)) (now (letters .entry))
+        (now (property .entry)) (now (out .entry)) ⌝ }
+{
+    let checked = check_property(property);
+    match checked {
+        Checked::Refused(_) => CombineAnswer::Refused(17),
+        Checked::Accept(p) => {
+            if has_zero_mask(property, p) {
+                return CombineAnswer::Refused(17);
+            }
+            within_limits(rule, h, letters, property, p, out)
+        }
+    }
+}
+
+// From reason 18 on: both files and the letters are as they should be.
+fn within_limits(
+    rule: &[u8],
+    h: Header,
+    letters: &[u8],
+    property: &[u8],
+    p: Header,
+    out: &mut [u8],
+) -> CombineAnswer
+    requires { ⌜ Valid (now rule) h ⌝ }
+    requires { ⌜ badLetters (states (now rule)) (now letters) ≡ false ⌝ }
+    requires { ⌜ ValidProperty (now property) p ⌝ }
+    requires { ⌜ badProperty (now property) ≡ false ⌝ }
+    ensures outcome { λ r. ⌜ combineOutcomeOf r ≡ combineOutcome (now (rule .entry)) (now (letters .entry))
+        (now (property .entry)) (length (now (out .entry))) ⌝ }
+    ensures output { λ _. ⌜ now (out .exit) ≡ combineOutput (now (rule .entry)) (now (letters .entry))
+        (now (property .entry)) (now (out .entry)) ⌝ }
+{
+    let states = h.states * p.states;
+    if 4096 < states {
+        return CombineAnswer::Refused(18);
+    }
+    let edges = count_edges(rule, h, letters, property, p);
+    if 8192 < edges {
+        return CombineAnswer::Refused(18);
+    }
+    let total = total_of(states, edges);
+    if out.len() < total {
+        return CombineAnswer::Refused(15);
+    }
+    let written = write_product(out, rule, h, letters, property, p, edges);
+    CombineAnswer::Written(written)
+}

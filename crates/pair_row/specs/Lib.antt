@@ -1,0 +1,2 @@
+-- What the writers of one combined state's edges do.
+pub mod Row

@@ -1,0 +1,5 @@
+-- The laws of a combination.
+pub mod PairLaws
+pub mod PairLists
+pub mod ProductLaws
+pub mod PathsLaws

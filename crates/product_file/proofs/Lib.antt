@@ -1,0 +1,3 @@
+-- The laws of the model file of a combination.
+pub mod CombinedLaws
+pub mod TableLaws

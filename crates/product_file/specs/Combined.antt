@@ -1,0 +1,49 @@
+-- The combination of a rule file with a property file.
+use Prim.Native.Nat.{ℕ, _+_, _*_, _%_, _≤_}
+use mathlib.Core.Path.{_≡_}
+use mathlib.Core.Bool.{Bool, _&&_}
+use mathlib.Core.List.{List, _++_}
+use lib.ListN.{length, getD}
+use lib.Dec.{ltb}
+use Rattle.lasso.specs.Graph.{Graph}
+use Rattle.format.specs.Layout.{states, marksAt}
+use Rattle.model.specs.Model.{graphOf}
+use Rattle.model.specs.declared.Header.{Header}
+use Rattle.model.specs.Values.{Valid}
+use Rattle.writer.specs.File.{words16, edgesBelow, edgeTotal, rowWords, worth}
+use Rattle.product.specs.Product.{product}
+use Rattle.property.specs.Property.{propertyGraph, propertyOf, ValidProperty}
+
+-- the letter of state s: the entry of the letter table at place s
+abbrev pub letterOf : List ℕ → ℕ → ℕ
+letterOf letters s = getD letters s 0
+
+-- the combined model of a rule file with its letter table and a property file
+abbrev pub combined : (f letters p : List ℕ) → Graph
+combined f letters p = product (graphOf f) (letterOf letters) (propertyOf p)
+
+-- what the writers ask: an accepted rule and a property that keeps its rules, each with its own header, one letter up to 15
+-- for each state, and no more pairs of states than a model has states
+pub record Combinable (f letters p : List ℕ) (rule property : Header) : Type 0 where
+  pub rule-valid : Valid f rule
+  pub property-valid : ValidProperty p property
+  pub letters-length : length letters ≡ rule .states
+  pub letters-range : (s : ℕ) → letterOf letters s ≤ 15
+  pub pairs-limit : rule .states * property .states ≤ 4096
+
+-- the bytes of the row table and of the edge table
+abbrev pub tableBytes : Graph → List ℕ
+tableBytes g = words16 (rowWords g) ++ words16 (edgesBelow g (g .size))
+
+-- the two tables fit the output, and each row entry fits 16 bits
+pub record TablesFit (g : Graph) (out : List ℕ) : Type 0 where
+  pub room : marksAt (g .size) (edgeTotal g) ≤ length out
+  pub edges-limit : edgeTotal g ≤ 8192
+
+-- whether the combined state with number c is marked, where there are n: (s, q) is if q is
+abbrev pub pairMark : (p : List ℕ) (n c : ℕ) → Bool
+pairMark p n c = ltb c n && propertyGraph p .marked (c % states p)
+
+-- the mark byte at a place of the combination's marks
+abbrev pub pairMarkByte : (p : List ℕ) (n b : ℕ) → ℕ
+pairMarkByte p n b = worth (λ j. pairMark p n (8 * b + j)) 8

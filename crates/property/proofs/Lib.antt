@@ -1,0 +1,3 @@
+-- The laws of the property file.
+pub mod PropertyLaws
+pub mod ChosenLaws

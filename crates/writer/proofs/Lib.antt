@@ -1,0 +1,6 @@
+-- The laws of the model file that holds a graph.
+pub mod FileLaws
+pub mod PutLaws
+pub mod ReadLaws
+pub mod RuleLaws
+pub mod WritesBackLaws

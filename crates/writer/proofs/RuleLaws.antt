@@ -1,0 +1,142 @@
+-- How a file is shown to be accepted: by plain facts about its numbers, each of which makes the test of a rule fail.
+use Prim.Native.Nat.{ℕ, _+_, _*_, _-_, _≤_, _<_}
+use mathlib.Core.Path.{_≡_, refl, sym, ap, _∙_}
+use mathlib.Core.Bool.{Bool, true, false, _||_, not}
+use mathlib.Core.List.{List, [], _∷_, List·Memᴰ}
+use mathlib.Core.Option.{none}
+use native.Mathlib.Omega.{arith}
+use native.Mathlib.Nat.{not-le-of-lt}
+use lib.ListN.{length, drop}
+use lib.Dec.{T, eqb, ltb, eqb→eq, ltb→lt, lt→ltb, not-T, T-not}
+use Rattle.lasso.specs.Lists.{anyb, upFrom, below, someIf}
+use Rattle.lasso.proofs.Tests.{anyb-some, upFrom-range, eq→eqb, T-false}
+use Rattle.lasso.specs.Graph.{ascendingb}
+use Rattle.format.specs.Bytes.{long}
+use Rattle.format.specs.Layout.{states, edgeCount, initial, reserved, rowsAt, edgesAt, marksAt, markBytes, totalOf, rowEntry, target, rowTargets, markBit}
+use Rattle.format.specs.Rules.{Reason, firstBroken, shortFile, badStates, badEdges, badInitial, badReserved, badOffsets, badLength, badRows, badTargets, badOrder, badSpare, rules, Accepted}
+use Rattle.format.proofs.Reasons.{Clear}
+use Rattle.model.proofs.Laws.{Facts}
+
+-- in a clear table there is no first reason that holds
+pub clear-unbroken : (rs : List Reason) → Clear rs → firstBroken rs ≡ none
+clear-unbroken [] c = refl
+clear-unbroken (r ∷ rs) c =
+    ap (λ (b : Bool). someIf b (r .number) (firstBroken rs)) (T-false (r .holds) (c .0)) ∙ clear-unbroken rs (c .1)
+
+-- a disjunction of tests that fail fails
+pub neither : (a b : Bool) → T (not a) → T (not b) → T (not (a || b))
+neither true b h k = h
+neither false b h k = k
+
+-- the negation of a test that passes fails
+pub passes : (a : Bool) → T a → T (not (not a))
+passes true h = tt
+passes false h = h
+
+-- the negated test of equality fails for equal numbers
+pub same-passes : (m n : ℕ) → m ≡ n → T (not (not (eqb m n)))
+same-passes m n e = passes (eqb m n) (eq→eqb m n e)
+
+-- a number not below another fails the test for being below it
+pub le-fails : (m n : ℕ) → n ≤ m → T (not (ltb m n))
+le-fails m n l = not-T (ltb m n) (λ t. not-le-of-lt (ltb→lt m n t) l)
+
+-- the negated test for being below fails where a number is below another
+pub lt-passes : (m n : ℕ) → m < n → T (not (not (ltb m n)))
+lt-passes m n l = passes (ltb m n) (lt→ltb m n l)
+
+-- a test that no number of a range passes finds none
+pub none-in-range : (p : ℕ → Bool) (a n : ℕ) → ((i : ℕ) → a ≤ i → i < a + n → T (not (p i))) → T (not (anyb p (upFrom a n)))
+none-in-range p a n h =
+    not-T (anyb p (upFrom a n)) (λ t.
+    let r : (i : ℕ) × List·Memᴰ i (upFrom a n) × T (p i) = anyb-some p (upFrom a n) t in
+    let b : (a ≤ r .0) × (r .0 < a + n) = upFrom-range a n (r .1) in
+    T-not (p (r .0)) (h (r .0) (b .0) (b .1)) (r .2))
+
+-- a test that no number below n passes finds none
+pub none-below-passes : (p : ℕ → Bool) (n : ℕ) → ((i : ℕ) → i < n → T (not (p i))) → T (not (anyb p (below n)))
+none-below-passes p n h = none-in-range p 0 n (λ i a l. h i (omega arith))
+
+-- what the rules ask of a file's header and length
+pub record LaidOut (f : List ℕ) : Type 0 where
+  pub reserved-zero : reserved f ≡ 0
+  pub rows-at : long f 8 ≡ rowsAt
+  pub edges-at : long f 12 ≡ edgesAt (states f)
+  pub marks-at : long f 16 ≡ marksAt (states f) (edgeCount f)
+  pub total-is : long f 20 ≡ totalOf (states f) (edgeCount f)
+  pub length-is : length f ≡ totalOf (states f) (edgeCount f)
+
+module _ (f : List ℕ) (F : Facts f) (L : LaidOut f) where
+  -- rule 1 is kept: the file has a header
+  keeps-room : T (not (shortFile f))
+  keeps-room = le-fails (length f) 24 (omega (arith, L .length-is))
+
+  -- rule 2 is kept: the number of states is 1 to 4,096
+  keeps-states : T (not (badStates f))
+  keeps-states =
+      neither (eqb (states f) 0) (ltb 4096 (states f))
+      (not-T (eqb (states f) 0) (λ t. omega (arith, eqb→eq (states f) 0 t, F .states-range)))
+      (le-fails 4096 (states f) (F .states-range .1))
+
+  -- rule 3 is kept: the number of edges is at most 8,192
+  keeps-edges : T (not (badEdges f))
+  keeps-edges = le-fails 8192 (edgeCount f) (F .edges-range)
+
+  -- rule 4 is kept: the initial state is below N
+  keeps-initial : T (not (badInitial f))
+  keeps-initial = lt-passes (initial f) (states f) (F .initial-below)
+
+  -- rule 5 is kept: bytes 6–7 are zero
+  keeps-reserved : T (not (badReserved f))
+  keeps-reserved = same-passes (reserved f) 0 (L .reserved-zero)
+
+  -- rule 6 is kept: the offsets and the total length are those that N and M give
+  keeps-offsets : T (not (badOffsets (totalOf (states f) (edgeCount f)) f))
+  keeps-offsets =
+      let n : ℕ = states f in
+      let m : ℕ = edgeCount f in
+      let a : T (not (not (eqb (long f 8) rowsAt))) = same-passes (long f 8) rowsAt (L .rows-at) in
+      let b : T (not (not (eqb (long f 12) (edgesAt n)))) = same-passes (long f 12) (edgesAt n) (L .edges-at) in
+      let c : T (not (not (eqb (long f 16) (marksAt n m)))) = same-passes (long f 16) (marksAt n m) (L .marks-at) in
+      let d : T (not (not (eqb (long f 20) (totalOf n m)))) = same-passes (long f 20) (totalOf n m) (L .total-is) in
+      search neither
+
+  -- rule 7 is kept: the file has its total length
+  keeps-length : T (not (badLength f))
+  keeps-length = same-passes (length f) (long f 20) (L .length-is ∙ sym (L .total-is))
+
+  -- rule 8 is kept: the row entries go from 0 to M and do not fall
+  keeps-rows : T (not (badRows f))
+  keeps-rows =
+      let falls : ℕ → Bool = λ s. ltb (rowEntry f (s + 1)) (rowEntry f s) in
+      let a : T (not (not (eqb (rowEntry f 0) 0))) = same-passes (rowEntry f 0) 0 (F .row-first) in
+      let b : T (not (anyb falls (below (states f)))) =
+      none-below-passes falls (states f) (λ s l. le-fails (rowEntry f (s + 1)) (rowEntry f s) (F .rows-ascend s l)) in
+      let c : T (not (not (eqb (rowEntry f (states f)) (edgeCount f)))) = same-passes (rowEntry f (states f)) (edgeCount f) (F .row-last) in
+      search neither
+
+  -- rule 9 is kept: each target is below N
+  keeps-targets : T (not (badTargets f))
+  keeps-targets =
+      none-below-passes (λ (e : ℕ). not (ltb (target f e) (states f))) (edgeCount f)
+      (λ e l. lt-passes (target f e) (states f) (F .targets-below e l))
+
+  -- rule 10 is kept: the targets in each row ascend
+  keeps-order : T (not (badOrder f))
+  keeps-order =
+      none-below-passes (λ (s : ℕ). not (ascendingb (rowTargets f s))) (states f)
+      (λ s l. passes (ascendingb (rowTargets f s)) (F .targets-ascend s l))
+
+  -- rule 11 is kept: no spare bit is set
+  keeps-spare : T (not (badSpare f))
+  keeps-spare =
+      none-in-range (markBit f) (states f) (8 * markBytes (states f) - states f) (λ s l m. F .spare-clear s l (omega arith))
+
+  -- rules 6 to 11 are kept
+  tables-clear : Clear (drop 5 (rules f))
+  tables-clear = (keeps-offsets, (keeps-length, (keeps-rows, (keeps-targets, (keeps-order, (keeps-spare, tt))))))
+
+  -- a file with these facts is accepted
+  pub facts-accepted : Accepted f
+  facts-accepted =
+      clear-unbroken (rules f) (keeps-room, (keeps-states, (keeps-edges, (keeps-initial, (keeps-reserved, tables-clear)))))

@@ -1,0 +1,3 @@
+-- The model file that holds a graph.
+pub mod File
+pub mod WritesBack
