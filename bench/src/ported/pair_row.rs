@@ -61,6 +61,9 @@ pub fn write_row<A: Access>(
     let base = successor::<A>(part, 0) * size;
     let mut next = write_block::<A>(out, at, targets, masks, letter, base);
     let count = (next - at) / 2;
+    if count == 0 {
+        return next;
+    }
     for k in 1..d {
         let other = successor::<A>(part, k) * size;
         next = copy_block::<A>(out, next, at, count, base, other);

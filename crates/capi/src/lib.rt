@@ -128,7 +128,7 @@ pub extern "C" fn fahkelo_next(
 
 // Reports the answer of a combination: its number of bytes is the one figure.
 fn report_combine(answer: CombineAnswer, out: &mut [u16]) -> u16
-    requires { ⌜ 1 ≤ length (now out) ⌝ }
+    requires { ⌜ 4 ≤ length (now out) ⌝ }
     requires { ⌜ FigureFits answer ⌝ }
     ensures kind { λ r. ⌜ r ≡ combineReport (combineOutcomeOf answer) .kind ⌝ }
     ensures out { λ _. ⌜ now (out .exit) ≡ figuresIn (now (out .entry)) (combineReport (combineOutcomeOf answer)) ⌝ }

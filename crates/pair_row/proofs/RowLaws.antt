@@ -143,3 +143,14 @@ module _ (size : ℕ) (ss qs : List ℕ) where
   pub wrote-row : {t t' : List ℕ} {at next : ℕ} (k : ℕ) → length ss ≤ k
       → Wrote t at (words16 (rowOf size (take k ss) qs)) t' next → Wrote t at (words16 (rowOf size ss qs)) t' next
   wrote-row k all w = wrote-as (ap (λ (r : List ℕ). words16 (rowOf size r qs)) (take-all k ss all)) w
+
+-- without states of the property there are no pairs
+row-empty : (size : ℕ) (ss : List ℕ) → rowOf size ss [] ≡ []
+row-empty size [] = refl
+row-empty size (s ∷ ss) = row-empty size ss
+
+-- a row whose blocks are empty is written with the first of them
+pub wrote-empty-row : {t t' : List ℕ} {at next : ℕ} (size : ℕ) (ss qs : List ℕ) (base : ℕ) → length qs ≡ 0
+    → Wrote t at (words16 (block base qs)) t' next → Wrote t at (words16 (rowOf size ss qs)) t' next
+wrote-empty-row size ss [] base e w = wrote-as (ap words16 (sym (row-empty size ss))) w
+wrote-empty-row size ss (q ∷ qs) base e w = absurd (omega arith)

@@ -96,6 +96,9 @@ pub fn write_row(
     let base = successor(part, h, s, 0) * size;
     let mut next = write_block(out, at, targets, masks, letter, base);
     let count = (next - at) / 2;
+    if count == 0 {
+        return next;
+    }
     let mut k = 1;
     while k < d {
         let other = successor(part, h, s, k) * size;

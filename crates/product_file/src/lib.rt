@@ -39,9 +39,9 @@ fn pair_degree(
         × (r ≤ 67108864) ⌝ }
 {
     let size = p.states;
-    let s = c / size;
-    let letter = letters[s] as usize;
-    let steps = degree(row_part(rule, h, s), h, s);
+    let state = c / size;
+    let letter = letters[state] as usize;
+    let steps = degree(row_part(rule, h, state), h, state);
     steps * count_holding(mask_part(property, p, c % size), letter)
 }
 
@@ -50,10 +50,10 @@ pub fn count_edges(rule: &[u8], h: Header, letters: &[u8], property: &[u8], p: H
     requires { ⌜ Combinable (now rule) (now letters) (now property) h p ⌝ }
     ensures { λ r. ⌜ r ≡ edgeTotal (combined (now (rule .entry)) (now (letters .entry)) (now (property .entry))) ⌝ }
 {
-    let states = h.states * p.states;
+    let pairs = h.states * p.states;
     let mut edges = 0;
     let mut c = 0;
-    while c < states {
+    while c < pairs {
         edges += pair_degree(rule, h, letters, property, p, c);
         c += 1;
     }
@@ -110,7 +110,8 @@ fn write_tables(
         at = write_edges(out, at, rule, h, letters, property, p, c);
         c += 1;
     }
-    write_word(out, 24 + 2 * c, (at - base) / 2);
+    let edges = (at - base) / 2;
+    write_word(out, 24 + 2 * c, edges);
     at
 }
 

@@ -1,10 +1,8 @@
 -- `report_combine` meets its contract: a refusal leaves the table, a number of bytes goes to its first entry.
-use Prim.Native.Nat.{ℕ, _<_}
-use mathlib.Core.Path.{_≡_, refl, sym, ap, subst, _∙_}
+use mathlib.Core.Path.{sym, ap, subst, _∙_}
 use native.Mathlib.Omega.{arith}
 use borrow.Author.Needs.{needs}
 use denote.Ref.{now}
-use lib.ListN.{drop}
 use lib.Seq.{set-split}
 use Rattle.combine.specs.declared.CombineAnswer.{CombineAnswer}
 use Rattle.combine.specs.Combine.{combineOutcomeOf}
@@ -40,7 +38,7 @@ returns-2 c =
     let a = start .args in
     let report = ap (λ (r : CombineAnswer). combineReport (combineOutcomeOf r)) (c .before .answer2 .given .1) in (
       sym (ap (λ (r : Report). r .kind) report),
-      set-split (now (a .out)) 0 _ (start .pre .0) ∙ sym (ap (figuresIn (now (a .out))) report),
+      set-split (now (a .out)) 0 _ (omega (arith, start .pre .0)) ∙ sym (ap (figuresIn (now (a .out))) report),
     )
 
 pub report-combine-spec : {M : Type 1} → statement M

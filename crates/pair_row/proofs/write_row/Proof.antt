@@ -14,7 +14,7 @@ use Rattle.writer.specs.File.{words16}
 use Rattle.property.specs.Property.{chosen}
 use Rattle.pair_row.specs.Row.{rowOf}
 use Rattle.pair_row.proofs.BlockLaws.{block-bytes, chosen-below}
-use Rattle.pair_row.proofs.RowLaws.{first-before, block-room, wrote-first-block, copy-fits, wrote-copied-block, wrote-row}
+use Rattle.pair_row.proofs.RowLaws.{first-before, block-room, wrote-first-block, copy-fits, wrote-copied-block, wrote-row, wrote-empty-row}
 use Rattle.pair_row.proofs.write_row.Statement.{statement}
 use Rattle.pair_row.proofs.write_row.Tie as tie
 
@@ -51,11 +51,11 @@ first c =
 
 -- the blocks of the first k successors are written to the output of the start
 so-far : (c : tie.At-loop Inv-loop μ-loop) →
-    let before = c .before .before .before .before .before .before .before in
+    let before = c .before .before .before .before .before .before .before .before in
     let a = before .before .before .before .before .before .args in
     Wrote (now (a .out)) (a .at) (words16 (rowOf (a .size) (take (c .loop .k) (steps before)) (picked before))) (c .loop .out) (c .loop .next)
 so-far c =
-    let wrote = c .before .before .before in
+    let wrote = c .before .before .before .before in
     let chosen-first = wrote .before .before in
     let before = chosen-first .before .before in
     let a = before .before .before .before .before .before .args in
@@ -98,22 +98,33 @@ write-block-requires c κs =
 sub-count : tie.Need-sub-count Inv-loop μ-loop
 sub-count c = counted (c .before .before) .0
 
+same-length : tie.Need-same-length Inv-loop μ-loop
+same-length c = wrote-length (c .before .before .before .write-block .ensures)
+
+returns-2 : tie.Need-returns-2 Inv-loop μ-loop
+returns-2 c =
+    let wrote = c .before .before .before in
+    let chosen-first = wrote .before .before in
+    let before = chosen-first .before .before in
+    let a = before .before .before .before .before .before .args in
+    wrote-empty-row (a .size) (steps before) (picked before) (chosen-first .successor .result * a .size) (omega (arith, counted wrote .1, c .if2 .taken)) (wrote .write-block .ensures)
+
 loop-holds : tie.Need-loop-holds Inv-loop μ-loop
-loop-holds c = (omega arith, omega (arith, some (c .before .before .before .before .before), c .before .before .before .before .before .before .degree .ensures), λ w₀ w. w)
+loop-holds c = (omega arith, omega (arith, some (c .before .before .before .before .before .before), c .before .before .before .before .before .before .before .degree .ensures), λ w₀ w. w)
 
 successor-requires-2 : tie.Need-successor-requires-2 Inv-loop μ-loop
-successor-requires-2 c κs = omega (arith, c .loop-test .taken, c .before .before .before .before .before .before .before .before .degree .ensures)
+successor-requires-2 c κs = omega (arith, c .loop-test .taken, c .before .before .before .before .before .before .before .before .before .degree .ensures)
 
 -- the next block's base is the successor at place k times the size, and fits
 further : (c : tie.After-successor2 Inv-loop μ-loop) →
     let at-loop = c .before .before in
-    let before = at-loop .before .before .before .before .before .before .before in
+    let before = at-loop .before .before .before .before .before .before .before .before in
     let size = before .before .before .before .before .before .args .size in
     let x = getD (steps before) (at-loop .loop .k) 0 in
     (c .successor2 .result * size ≡ x * size) × (x * size + size ≤ 4096) × (at-loop .loop .k < length (steps before))
 further c =
     let at-loop = c .before .before in
-    let before = at-loop .before .before .before .before .before .before .before in
+    let before = at-loop .before .before .before .before .before .before .before .before in
     let start = before .before .before .before .before .before in
     let less : at-loop .loop .k < length (steps before) = omega (arith, c .before .loop-test .taken, before .degree .ensures) in
     (ap (λ x. x * start .args .size) (c .successor2 .ensures), start .pre .1 .1 .0 .successors-fit (at-loop .loop .k) less, less)
@@ -124,7 +135,7 @@ mul-other c = omega (arith, further c)
 copy-block-requires : tie.Need-copy-block-requires Inv-loop μ-loop
 copy-block-requires c κs =
     let at-loop = c .before .before .before in
-    let wrote = at-loop .before .before .before in
+    let wrote = at-loop .before .before .before .before in
     let chosen-first = wrote .before .before in
     let before = chosen-first .before .before in
     let start = before .before .before .before .before .before in
@@ -152,7 +163,7 @@ loop-again c =
     let copied-next = c .before .before in
     let further-on = copied-next .before .before in
     let at-loop = further-on .before .before in
-    let wrote = at-loop .before .before .before in
+    let wrote = at-loop .before .before .before .before in
     let chosen-first = wrote .before .before in
     let before = chosen-first .before .before in
     let a = before .before .before .before .before .before .args in
@@ -163,12 +174,12 @@ loop-again c =
           wrote-copied-block (a .size) (steps before) (picked before) (at-loop .loop .k) _ _ _ (at-loop .loop .inv .0) (more .2) (counted wrote .1) (first chosen-first .0) (more .0) (at-loop .loop .inv .2 w₀ w) (copied-next .copy-block .ensures),
     )
 
-same-length : tie.Need-same-length Inv-loop μ-loop
-same-length c = wrote-length (so-far (c .before))
+same-length-2 : tie.Need-same-length-2 Inv-loop μ-loop
+same-length-2 c = wrote-length (so-far (c .before))
 
-returns-2 : tie.Need-returns-2 Inv-loop μ-loop
-returns-2 c =
-    let before = c .before .before .before .before .before .before .before .before in
+returns-3 : tie.Need-returns-3 Inv-loop μ-loop
+returns-3 c =
+    let before = c .before .before .before .before .before .before .before .before .before in
     let a = before .before .before .before .before .before .args in
     wrote-row (a .size) (steps before) (picked before) (c .before .loop .k) (omega (arith, c .loop-test .left, before .degree .ensures)) (so-far (c .before))
 
@@ -184,6 +195,8 @@ write-row-spec =
     mul-base
     write-block-requires
     sub-count
+    same-length
+    returns-2
     loop-holds
     successor-requires-2
     mul-other
@@ -191,5 +204,5 @@ write-row-spec =
     add-k
     loop-less
     loop-again
-    same-length
-    returns-2)
+    same-length-2
+    returns-3)

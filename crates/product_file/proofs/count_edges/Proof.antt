@@ -12,14 +12,14 @@ use Rattle.product_file.proofs.count_edges.Statement.{statement}
 use Rattle.product_file.proofs.count_edges.Tie as tie
 
 abbrev Inv-loop : tie.InvT-loop
-Inv-loop rule h letters property p states edges₀ c₀ edges c =
-    (c ≤ states) × (edges ≡ length (edgesBelow (combined rule letters property) c)) × (edges ≤ c * 67108864)
+Inv-loop rule h letters property p pairs edges₀ c₀ edges c =
+    (c ≤ pairs) × (edges ≡ length (edgesBelow (combined rule letters property) c)) × (edges ≤ c * 67108864)
 
 abbrev μ-loop : tie.MeasureT-loop
-μ-loop rule h letters property p states edges₀ c₀ edges c = states - c
+μ-loop rule h letters property p pairs edges₀ c₀ edges c = pairs - c
 
-mul-states : tie.Need-mul-states Inv-loop μ-loop
-mul-states c = omega (arith, c .before .before .before .before .before .pre .pairs-limit)
+mul-pairs : tie.Need-mul-pairs Inv-loop μ-loop
+mul-pairs c = omega (arith, c .before .before .before .before .before .pre .pairs-limit)
 
 loop-holds : tie.Need-loop-holds Inv-loop μ-loop
 loop-holds c = (omega arith, refl, omega arith)
@@ -65,7 +65,7 @@ count-edges-spec =
     (tie.spec
     Inv-loop
     μ-loop
-    mul-states
+    mul-pairs
     loop-holds
     pair-degree-requires
     add-edges

@@ -18,8 +18,8 @@ use Rattle.product_file.proofs.pair_degree.Tie as tie
 abbrev start : tie.After-shared-slice-known4 → tie.Start
 start c = c .before .before .before .before
 
-div-s : tie.Need-div-s
-div-s c = let s = c .before .before .before in some-property-state (s .pre .0)
+div-state : tie.Need-div-state
+div-state c = let s = c .before .before .before in some-property-state (s .pre .0)
 
 shared-slice-read-letter : tie.Need-shared-slice-read-letter
 shared-slice-read-letter c =
@@ -78,7 +78,7 @@ pub pair-degree-spec : {M : Type 1} → statement M
 pair-degree-spec =
     tie.close
     (tie.spec
-    div-s
+    div-state
     shared-slice-read-letter
     cast-letter
     row-part-requires

@@ -116,14 +116,14 @@ loop-again c =
     let at = in-loop .before in
     edges-written (start at .pre .1) (at .loop .inv) (turn-below in-loop) (entered word) (edges .write-edges .ensures)
 
+sub-edges : tie.Need-sub-edges Inv-loop μ-loop
+sub-edges c = edges-behind (c .before)
+
 mul-write-word-2 : tie.Need-mul-write-word-2 Inv-loop μ-loop
 mul-write-word-2 c = omega (arith, c .before .before .loop .inv .within, size-is (start (c .before .before) .pre .0), start (c .before .before) .pre .0 .pairs-limit)
 
 add-write-word-2 : tie.Need-add-write-word-2 Inv-loop μ-loop
 add-write-word-2 c = omega (arith, c .before .before .loop .inv .within, size-is (start (c .before .before) .pre .0), start (c .before .before) .pre .0 .pairs-limit)
-
-sub-write-word-2 : tie.Need-sub-write-word-2 Inv-loop μ-loop
-sub-write-word-2 c = edges-behind (c .before .before)
 
 write-word-requires-2 : tie.Need-write-word-requires-2 Inv-loop μ-loop
 write-word-requires-2 c κs = (entry-room (c .before .before), entry-small (c .before .before))
@@ -160,9 +160,9 @@ write-tables-spec =
     add-c
     loop-less
     loop-again
+    sub-edges
     mul-write-word-2
     add-write-word-2
-    sub-write-word-2
     write-word-requires-2
     same-length
     returns)
