@@ -104,9 +104,10 @@ uint16_t fahkelo_next(const uint8_t *file, size_t file_len,
                       uint16_t *out, size_t out_len);
 
 /*
- * Combines a rule with a property: a model file whose accepting runs are the runs of the rule that the property marks. The
- * rule is a model file; letters has one byte for each of its states, a letter 0 to 15; the property is a model file with a
- * 16-bit mask for each edge behind its marks, bit l for letter l (docs/FORMAT.md), at most FAHKELO_PROPERTY_MOST bytes.
+ * Combines a rule with a property: a model file whose runs are the pairs of a run of the rule and a run of the property
+ * that agree on letters, and whose marks are the property's. The rule is a model file; letters has one byte for each of
+ * its states, a letter 0 to 15; the property is a model file with a 16-bit mask for each edge behind its marks, bit l for
+ * letter l (docs/FORMAT.md), at most FAHKELO_PROPERTY_MOST bytes.
  * State (s, q) of the result has the number s * Q + q, where the property has Q states. It has an edge to (s', q') exactly
  * if s has one to s' and q has one to q' whose mask holds the letter of s. It is marked if q is; the marks of the rule are
  * not used.

@@ -1,6 +1,6 @@
-// The C interface: step, search, next and combine under plain names, with answers as numbers. What is returned is the number of the
-// refusal, 1 to 99, or the kind of answer, whose figures go to `out`: a refused call changes nothing there. With fewer than
-// 4 entries in `out` the answer is 100 and nothing at all is done.
+// The C interface: step, search, next and combine under plain names, with answers as numbers. What is returned is the
+// number of the refusal, 1 to 99, or the kind of answer, whose figures go to `out`: a refused call changes nothing there.
+// With fewer than 4 entries in `out` the answer is 100 and nothing at all is done.
 ghost use mathlib.Core.Path.{_≡_};
 ghost use Prim.Native.Nat.{_≤_};
 ghost use lib.ListN.{length};

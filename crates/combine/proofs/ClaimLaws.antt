@@ -17,9 +17,9 @@ use Rattle.outcomes.specs.Outcome.{Outcome, refused, answered, outcome}
 use Rattle.outcomes.specs.Tables.{unlessRefused, written}
 use Rattle.outcomes.proofs.ReadBack.{loses-nothing}
 use Rattle.writer.specs.File.{edgeTotal, fileOf}
-use Rattle.writer.specs.WritesBack.{Writable}
+use Rattle.writer.specs.Holds.{Writable}
 use Rattle.writer.proofs.ReadLaws.{file-reserved}
-use Rattle.writer.proofs.WritesBackLaws.{writes-back}
+use Rattle.writer.proofs.HoldsLaws.{files-hold}
 use Rattle.product.specs.Product.{product}
 use Rattle.product.specs.Paths.{Combines}
 use Rattle.product.proofs.ProductLaws.{product-well-formed, product-marks}
@@ -31,10 +31,10 @@ use Rattle.combine.specs.declared.CombineAnswer.{CombineAnswer}
 use Rattle.combine.specs.declared.CombineAnswer.the-variants.{Refused, Written}
 use Rattle.combine.specs.Combine.{badLetters, tooLarge, combinedFile, combineReasons, combineBroken, combineOutcome, combineOutcomeOf, CombineLosesNothing}
 use Rattle.combine.specs.Claim.{CombinationHolds, SameButMarks, RuleMarksUnused}
-use Rattle.combine.specs.Examples.{ExampleHolds}
+use Rattle.combine.specs.Examples.{ExamplesOfCombining}
 use Rattle.combine.proofs.ReasonLaws.{firstBehind, behind}
 
--- a combination that is not refused has an accepted rule and a property that keeps its rules, and is small enough to be written
+-- the combined model of a combination that is not refused can be written, and combines the rule with the property
 written-model : (f letters p : List ℕ) (out : ℕ) → combineBroken f letters p out ≡ none
     → Writable (combined f letters p) × Combines (combined f letters p) (graphOf f) (letterOf letters) (propertyOf p)
 written-model f letters p out e =
@@ -57,10 +57,10 @@ written-model f letters p out e =
 pub combination-holds : CombinationHolds
 combination-holds f letters p out e =
     let model = written-model f letters p (length out) e in
-    let back = writes-back (combined f letters p) (model .0) in
+    let back = files-hold (combined f letters p) (model .0) in
     record {
-      bytes = ap (λ (o : Option ℕ). outcome o (length (combinedFile f letters p))) e;
-      output = ap (λ (o : Option ℕ). written (unlessRefused o (some (combinedFile f letters p))) out) e;
+      bytes-are = ap (λ (o : Option ℕ). outcome o (length (combinedFile f letters p))) e;
+      output-is = ap (λ (o : Option ℕ). written (unlessRefused o (some (combinedFile f letters p))) out) e;
       bytes-limit = omega (arith, back .file-length, model .0 .states-limit, model .0 .edges-limit);
       accepted = back .accepted;
       reserved-zero = file-reserved (combined f letters p);
@@ -117,6 +117,6 @@ read-back (Written bytes) = refl
 pub combine-loses-nothing : CombineLosesNothing
 combine-loses-nothing = loses-nothing combineOutcomeOf readAnswer read-back
 
--- the worked example
-pub example-holds : ExampleHolds
-example-holds = record { bytes = refl; output = refl; short = refl; untouched = refl; shortest = refl }
+-- the worked examples
+pub examples-of-combining : ExamplesOfCombining
+examples-of-combining = record { bytes = refl; output = refl; short = refl; untouched = refl; shortest = refl; second = refl }

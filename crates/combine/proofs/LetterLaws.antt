@@ -1,7 +1,7 @@
 -- The letter table: letters that are none above 15, looked at place by place.
 use Prim.Native.Nat.{ℕ, zero, suc, _+_, _*_, _≤_, _<_}
-use mathlib.Core.Path.{_≡_, refl, _∙_}
-use mathlib.Core.Bool.{Bool, true, false, _||_, not}
+use mathlib.Core.Path.{_≡_}
+use mathlib.Core.Bool.{true, false, not}
 use mathlib.Core.List.{List, [], _∷_}
 use native.Mathlib.Omega.{arith}
 use native.Mathlib.Numerals.{add-one}
@@ -10,7 +10,7 @@ use lib.ListN.{length, getD, drop, drop-of-length-le}
 use lib.Seq.{drop-cons}
 use lib.Dec.{T, eqb, ltb, eqb→eq, nltb→le}
 use Rattle.lasso.specs.Lists.{anyb}
-use Rattle.format.proofs.Reasons.{false-not, neither-l, neither-r, not-not, kept}
+use Rattle.format.proofs.Reasons.{false-not, neither-l, neither-r, kept}
 use Rattle.format.specs.Layout.{states}
 use Rattle.model.specs.declared.Header.{Header}
 use Rattle.model.specs.Values.{Valid}

@@ -1,8 +1,8 @@
 -- The first reason to refuse a combination that holds, and what the call then answers and writes.
 use Prim.Native.Nat.{ℕ, _+_, _≤_, _<_}
 use mathlib.Core.Path.{_≡_, refl, sym, ap, _∙_}
-use mathlib.Core.Bool.{Bool, true, false, _||_}
-use mathlib.Core.List.{List, [], _∷_, _++_}
+use mathlib.Core.Bool.{Bool, true, false}
+use mathlib.Core.List.{List, _++_}
 use mathlib.Core.Option.{Option, some, none}
 use native.Mathlib.Omega.{arith}
 use native.Mathlib.Nat.{zero-add}
@@ -13,8 +13,7 @@ use Rattle.lasso.specs.Lists.{someIf}
 use Rattle.format.specs.Layout.{states, totalOf}
 use Rattle.format.specs.Rules.{firstBroken, rules, Accepted}
 use Rattle.format.proofs.Reasons.{clear-append, broken-append}
-use Rattle.outcomes.specs.Outcome.{refused, answered}
-use Rattle.outcomes.proofs.OutcomeLaws.{CallIs, call-answer, call-broken, call-kept}
+use Rattle.outcomes.proofs.OutcomeLaws.{call-answer, call-broken, call-kept}
 use Rattle.text.specs.Writing.{Wrote}
 use Rattle.writer.specs.File.{edgeTotal}
 use Rattle.writer.proofs.FileLaws.{file-length-is}

@@ -14,10 +14,10 @@ use Rattle.outcomes.specs.Outcome.{answered}
 use Rattle.combine.specs.Combine.{combinedFile, combineBroken, combineOutcome, combineOutput}
 
 -- What a combination that is not refused answers and has written.
-pub record CombinationWritten (f letters p out : List ℕ) : Type 0 where
+pub record CombinationWritten (f letters p output : List ℕ) : Type 0 where
   -- the answer is the number of bytes of a file, which stands from byte 0 of the output on; later bytes do not change
-  pub bytes : combineOutcome f letters p (length out) ≡ answered (length (combinedFile f letters p))
-  pub output : combineOutput f letters p out ≡ combinedFile f letters p ++ drop (length (combinedFile f letters p)) out
+  pub bytes-are : combineOutcome f letters p (length output) ≡ answered (length (combinedFile f letters p))
+  pub output-is : combineOutput f letters p output ≡ combinedFile f letters p ++ drop (length (combinedFile f letters p)) output
   pub bytes-limit : length (combinedFile f letters p) ≤ 25114
   -- the reader accepts the file, whose bytes 6–7 are zero
   pub accepted : Accepted (combinedFile f letters p)
@@ -29,7 +29,7 @@ pub record CombinationWritten (f letters p out : List ℕ) : Type 0 where
 
 -- So it is for every combination that is not refused.
 abbrev pub CombinationHolds : Type 0
-CombinationHolds = (f letters p out : List ℕ) → combineBroken f letters p (length out) ≡ none → CombinationWritten f letters p out
+CombinationHolds = (f letters p output : List ℕ) → combineBroken f letters p (length output) ≡ none → CombinationWritten f letters p output
 
 -- Two rules with the same states, initial state and edges; their marks may differ.
 pub record SameButMarks (f f' : List ℕ) : Type 0 where
@@ -40,6 +40,6 @@ pub record SameButMarks (f f' : List ℕ) : Type 0 where
 -- The rule's own marks are not used: with two accepted rules that differ in their marks alone a combination answers and
 -- writes the same.
 abbrev pub RuleMarksUnused : Type 0
-RuleMarksUnused = (f f' letters p out : List ℕ) → Accepted f → Accepted f' → SameButMarks f f'
-    → (combineOutcome f letters p (length out) ≡ combineOutcome f' letters p (length out))
-    × (combineOutput f letters p out ≡ combineOutput f' letters p out)
+RuleMarksUnused = (f f' letters p output : List ℕ) → Accepted f → Accepted f' → SameButMarks f f'
+    → (combineOutcome f letters p (length output) ≡ combineOutcome f' letters p (length output))
+    × (combineOutput f letters p output ≡ combineOutput f' letters p output)

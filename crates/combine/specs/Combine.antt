@@ -29,28 +29,28 @@ tooLarge g = ltb 4096 (g .size) || ltb 8192 (edgeTotal g)
 abbrev pub combinedFile : (f letters p : List ℕ) → List ℕ
 combinedFile f letters p = fileOf (combined f letters p)
 
--- the reasons to refuse a combination, in checking order: the rule's 1 to 11, 16, 17, 18, and 15 if the output has fewer
--- bytes than the result
-abbrev pub combineReasons : (f letters p : List ℕ) (out : ℕ) → List Reason
-combineReasons f letters p out =
+-- the reasons to refuse a combination, in checking order: the rule's 1 to 11, 16, 17, 18, and 15 if the output, which has
+-- room for so many bytes, has fewer than the result
+abbrev pub combineReasons : (f letters p : List ℕ) (room : ℕ) → List Reason
+combineReasons f letters p room =
     rules f ++
     record { number = 16; holds = badLetters (states f) letters } ∷
     record { number = 17; holds = badProperty p } ∷
     record { number = 18; holds = tooLarge (combined f letters p) } ∷
-    record { number = 15; holds = ltb out (length (combinedFile f letters p)) } ∷ []
+    record { number = 15; holds = ltb room (length (combinedFile f letters p)) } ∷ []
 
 -- the number of the first reason that holds, if one does
-abbrev pub combineBroken : (f letters p : List ℕ) (out : ℕ) → Option ℕ
-combineBroken f letters p out = firstBroken (combineReasons f letters p out)
+abbrev pub combineBroken : (f letters p : List ℕ) (room : ℕ) → Option ℕ
+combineBroken f letters p room = firstBroken (combineReasons f letters p room)
 
 -- the answer: refused with the first reason that holds, or the number of bytes written
-abbrev pub combineOutcome : (f letters p : List ℕ) (out : ℕ) → Outcome ℕ
-combineOutcome f letters p out = outcome (combineBroken f letters p out) (length (combinedFile f letters p))
+abbrev pub combineOutcome : (f letters p : List ℕ) (room : ℕ) → Outcome ℕ
+combineOutcome f letters p room = outcome (combineBroken f letters p room) (length (combinedFile f letters p))
 
 -- the output afterwards: untouched if the call is refused, else the file from byte 0 on; later bytes do not change
-abbrev pub combineOutput : (f letters p out : List ℕ) → List ℕ
-combineOutput f letters p out =
-    written (unlessRefused (combineBroken f letters p (length out)) (some (combinedFile f letters p))) out
+abbrev pub combineOutput : (f letters p output : List ℕ) → List ℕ
+combineOutput f letters p output =
+    written (unlessRefused (combineBroken f letters p (length output)) (some (combinedFile f letters p))) output
 
 -- what each answer of the code says: refused with its number, or so many bytes written
 abbrev pub combineOutcomeOf : CombineAnswer → Outcome ℕ

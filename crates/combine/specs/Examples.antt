@@ -1,9 +1,9 @@
--- A worked example: a rule of two states that alternate, with letters 0 and 1, and a property of two states whose edges into
+-- Worked examples: a rule of two states that alternate, with letters 0 and 1, and a property of two states whose edges into
 -- state 1 read letter 1; state 1 is marked.
 use Prim.Native.Nat.{ℕ}
 use mathlib.Core.Path.{_≡_}
 use mathlib.Core.List.{List, [], _∷_, _++_}
-use lib.ListN.{length, replicate}
+use lib.ListN.{replicate}
 use Rattle.lasso.specs.Roll.{roll}
 use Rattle.model.specs.Model.{graphOf}
 use Rattle.outcomes.specs.Outcome.{Outcome, refused, answered}
@@ -41,15 +41,50 @@ exampleResult =
     2 ∷ 0 ∷ 2 ∷ 0 ∷ 1 ∷ 0 ∷ 1 ∷ 0 ∷
     10 ∷ []
 
+-- A second example, in which no two numbers can be taken for one another: a rule of two states, 0→1, 1→0, 1→1, which starts
+-- at 1 and whose own mark, 0, does not count,
+abbrev pub secondRule : List ℕ
+secondRule =
+    2 ∷ 0 ∷ 3 ∷ 0 ∷ 1 ∷ 0 ∷ 0 ∷ 0 ∷
+    24 ∷ 0 ∷ 0 ∷ 0 ∷ 30 ∷ 0 ∷ 0 ∷ 0 ∷ 36 ∷ 0 ∷ 0 ∷ 0 ∷ 37 ∷ 0 ∷ 0 ∷ 0 ∷
+    0 ∷ 0 ∷ 1 ∷ 0 ∷ 3 ∷ 0 ∷
+    1 ∷ 0 ∷ 0 ∷ 0 ∷ 1 ∷ 0 ∷
+    1 ∷ []
+
+-- with the letters 0 and 5,
+abbrev pub secondLetters : List ℕ
+secondLetters = 0 ∷ 5 ∷ []
+
+-- and a property of three states, which starts at 2: 0→1 by letter 0, 0→2 by 5, 1→0 by 0 and 5, 1→2 by 15, 2→0 by all; state 2
+-- is marked
+abbrev pub secondProperty : List ℕ
+secondProperty =
+    3 ∷ 0 ∷ 5 ∷ 0 ∷ 2 ∷ 0 ∷ 0 ∷ 0 ∷
+    24 ∷ 0 ∷ 0 ∷ 0 ∷ 32 ∷ 0 ∷ 0 ∷ 0 ∷ 42 ∷ 0 ∷ 0 ∷ 0 ∷ 53 ∷ 0 ∷ 0 ∷ 0 ∷
+    0 ∷ 0 ∷ 2 ∷ 0 ∷ 4 ∷ 0 ∷ 5 ∷ 0 ∷
+    1 ∷ 0 ∷ 2 ∷ 0 ∷ 0 ∷ 0 ∷ 2 ∷ 0 ∷ 0 ∷ 0 ∷
+    4 ∷
+    1 ∷ 0 ∷ 32 ∷ 0 ∷ 33 ∷ 0 ∷ 0 ∷ 128 ∷ 255 ∷ 255 ∷ []
+
+-- its combination: 0→4, 1→3, 2→3, 3→2, 3→5, 4→0, 4→3, 5→0, 5→3, which starts at 5; states 2 and 5 are marked
+abbrev pub secondResult : List ℕ
+secondResult =
+    6 ∷ 0 ∷ 9 ∷ 0 ∷ 5 ∷ 0 ∷ 0 ∷ 0 ∷
+    24 ∷ 0 ∷ 0 ∷ 0 ∷ 38 ∷ 0 ∷ 0 ∷ 0 ∷ 56 ∷ 0 ∷ 0 ∷ 0 ∷ 57 ∷ 0 ∷ 0 ∷ 0 ∷
+    0 ∷ 0 ∷ 1 ∷ 0 ∷ 2 ∷ 0 ∷ 3 ∷ 0 ∷ 5 ∷ 0 ∷ 7 ∷ 0 ∷ 9 ∷ 0 ∷
+    4 ∷ 0 ∷ 3 ∷ 0 ∷ 3 ∷ 0 ∷ 2 ∷ 0 ∷ 5 ∷ 0 ∷ 0 ∷ 0 ∷ 3 ∷ 0 ∷ 0 ∷ 0 ∷ 3 ∷ 0 ∷
+    36 ∷ []
+
 -- what the example's combination answers with so many bytes of output
 abbrev pub exampleAnswer : ℕ → Outcome ℕ
-exampleAnswer out = combineOutcome exampleRule exampleLetters exampleProperty out
+exampleAnswer room = combineOutcome exampleRule exampleLetters exampleProperty room
 
--- The example: 43 bytes are written and a later byte does not change; with 42 bytes of output it is refused 15, and the
--- output is untouched; the shortest accepting path of the result is 0 2 1 2, the only one.
-pub record ExampleHolds : Type 0 where
+-- The examples: 43 bytes are written and a later byte does not change; with 42 bytes of output it is refused 15, and the
+-- output is untouched; the shortest accepting path of the result is 0 2 1 2, the only one. The second one's 57 bytes.
+pub record ExamplesOfCombining : Type 0 where
   pub bytes : exampleAnswer 45 ≡ answered 43
   pub output : combineOutput exampleRule exampleLetters exampleProperty (replicate 45 9) ≡ exampleResult ++ 9 ∷ 9 ∷ []
   pub short : exampleAnswer 42 ≡ refused 15
   pub untouched : combineOutput exampleRule exampleLetters exampleProperty (replicate 42 9) ≡ replicate 42 9
   pub shortest : roll (graphOf exampleResult) ≡ (0 ∷ 2 ∷ 1 ∷ 2 ∷ []) ∷ []
+  pub second : combineOutput secondRule secondLetters secondProperty (replicate 57 9) ≡ secondResult

@@ -25,11 +25,11 @@ pub enum CombineAnswer {
 // Combines a rule, whose states have the letters, with a property, and writes the combination as a model file from the
 // first byte of the output on. Refused: the rule's 1 to 11, 16 for the letters, 17 for the property, 18 for a result that
 // is too large, 15 for an output that is too short.
-pub fn combine(rule: &[u8], letters: &[u8], property: &[u8], out: &mut [u8]) -> CombineAnswer
+pub fn combine(rule: &[u8], letters: &[u8], property: &[u8], output: &mut [u8]) -> CombineAnswer
     ensures outcome { λ r. ⌜ combineOutcomeOf r ≡ combineOutcome (now (rule .entry)) (now (letters .entry))
-        (now (property .entry)) (length (now (out .entry))) ⌝ }
-    ensures output { λ _. ⌜ now (out .exit) ≡ combineOutput (now (rule .entry)) (now (letters .entry))
-        (now (property .entry)) (now (out .entry)) ⌝ }
+        (now (property .entry)) (length (now (output .entry))) ⌝ }
+    ensures output { λ _. ⌜ now (output .exit) ≡ combineOutput (now (rule .entry)) (now (letters .entry))
+        (now (property .entry)) (now (output .entry)) ⌝ }
 {
     let checked = check(rule);
     match checked {
@@ -38,7 +38,7 @@ pub fn combine(rule: &[u8], letters: &[u8], property: &[u8], out: &mut [u8]) -> 
             if letters_broken(letters, h.states) {
                 return CombineAnswer::Refused(16);
             }
-            with_property(rule, h, letters, property, out)
+            with_property(rule, h, letters, property, output)
         }
     }
 }
@@ -66,23 +66,23 @@ fn with_property(
     h: Header,
     letters: &[u8],
     property: &[u8],
-    out: &mut [u8],
+    output: &mut [u8],
 ) -> CombineAnswer
     requires { ⌜ Valid (now rule) h ⌝ }
     requires { ⌜ badLetters (states (now rule)) (now letters) ≡ false ⌝ }
     ensures outcome { λ r. ⌜ combineOutcomeOf r ≡ combineOutcome (now (rule .entry)) (now (letters .entry))
-        (now (property .entry)) (length (now (out .entry))) ⌝ }
-    ensures output { λ _. ⌜ now (out .exit) ≡ combineOutput (now (rule .entry)) (now (letters .entry))
-        (now (property .entry)) (now (out .entry)) ⌝ }
+        (now (property .entry)) (length (now (output .entry))) ⌝ }
+    ensures output { λ _. ⌜ now (output .exit) ≡ combineOutput (now (rule .entry)) (now (letters .entry))
+        (now (property .entry)) (now (output .entry)) ⌝ }
 {
     let checked = check_property(property);
     match checked {
         Checked::Refused(_) => CombineAnswer::Refused(17),
-        Checked::Accept(p) => {
-            if has_zero_mask(property, p) {
+        Checked::Accept(k) => {
+            if has_zero_mask(property, k) {
                 return CombineAnswer::Refused(17);
             }
-            within_limits(rule, h, letters, property, p, out)
+            within_limits(rule, h, letters, property, k, output)
         }
     }
 }
@@ -93,30 +93,30 @@ fn within_limits(
     h: Header,
     letters: &[u8],
     property: &[u8],
-    p: Header,
-    out: &mut [u8],
+    k: Header,
+    output: &mut [u8],
 ) -> CombineAnswer
     requires { ⌜ Valid (now rule) h ⌝ }
     requires { ⌜ badLetters (states (now rule)) (now letters) ≡ false ⌝ }
-    requires { ⌜ ValidProperty (now property) p ⌝ }
+    requires { ⌜ ValidProperty (now property) k ⌝ }
     requires { ⌜ badProperty (now property) ≡ false ⌝ }
     ensures outcome { λ r. ⌜ combineOutcomeOf r ≡ combineOutcome (now (rule .entry)) (now (letters .entry))
-        (now (property .entry)) (length (now (out .entry))) ⌝ }
-    ensures output { λ _. ⌜ now (out .exit) ≡ combineOutput (now (rule .entry)) (now (letters .entry))
-        (now (property .entry)) (now (out .entry)) ⌝ }
+        (now (property .entry)) (length (now (output .entry))) ⌝ }
+    ensures output { λ _. ⌜ now (output .exit) ≡ combineOutput (now (rule .entry)) (now (letters .entry))
+        (now (property .entry)) (now (output .entry)) ⌝ }
 {
-    let states = h.states * p.states;
+    let states = h.states * k.states;
     if 4096 < states {
         return CombineAnswer::Refused(18);
     }
-    let edges = count_edges(rule, h, letters, property, p);
+    let edges = count_edges(rule, h, letters, property, k);
     if 8192 < edges {
         return CombineAnswer::Refused(18);
     }
     let total = total_of(states, edges);
-    if out.len() < total {
+    if output.len() < total {
         return CombineAnswer::Refused(15);
     }
-    let written = write_product(out, rule, h, letters, property, p, edges);
+    let written = write_product(output, rule, h, letters, property, k, edges);
     CombineAnswer::Written(written)
 }

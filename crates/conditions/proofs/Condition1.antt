@@ -7,7 +7,7 @@ use mathlib.Core.Option.{Option, some, none}
 use native.Mathlib.Omega.{arith}
 use lib.ListN.{length, replicate}
 use lib.Dec.{T}
-use Rattle.lasso.specs.Graph.{ascendingb}
+use Rattle.lasso.specs.Lists.{differentb}
 use Rattle.lasso.specs.Following.{following}
 use Rattle.lasso.specs.Roll.{roll}
 use Rattle.model.specs.Model.{graphOf}
@@ -17,9 +17,10 @@ use Rattle.outcomes.specs.Tables.{written, listReasons, unlessRefused}
 use Rattle.step.specs.Step.{stepped}
 use Rattle.search.specs.Search.{searched, firstDue, searchReasons}
 use Rattle.next.specs.Next.{followed, dueReasons, nextReasons}
+use Rattle.combine.specs.Combine.{combinedFile, combineReasons}
 use Rattle.gate.specs.Gate.{commonRules, workAfter, workOf}
 use Rattle.conditions.specs.Reasons.{numbersOf}
-use Rattle.conditions.specs.Condition1.{stepNumbers, searchNumbers, nextNumbers, Refuses, AnswerKept, WorkLeft, Condition1Holds}
+use Rattle.conditions.specs.Condition1.{stepNumbers, searchNumbers, nextNumbers, combineNumbers, Refuses, AnswerKept, WorkLeft, Condition1Holds}
 use Rattle.conditions.proofs.FirstLaws.{noneHolds-firstBroken, clear-none, broken-first, first-broken, betweenb, broken-between, refused-some, answered-none}
 use Rattle.format.proofs.Reasons.{clear-append, broken-append}
 
@@ -28,11 +29,11 @@ refused-answered : {A : Type 0} {n : ℕ} {x : A} → refused n ≡ answered x �
 refused-answered e = let z : _≡_ {A = ℕ} 0 1 = cc in omega arith
 
 -- a call that is refused with the first of its reasons that holds, and answered otherwise
-refuses : {A : Type 0} (reasons : List Reason) (numbers : List ℕ) (x : A) → numbersOf reasons ≡ numbers → T (ascendingb numbers)
+refuses : {A : Type 0} (reasons : List Reason) (numbers : List ℕ) (x : A) → numbersOf reasons ≡ numbers → T (differentb numbers)
     → Refuses reasons numbers (outcome (firstBroken reasons) x)
-refuses reasons numbers x are ascend = record {
+refuses reasons numbers x are differ = record {
   numbers-are = are;
-  numbers-ascend = ascend;
+  numbers-differ = differ;
   refused-exactly = λ n. (
     λ e. broken-first reasons n (refused-some (firstBroken reasons) x n e),
     λ h. ap (λ (o : Option ℕ). outcome o x) (first-broken reasons n h),
@@ -105,5 +106,12 @@ condition-1 = record {
         refuses = refuses reasons nextNumbers (followed due) refl tt;
         answer = answer-kept (firstBroken reasons) (followed due) due a;
         work = work-left-behind f w (dueReasons f earlier due (length a)) (followed due) tt;
+      };
+  combine = λ f letters p output.
+      let file = combinedFile f letters p in
+      let reasons = combineReasons f letters p (length output) in
+      record {
+        refuses = refuses reasons combineNumbers (length file) refl tt;
+        kept = answer-kept (firstBroken reasons) (length file) (some file) output;
       };
 }

@@ -5,8 +5,7 @@ use mathlib.Core.Logic.{_↔_}
 use mathlib.Core.List.{List, [], _∷_, _++_}
 use lib.ListN.{length, replicate}
 use lib.Dec.{T}
-use Rattle.lasso.specs.Lists.{upFrom}
-use Rattle.lasso.specs.Graph.{ascendingb}
+use Rattle.lasso.specs.Lists.{upFrom, differentb}
 use Rattle.lasso.specs.Rounds.{Record}
 use Rattle.gate.specs.declared.Ask.{Ask}
 use Rattle.format.specs.Rules.{Reason}
@@ -14,6 +13,7 @@ use Rattle.outcomes.specs.Outcome.{Outcome, refused, answered}
 use Rattle.step.specs.Step.{stepOutcome}
 use Rattle.search.specs.Search.{searchReasons, searchOutcome, searchAnswer}
 use Rattle.next.specs.Next.{nextReasons, nextOutcome, nextAnswer}
+use Rattle.combine.specs.Combine.{combineReasons, combineOutcome, combineOutput}
 use Rattle.gate.specs.Gate.{commonRules, workOf}
 use Rattle.conditions.specs.Reasons.{numbersOf, NoneHolds, FirstHolds}
 
@@ -27,16 +27,20 @@ searchNumbers = upFrom 1 12 ++ 14 ∷ 15 ∷ []
 abbrev pub nextNumbers : List ℕ
 nextNumbers = upFrom 1 15
 
--- a call with these reasons: they have these numbers, which ascend, so that no two have the same; the call is refused with
--- n exactly if reason n holds and none before it, answered exactly if no reason holds, and never both
+-- a combination applies 1 to 11 to its rule, then 16, 17 and 18, last 15
+abbrev pub combineNumbers : List ℕ
+combineNumbers = upFrom 1 11 ++ 16 ∷ 17 ∷ 18 ∷ 15 ∷ []
+
+-- a call with these reasons: they have these numbers, in this order, and no two have the same; the call is refused with n
+-- exactly if reason n holds and none before it, answered exactly if no reason holds, and never both
 pub record Refuses {A : Type 0} (reasons : List Reason) (numbers : List ℕ) (o : Outcome A) : Type 0 where
   pub numbers-are : numbersOf reasons ≡ numbers
-  pub numbers-ascend : T (ascendingb numbers)
+  pub numbers-differ : T (differentb numbers)
   pub refused-exactly : (n : ℕ) → (o ≡ refused n) ↔ FirstHolds reasons n
   pub answered-exactly : ((x : A) × (o ≡ answered x)) ↔ NoneHolds reasons
   pub not-both : (n : ℕ) (x : A) → o ≡ refused n → o ≡ answered x → ⊥
 
--- the answer table after a refusal is the one lent
+-- the answer table, or the output, after a refusal is the one lent
 abbrev pub AnswerKept : {A : Type 0} → Outcome A → List ℕ → List ℕ → Type 0
 AnswerKept o a a' = (n : ℕ) → o ≡ refused n → a' ≡ a
 
@@ -66,8 +70,15 @@ pub record NextCondition1 (f earlier a w : List ℕ) : Type 0 where
   pub answer : AnswerKept (nextOutcome f earlier (length a) (length w)) a (nextAnswer f earlier a (length w))
   pub work : WorkLeft (nextOutcome f earlier (length a) (length w)) w (workOf f w)
 
+-- a combination, which is lent an output and no tables
+pub record CombineCondition1 (f letters p output : List ℕ) : Type 0 where
+  pub refuses : Refuses (combineReasons f letters p (length output)) combineNumbers
+      (combineOutcome f letters p (length output))
+  pub kept : AnswerKept (combineOutcome f letters p (length output)) output (combineOutput f letters p output)
+
 -- condition 1: for every call, whatever is given and lent
 pub record Condition1Holds : Type 0 where
   pub step : (f : List ℕ) (rec : Record) (w : List ℕ) → StepCondition1 f rec w
   pub search : (f : List ℕ) (ask : Ask) (a w : List ℕ) → SearchCondition1 f ask a w
   pub next : (f earlier a w : List ℕ) → NextCondition1 f earlier a w
+  pub combine : (f letters p output : List ℕ) → CombineCondition1 f letters p output

@@ -1,9 +1,10 @@
 -- The text of the desk sheet program, for every input.
 use Prim.Native.Nat.{ℕ}
 use mathlib.Core.Bool.{Bool}
-use mathlib.Core.List.{List, []}
+use mathlib.Core.List.{List}
 use mathlib.Core.Option.{Option}
-use Rattle.lasso.specs.Lists.{pick}
+use Rattle.reading.specs.Sizes.{fileBytes}
+use Rattle.reading.specs.Reading.{inputOf}
 use Rattle.sheet_text.specs.SheetText.{sheetRefusal, sheetText}
 
 -- the entries of the answer table
@@ -16,7 +17,7 @@ workEntries = 24576
 
 -- the bytes of the buffer that an input is read into: one more than the longest file has
 abbrev pub inputBytes : ℕ
-inputBytes = 25115
+inputBytes = fileBytes
 
 -- the reason to refuse an input, if there is one
 abbrev pub inputRefusal : List ℕ → Option ℕ
@@ -28,4 +29,4 @@ inputText input = sheetText input answerEntries workEntries
 
 -- the text for what was read of an input: one that could not be read to its end, since a read failed, counts as empty
 abbrev pub deskText : (failed : Bool) (read : List ℕ) → List ℕ
-deskText failed read = inputText (pick failed [] read)
+deskText failed read = inputText (inputOf failed read)

@@ -2,4 +2,3 @@
 pub mod Desk
 pub mod Sizes
 pub mod Examples
-pub mod Reading

@@ -1,13 +1,11 @@
 // The desk sheet program, but for its `main`: an input is read from one descriptor, its sheet is printed to another.
 ghost use mathlib.Core.Path.{_≡_};
 ghost use Prim.Native.Nat.{_≤_};
-ghost use lib.ListN.{length, take};
-ghost use Rattle.text.specs.Writing.{Wrote, Within};
+ghost use lib.ListN.{length};
+ghost use Rattle.text.specs.Writing.{Wrote};
 ghost use Rattle.sheet_text.specs.SheetText.{sheetRoom};
-ghost use Rattle.desk.specs.Desk.{answerEntries, workEntries, inputBytes, inputText, deskText};
-
-mod reading;
-
+ghost use Rattle.desk.specs.Desk.{answerEntries, workEntries, inputText, deskText};
+use reading::input_bytes;
 use reading::read_input;
 use sheet::sheet;
 
@@ -16,21 +14,6 @@ const INPUT_ROOM: usize = 25_115;
 
 // The bytes of the buffer for a text: no sheet is longer.
 const TEXT_ROOM: usize = 410_000;
-
-// The number of bytes at the front of what was read that decide its text: none if a read failed, else at most so many.
-fn deciding_bytes(read: &[u8], failed: bool, most: usize) -> usize
-    requires { ⌜ inputBytes ≤ most ⌝ }
-    ensures within { λ r. ⌜ Within r (now (read .entry)) ⌝ }
-    ensures text { λ r. ⌜ inputText (take r (now (read .entry))) ≡ deskText failed (now (read .entry)) ⌝ }
-{
-    if failed {
-        return 0;
-    }
-    if read.len() < most {
-        return read.len();
-    }
-    most
-}
 
 // Writes the sheet of an input with tables and a text of the program's sizes.
 fn write_sheet(input: &[u8], answer: &mut [u16], work: &mut [u16], text: &mut [u8]) -> usize
@@ -49,14 +32,14 @@ pub fn desk_sheet(read: &[u8], failed: bool, text: &mut [u8; TEXT_ROOM]) -> usiz
 {
     let mut answer = [0u16; 4097];
     let mut work = [0u16; 24576];
-    let enough = deciding_bytes(read, failed, INPUT_ROOM);
+    let enough = input_bytes(read, failed, INPUT_ROOM);
     write_sheet(&read[..enough], &mut answer, &mut work, text)
 }
 
 // Reads an input from a descriptor, prints its sheet to another, and answers whether all of the sheet was printed.
 pub fn print_sheet(from: i32, to: i32) -> bool {
     let mut input = [0u8; INPUT_ROOM];
-    let reading = read_input(from, &mut input);
+    let reading = read_input(from, &mut input, INPUT_ROOM);
     let count = reading.count;
     let failed = reading.failed;
     let mut text = [0u8; TEXT_ROOM];

@@ -2,8 +2,8 @@
 -- says, which reasons are left to decide behind it, and what becomes of the working table.
 use Prim.Native.Nat.{ℕ, _*_, _≤_, _<_}
 use mathlib.Core.Path.{_≡_, refl, sym, _∙_, ap}
-use mathlib.Core.Bool.{Bool, true, false}
-use mathlib.Core.List.{List, [], _∷_, _++_}
+use mathlib.Core.Bool.{Bool}
+use mathlib.Core.List.{List, [], _∷_}
 use mathlib.Core.Option.{Option, some, none}
 use mathlib.Core.Logic.{inl, inr}
 use native.Mathlib.Omega.{arith}
@@ -16,7 +16,7 @@ use Rattle.format.specs.Rules.{Reason, firstBroken, rules, Accepted}
 use Rattle.model.specs.declared.Header.{Header}
 use Rattle.model.specs.declared.Checked.{Checked}
 use Rattle.model.specs.declared.Checked.the-variants.{Refused, Accept}
-use Rattle.model.specs.Values.{answerOf, checkOf, Valid}
+use Rattle.model.specs.Values.{answerOf, Valid}
 use Rattle.format.proofs.Reasons.{clear-append, broken-append, append-clear}
 use Rattle.model.proofs.Laws.{valid-sizes}
 use Rattle.gate.specs.Gate.{smallTable, commonRules, gateOf, workAfter, workOf, Zeroed, Passed, GateSays}

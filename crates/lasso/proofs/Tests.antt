@@ -70,6 +70,12 @@ pub T-false : (b : Bool) → T (not b) → b ≡ false
 T-false true h = absurd h
 T-false false h = refl
 
+-- tests that pass in the same cases are the same
+pub same-tests : (a b : Bool) → (T a → T b) → (T b → T a) → a ≡ b
+same-tests true b to back = sym (T-true b (to tt))
+same-tests false true to back = absurd (back tt)
+same-tests false false to back = refl
+
 -- equal numbers pass the test of equality
 pub eq→eqb : (m n : ℕ) → m ≡ n → T (eqb m n)
 eq→eqb m n e = rw (← e) (eqb-refl m)

@@ -16,7 +16,7 @@ use Rattle.lasso.proofs.Tests.{lt-or-ge, memb-mem, upFrom-range}
 use Rattle.format.specs.Bytes.{words}
 use Rattle.format.specs.Layout.{states, edgeCount, initial, markBytes, totalOf, rowEntry, target, rowTargets, markBit}
 use Rattle.format.specs.Rules.{firstBroken, rulesWith, Accepted}
-use Rattle.model.specs.Model.{graphIn, graphOf, stepsOf, listIf}
+use Rattle.model.specs.Model.{rowGraph, graphIn, graphOf, stepsOf, listIf}
 use Rattle.model.specs.declared.Header.{Header}
 use Rattle.model.specs.Values.{Valid, headerOf}
 use Rattle.format.proofs.Reasons.{none-clear, not-not}
@@ -79,7 +79,7 @@ row-targets-below {f} F s t l h =
     omega (arith, m .2, F .targets-below e (omega (arith, row-end-le F s l, F .rows-ascend s l)))
 
 -- a number from the number of states on has no edge
-edge-from-state : (f : List ℕ) (h : Header) (s t : ℕ) → T (edgeb (graphIn f h) s t) → (s < h .states) × T (memb t (rowTargets f s))
+edge-from-state : (f : List ℕ) (h : Header) (s t : ℕ) → T (edgeb (rowGraph f h) s t) → (s < h .states) × T (memb t (rowTargets f s))
 edge-from-state f h s t e =
     (elim (ltb s (h .states)) as (λ b. ltb s (h .states) ≡ b → T (memb t (listIf b (rowTargets f s))) → (s < h .states) × T (memb t (rowTargets f s))) [
       | true ↦ λ q m. (ltb-true s (h .states) q, m)
@@ -105,16 +105,16 @@ marked-bit f h s l = rw (lt-ltb s (h .states) l)
 pub succs-none : (f : List ℕ) (h : Header) (s : ℕ) → h .states ≤ s → graphIn f h .succs s ≡ []
 succs-none f h s l = rw (le-ltb s (h .states) l)
 
--- the successors of every number ascend strictly
-succs-ascend : {f : List ℕ} → Facts f → (s : ℕ) → T (ascendingb (graphOf f .succs s))
+-- the targets of every number's row ascend strictly
+succs-ascend : {f : List ℕ} → Facts f → (s : ℕ) → T (ascendingb (rowGraph f (headerOf f) .succs s))
 succs-ascend {f} F s =
     elim (lt-or-ge s (states f)) [
       | inl l ↦ rw (lt-ltb s (states f) l) (F .targets-ascend s l)
       | inr g ↦ rw (le-ltb s (states f) g) tt
     ]
 
--- the graph of a file that keeps the rules of its kind is well formed
-pub facts-well-formed : {f : List ℕ} → Facts f → WellFormed (graphOf f)
+-- the graph of the rows of a file that keeps the rules of its kind is well formed
+pub facts-well-formed : {f : List ℕ} → Facts f → WellFormed (rowGraph f (headerOf f))
 facts-well-formed {f} F =
     record {
       start-state = F .initial-below;

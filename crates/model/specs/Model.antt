@@ -14,16 +14,20 @@ abbrev pub listIf : Bool → List ℕ → List ℕ
 listIf true xs = xs
 listIf false xs = []
 
--- the model of a file, read by a header: the header's states and initial state, the file's edges by rows and its marks;
--- no number from the number of states on has an edge or a mark
-abbrev pub graphIn : List ℕ → Header → Graph
-graphIn f h =
+-- the graph of a file's rows and marks, read by a header: the header's states and initial state, the file's edges by rows
+-- and its marks; no number from the number of states on has an edge or a mark
+abbrev pub rowGraph : List ℕ → Header → Graph
+rowGraph f h =
     record {
       size = h .states;
       start = h .start;
       succs = λ s. listIf (ltb s (h .states)) (rowTargets f s);
       marked = λ s. ltb s (h .states) && markBit f s;
     }
+
+-- the model of a file, read by a header: the graph of its rows and marks
+abbrev pub graphIn : List ℕ → Header → Graph
+graphIn f h = rowGraph f h
 
 -- the model of a file, read by its own header
 abbrev pub graphOf : List ℕ → Graph

@@ -35,11 +35,11 @@ chosen-take-le letter (m ∷ ms) (t ∷ ts) (suc k) =
     cons-le (bitb m letter) t (chosen letter (take k ms) (take k ts)) (chosen letter ms ts) (chosen-take-le letter ms ts k)
 
 -- entries below a bound stay below it with another in front
-cons-below : (b : Bool) (t size : ℕ) (xs : List ℕ) → t < size → ((j : ℕ) → j < length xs → getD xs j 0 < size)
+chosen-cons-below : (b : Bool) (t size : ℕ) (xs : List ℕ) → t < size → ((j : ℕ) → j < length xs → getD xs j 0 < size)
     → (j : ℕ) → j < length (consIf b t xs) → getD (consIf b t xs) j 0 < size
-cons-below true t size xs l h zero less = l
-cons-below true t size xs l h (suc j) less = h j (omega arith)
-cons-below false t size xs l h j less = h j less
+chosen-cons-below true t size xs l h zero less = l
+chosen-cons-below true t size xs l h (suc j) less = h j (omega arith)
+chosen-cons-below false t size xs l h j less = h j less
 
 -- the chosen targets are below a bound that all targets are below
 pub chosen-below : (letter size : ℕ) (ms ts : List ℕ) → ((k : ℕ) → k < length ts → getD ts k 0 < size)
@@ -47,7 +47,7 @@ pub chosen-below : (letter size : ℕ) (ms ts : List ℕ) → ((k : ℕ) → k <
 chosen-below letter size [] ts h j less = absurd (omega arith)
 chosen-below letter size (m ∷ ms) [] h j less = absurd (omega arith)
 chosen-below letter size (m ∷ ms) (t ∷ ts) h j less =
-    cons-below (bitb m letter) t size (chosen letter ms ts) (h 0 (omega arith))
+    chosen-cons-below (bitb m letter) t size (chosen letter ms ts) (h 0 (omega arith))
     (chosen-below letter size ms ts (λ (k : ℕ) (l : k < length ts). h (suc k) (omega arith))) j less
 
 module _ (letter base : ℕ) (ms ts : List ℕ) where

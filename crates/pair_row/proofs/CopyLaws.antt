@@ -3,13 +3,13 @@ use Prim.Native.Nat.{ℕ, _+_, _*_, _-_, _<_}
 use mathlib.Core.Path.{_≡_, sym, ap, _∙_}
 use mathlib.Core.List.{List, _++_, map}
 use native.Mathlib.Omega.{arith}
-use lib.ListN.{length, getD, length-map}
+use lib.ListN.{length, getD}
 use Rattle.lasso.specs.Lists.{below}
 use Rattle.format.specs.Bytes.{word}
 use Rattle.text.specs.Writing.{Wrote}
 use Rattle.text.proofs.WroteLaws.{wrote-then, wrote-as}
 use Rattle.writer.specs.File.{word16, words16}
-use Rattle.writer.proofs.FileLaws.{words16-length, words16-append, upFrom-length, map-below-next}
+use Rattle.writer.proofs.FileLaws.{words16-length, words16-append, map-below-length, map-below-next}
 use Rattle.writer.proofs.PutLaws.{put, wrote-put, put-at-before}
 use Rattle.pair_row.specs.Row.{copied}
 
@@ -27,8 +27,7 @@ module _ (out : List ℕ) (from base other : ℕ) where
       omega (
         arith,
         words16-length (copied out from count base other),
-        length-map (below count) (λ (j : ℕ). other + (word out (from + 2 * j) - base)),
-        upFrom-length 0 count,
+        map-below-length (λ (j : ℕ). other + (word out (from + 2 * j) - base)) count,
       )
 
   -- one number more

@@ -11,7 +11,7 @@ use Rattle.text.specs.Writing.{Wrote}
 use Rattle.text.proofs.WroteLaws.{wrote-none, wrote-then, wrote-as, wrote-length}
 use Rattle.text.proofs.CollectLaws.{collect-next, collect-room}
 use Rattle.writer.specs.File.{words16}
-use Rattle.writer.proofs.FileLaws.{words16-length, words16-append, word-words16, upFrom-length, map-below-at}
+use Rattle.writer.proofs.FileLaws.{words16-length, words16-append, word-words16, map-below-length, map-below-at}
 use Rattle.writer.proofs.PutLaws.{wrote-put, put-at}
 use Rattle.pair_row.specs.Row.{block, rowOf, copied, BlockFits}
 
@@ -24,7 +24,7 @@ map-at f (x ∷ xs) (suc j) l = map-at f xs j (omega arith)
 -- a table of the numbers below a list's length is the list's image if its entries are those of the list
 table-map : (f g : ℕ → ℕ) (xs : List ℕ) → ((j : ℕ) → j < length xs → f j ≡ g (getD xs j 0)) → map f (below (length xs)) ≡ map g xs
 table-map f g xs h =
-    let n : length (map f (below (length xs))) ≡ length xs = length-map (below (length xs)) f ∙ upFrom-length 0 (length xs) in
+    let n : length (map f (below (length xs))) ≡ length xs = map-below-length f (length xs) in
     ext-getD 0 (map f (below (length xs))) (map g xs) (n ∙ sym (length-map xs g)) (λ (j : ℕ) (l : j < length (map f (below (length xs)))).
     let less : j < length xs = omega arith in
     map-below-at f (length xs) j less ∙ h j less ∙ sym (map-at g xs j less))
@@ -68,11 +68,11 @@ module _ (size : ℕ) (qs : List ℕ) where
       )
 
   -- the first block's entries stand first, once a block is there
-  row-first : (ss : List ℕ) (k j : ℕ) → 1 ≤ k → 1 ≤ length ss → j < length qs
+  row-starts-with-block : (ss : List ℕ) (k j : ℕ) → 1 ≤ k → 1 ≤ length ss → j < length qs
       → getD (rowOf size (take k ss) qs) j 0 ≡ getD ss 0 0 * size + getD qs j 0
-  row-first [] k j some least less = absurd (omega arith)
-  row-first (s ∷ ss) zero j some least less = absurd (omega arith)
-  row-first (s ∷ ss) (suc k) j some least less =
+  row-starts-with-block [] k j some least less = absurd (omega arith)
+  row-starts-with-block (s ∷ ss) zero j some least less = absurd (omega arith)
+  row-starts-with-block (s ∷ ss) (suc k) j some least less =
       let f : ℕ → ℕ = λ q. s * size + q in
       List·getD-append (map f qs) (rowOf size (take k ss) qs) 0 j (omega (arith, length-map qs f)) ∙ map-at f qs j less
 
@@ -83,7 +83,7 @@ module _ (size : ℕ) (ss qs : List ℕ) where
       → word t' (at + 2 * j) ≡ getD ss 0 0 * size + getD qs j 0
   first-block k j some least less w =
       wrote-word (rowOf size (take k ss) qs) j (omega (arith, row-long size qs ss k some least)) w
-      ∙ row-first size qs ss k j some least less
+      ∙ row-starts-with-block size qs ss k j some least less
 
   -- the first block lies before the place behind the blocks that are written
   pub first-before : {t t' : List ℕ} {at next : ℕ} (k : ℕ) → 1 ≤ k → 1 ≤ length ss

@@ -1,6 +1,6 @@
-// Writes the edges of one combined state (s, q) from the parts that hold the rows of s and of q: for each successor s' of s,
-// a block with (s', q') for each q' whose mask holds the letter. The masks are looked at once, for the first block; each
-// further block is made from the first one in the output.
+// Writes the edges of one combined state (s, q) from the parts that hold the rows of s and of q: for each successor s'
+// of s, a block with (s', q') for each q' whose mask holds the letter. The masks are looked at once, for the first
+// block; each further block is made from the first one in the output.
 ghost use mathlib.Core.Path.{_≡_};
 ghost use Prim.Native.Nat.{_+_, _*_, _≤_};
 ghost use lib.ListN.{length};
@@ -68,8 +68,8 @@ fn copy_block(
     next
 }
 
-// Writes the edges of (s, q): a block for each successor of s, from the parts that hold the rows of s and of q, where s has
-// the letter and the property has `size` states.
+// Writes the edges of (s, q): a block for each successor of s, from the parts that hold the rows of s and of q, where s
+// has the letter and the property has `size` states.
 pub fn write_row(
     out: &mut [u8],
     at: usize,

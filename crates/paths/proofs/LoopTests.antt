@@ -1,6 +1,6 @@
 -- The test of a loop with a mark, which goes down from the last place of a list, and the test of a lasso of a length.
 use Prim.Native.Nat.{ℕ, suc, _+_, _-_, _≤_, _<_}
-use mathlib.Core.Path.{_≡_, refl, sym, _∙_}
+use mathlib.Core.Path.{_≡_, sym, _∙_}
 use mathlib.Core.Bool.{Bool, true, false, _&&_, _||_}
 use mathlib.Core.List.{List, List·Memᴰ}
 use native.Mathlib.Omega.{arith}
@@ -9,7 +9,7 @@ use lib.ListN.{length, getD}
 use lib.Dec.{T, eqb, leb, eqb→eq, le→leb, not-T}
 use Rattle.lasso.specs.Lists.{anyb, upFrom, below}
 use Rattle.lasso.specs.Graph.{Graph, edges, pathb, loopsb, lassob}
-use Rattle.lasso.proofs.Tests.{parts, join, and-false, T-true, T-false, eq→eqb, anyb-some, some-anyb, below-lt, lt-below}
+use Rattle.lasso.proofs.Tests.{parts, join, same-tests, and-false, T-true, T-false, eq→eqb, anyb-some, some-anyb, below-lt, lt-below}
 use Rattle.lasso.proofs.RollLaws.{lasso-edges}
 
 -- the numbers from k - 1 up to n: k - 1 in front of those from k on
@@ -78,12 +78,6 @@ unclosed-end {xs = xs} {k = k} U none =
     let e : k ≡ 0 = omega arith in
     let q : edges xs - 0 ≡ edges xs = omega arith in
     rw (e, q) at (U .loopless)
-
--- tests that pass in the same cases are the same
-same-tests : (a b : Bool) → (T a → T b) → (T b → T a) → a ≡ b
-same-tests true b to back = sym (T-true b (to tt))
-same-tests false true to back = absurd (back tt)
-same-tests false false to back = refl
 
 -- the list is a lasso with n transitions
 abbrev pub lassoOf : Graph → List ℕ → ℕ → Bool

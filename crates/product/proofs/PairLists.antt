@@ -1,22 +1,16 @@
 -- The numbers of all pairs of two lists: which they are, and that they ascend.
 use Prim.Native.Nat.{ℕ, _+_, _*_, _<_}
 use native.Mathlib.Omega.{arith}
-use mathlib.Core.Path.{_≡_, refl, sym, subst}
-use mathlib.Core.Bool.{Bool, true, false, _&&_}
+use mathlib.Core.Path.{_≡_, subst}
+use mathlib.Core.Bool.{Bool, _&&_}
 use mathlib.Core.List.{List, [], _∷_, map, List·Memᴰ, Memᴰ·map, Memᴰ·of-map}
 use lib.Dec.{T, ltb, ltb→lt, lt→ltb}
 use Rattle.lasso.specs.Lists.{memb, keep, collect}
 use Rattle.lasso.specs.Graph.{ascendingb}
-use Rattle.lasso.proofs.Tests.{fst, snd, both, T-true, memb-mem, mem-memb, keep-mem, mem-keep}
+use Rattle.lasso.proofs.Tests.{fst, snd, both, same-tests, memb-mem, mem-memb, keep-mem, mem-keep}
 use Rattle.lasso.proofs.Sorted.{All, Sorted, all-mem, all-of-mem, all-map, sorted-map, sorted-keep, sorted-collect}
 use Rattle.lasso.proofs.OrderLaws.{mem-collect, collect-mem}
 use Rattle.product.proofs.PairLaws.{pair-lt, pair-first, pair-second}
-
--- tests that pass together are equal
-pub same-tests : (a b : Bool) → (T a → T b) → (T b → T a) → a ≡ b
-same-tests true b to back = sym (T-true b (to tt))
-same-tests false true to back = absurd (back tt)
-same-tests false false to back = refl
 
 -- each entry is less than every later one
 abbrev pub Ascending : List ℕ → Type 0

@@ -6,7 +6,7 @@ use mathlib.Core.Path.{_≡_, refl, sym, ap, ap₂, _∙_}
 use mathlib.Core.Logic.{inl, inr}
 use mathlib.Core.Bool.{Bool, true, false, _&&_}
 use mathlib.Core.List.{List, [], _∷_, map}
-use lib.ListN.{length}
+use lib.ListN.{length, length-map}
 use lib.Dec.{eqb, eqb→eq, eqb-refl}
 use Rattle.lasso.specs.Lists.{memb}
 use Rattle.lasso.specs.Graph.{Graph, WellFormed, edgeb, pathb}
@@ -27,16 +27,16 @@ regroup true true false true true z = refl
 regroup true true true x y z = refl
 
 -- the first entry of a list of numbers below n is below n
-pub head-below : (n x : ℕ) (xs : List ℕ) → ListBelow n (x ∷ xs) → x < n
-head-below n x xs h = h x (or-l (eqb x x) (memb x xs) (eqb-refl x))
+pub list-below-head : (n x : ℕ) (xs : List ℕ) → ListBelow n (x ∷ xs) → x < n
+list-below-head n x xs h = h x (or-l (eqb x x) (memb x xs) (eqb-refl x))
 
 -- the rest of a list of numbers below n is one
-pub tail-below : (n x : ℕ) (xs : List ℕ) → ListBelow n (x ∷ xs) → ListBelow n xs
-tail-below n x xs h y m = h y (or-r (eqb y x) (memb y xs) m)
+pub list-below-tail : (n x : ℕ) (xs : List ℕ) → ListBelow n (x ∷ xs) → ListBelow n xs
+list-below-tail n x xs h y m = h y (or-r (eqb y x) (memb y xs) m)
 
 -- a number below n in front of a list of such numbers makes one
-pub cons-below : (n x : ℕ) (xs : List ℕ) → x < n → ListBelow n xs → ListBelow n (x ∷ xs)
-cons-below n x xs l h y m =
+pub list-below-cons : (n x : ℕ) (xs : List ℕ) → x < n → ListBelow n xs → ListBelow n (x ∷ xs)
+list-below-cons n x xs l h y m =
     elim (either (eqb y x) (memb y xs) m) [
       | inl e ↦ let q : y ≡ x = eqb→eq y x e in omega arith
       | inr k ↦ h y k
@@ -46,12 +46,7 @@ cons-below n x xs l h y m =
 pub map-below : (f : ℕ → ℕ) (n m : ℕ) → ((x : ℕ) → x < n → f x < m) → (xs : List ℕ) → ListBelow n xs → ListBelow m (map f xs)
 map-below f n m k [] h = λ y t. absurd t
 map-below f n m k (x ∷ xs) h =
-    cons-below m (f x) (map f xs) (k x (head-below n x xs h)) (map-below f n m k xs (tail-below n x xs h))
-
--- a map keeps the length
-pub map-length : (f : ℕ → ℕ) (xs : List ℕ) → length (map f xs) ≡ length xs
-map-length f [] = refl
-map-length f (x ∷ xs) = ap suc (map-length f xs)
+    list-below-cons m (f x) (map f xs) (k x (list-below-head n x xs h)) (map-below f n m k xs (list-below-tail n x xs h))
 
 module _ (p : Property) where
   -- the list of pairs of two lists of one length has that length
@@ -65,26 +60,26 @@ module _ (p : Property) where
   pairs-below n [] qs h k = λ y t. absurd t
   pairs-below n (s ∷ ss) [] h k = λ y t. absurd t
   pairs-below n (s ∷ ss) (q ∷ qs) h k =
-      cons-below (n * p .graph .size) (pairNumber p s q) (pairNumbers p ss qs)
-      (pair-below n (p .graph .size) s q (head-below n s ss h) (head-below (p .graph .size) q qs k))
-      (pairs-below n ss qs (tail-below n s ss h) (tail-below (p .graph .size) q qs k))
+      list-below-cons (n * p .graph .size) (pairNumber p s q) (pairNumbers p ss qs)
+      (pair-below n (p .graph .size) s q (list-below-head n s ss h) (list-below-head (p .graph .size) q qs k))
+      (pairs-below n ss qs (list-below-tail n s ss h) (list-below-tail (p .graph .size) q qs k))
 
   -- the first parts of the pairs are the first list
-  pub rules-back : (ss qs : List ℕ) → ListBelow (p .graph .size) qs → length ss ≡ length qs → ruleStates p (pairNumbers p ss qs) ≡ ss
-  rules-back [] qs k e = refl
-  rules-back (s ∷ ss) [] k e = absurd (omega arith)
-  rules-back (s ∷ ss) (q ∷ qs) k e =
-      ap₂ (λ (x : ℕ) (xs : List ℕ). x ∷ xs) (rule-of-pair p s q (head-below (p .graph .size) q qs k))
-      (rules-back ss qs (tail-below (p .graph .size) q qs k) (suc-inj e))
+  pub rule-states-back : (ss qs : List ℕ) → ListBelow (p .graph .size) qs → length ss ≡ length qs → ruleStates p (pairNumbers p ss qs) ≡ ss
+  rule-states-back [] qs k e = refl
+  rule-states-back (s ∷ ss) [] k e = absurd (omega arith)
+  rule-states-back (s ∷ ss) (q ∷ qs) k e =
+      ap₂ (λ (x : ℕ) (xs : List ℕ). x ∷ xs) (rule-of-pair p s q (list-below-head (p .graph .size) q qs k))
+      (rule-states-back ss qs (list-below-tail (p .graph .size) q qs k) (suc-inj e))
 
   -- the second parts of the pairs are the second list
-  pub properties-back : (ss qs : List ℕ) → ListBelow (p .graph .size) qs → length ss ≡ length qs → propertyStates p (pairNumbers p ss qs) ≡ qs
-  properties-back [] [] k e = refl
-  properties-back [] (q ∷ qs) k e = absurd (omega arith)
-  properties-back (s ∷ ss) [] k e = absurd (omega arith)
-  properties-back (s ∷ ss) (q ∷ qs) k e =
-      ap₂ (λ (x : ℕ) (xs : List ℕ). x ∷ xs) (property-of-pair p s q (head-below (p .graph .size) q qs k))
-      (properties-back ss qs (tail-below (p .graph .size) q qs k) (suc-inj e))
+  pub property-states-back : (ss qs : List ℕ) → ListBelow (p .graph .size) qs → length ss ≡ length qs → propertyStates p (pairNumbers p ss qs) ≡ qs
+  property-states-back [] [] k e = refl
+  property-states-back [] (q ∷ qs) k e = absurd (omega arith)
+  property-states-back (s ∷ ss) [] k e = absurd (omega arith)
+  property-states-back (s ∷ ss) (q ∷ qs) k e =
+      ap₂ (λ (x : ℕ) (xs : List ℕ). x ∷ xs) (property-of-pair p s q (list-below-head (p .graph .size) q qs k))
+      (property-states-back ss qs (list-below-tail (p .graph .size) q qs k) (suc-inj e))
 
   -- the pairs of the parts of a list's entries are its entries
   pub pairs-back : 0 < p .graph .size → (cs : List ℕ) → pairNumbers p (ruleStates p cs) (propertyStates p cs) ≡ cs
@@ -102,9 +97,9 @@ module _ (g : Graph) (letter : ℕ → ℕ) (p : Property) (w : WellFormed g) (v
   pairs-path (s ∷ []) (q ∷ q' ∷ qs) k e = absurd (omega arith)
   pairs-path (s ∷ s' ∷ ss) (q ∷ []) k e = absurd (omega arith)
   pairs-path (s ∷ s' ∷ ss) (q ∷ q' ∷ qs) k e =
-      let rest : ListBelow (p .graph .size) (q' ∷ qs) = tail-below (p .graph .size) q (q' ∷ qs) k in
+      let rest : ListBelow (p .graph .size) (q' ∷ qs) = list-below-tail (p .graph .size) q (q' ∷ qs) k in
       ap₂ (λ (a b : Bool). a && b)
-      (product-edge g letter p w v s q s' q' (head-below (p .graph .size) q (q' ∷ qs) k) (head-below (p .graph .size) q' qs rest))
+      (product-edge g letter p w v s q s' q' (list-below-head (p .graph .size) q (q' ∷ qs) k) (list-below-head (p .graph .size) q' qs rest))
       (pairs-path (s' ∷ ss) (q' ∷ qs) rest (suc-inj e))
       ∙ regroup (edgeb g s s') (edgeb (p .graph) q q') (p .holds q q' (letter s))
       (pathb g (s' ∷ ss)) (pathb (p .graph) (q' ∷ qs)) (agreeb letter p (s' ∷ ss) (q' ∷ qs))
@@ -116,8 +111,8 @@ module _ (g : Graph) (letter : ℕ → ℕ) (p : Property) (w : WellFormed g) (v
       record {
         states = pairs-below p (g .size) ss qs h k;
         same-length = pairs-length p ss qs e;
-        rule-back = rules-back p ss qs k e;
-        property-back = properties-back p ss qs k e;
+        rule-back = rule-states-back p ss qs k e;
+        property-back = property-states-back p ss qs k e;
         path = pairs-path ss qs k e;
       }
 
@@ -129,8 +124,8 @@ module _ (g : Graph) (letter : ℕ → ℕ) (p : Property) (w : WellFormed g) (v
       let ss : List ℕ = ruleStates p cs in
       let qs : List ℕ = propertyStates p cs in
       let k : ListBelow size qs = map-below (propertyState p) (g .size * size) size (λ c m. mod-below size c l) cs h in
-      let m : length ss ≡ length cs = map-length (ruleState p) cs in
-      let n : length qs ≡ length cs = map-length (propertyState p) cs in
+      let m : length ss ≡ length cs = length-map cs (ruleState p) in
+      let n : length qs ≡ length cs = length-map cs (propertyState p) in
       let b : pairNumbers p ss qs ≡ cs = pairs-back p l cs in
       record {
         rule-states = map-below (ruleState p) (g .size * size) (g .size) (λ c m. div-below (g .size) size c m) cs h;

@@ -1,8 +1,8 @@
 -- The combined states of two files that can be combined: the parts of their numbers, their edges by rows, and how many.
-use Prim.Native.Nat.{ℕ, _+_, _*_, _-_, _/_, _%_, _≤_, _<_}
-use mathlib.Core.Path.{_≡_, refl, sym, ap, ap₂, subst, _∙_}
+use Prim.Native.Nat.{ℕ, _+_, _*_, _/_, _%_, _≤_, _<_}
+use mathlib.Core.Path.{_≡_, sym, ap, ap₂, subst, _∙_}
 use mathlib.Core.Bool.{Bool, true, false}
-use mathlib.Core.List.{List, [], _∷_, _++_, map}
+use mathlib.Core.List.{List, [], _∷_, map}
 use native.Mathlib.Omega.{arith}
 use native.Mathlib.Nat.{mul-le-mul}
 use lib.ListN.{length, getD, length-append, length-map}
@@ -16,8 +16,7 @@ use Rattle.model.specs.Model.{graphIn, graphOf}
 use Rattle.model.specs.Values.{Valid}
 use Rattle.model.proofs.Laws.{Facts, valid-facts, valid-graph, header-numbers, row-end-le, row-targets-below, upFrom-length, succs-length-le, valid-well-formed}
 use Rattle.product.proofs.PairLaws.{mod-below, div-below, blocks-apart, pair-below}
-use Rattle.product.proofs.PathsLaws.{map-length}
-use Rattle.property.specs.Property.{rowMasks, propertyOf, chosen, ValidProperty}
+use Rattle.property.specs.Property.{rowMasks, chosen, ValidProperty}
 use Rattle.property.proofs.PropertyLaws.{property-facts, property-numbers}
 use Rattle.property.proofs.ChosenLaws.{chosen-length, agreeing-chosen}
 use Rattle.pair_row.specs.Row.{RowFits, rowOf}
@@ -27,7 +26,7 @@ use Rattle.product_file.specs.Combined.{letterOf, combined, Combinable}
 collect-map-length : (m : ℕ → ℕ → ℕ) (ss qs : List ℕ) → length (collect (λ s. map (m s) qs) ss) ≡ length ss * length qs
 collect-map-length m [] qs = omega arith
 collect-map-length m (s ∷ ss) qs =
-    omega (arith, length-append (map (m s) qs) (collect (λ s. map (m s) qs) ss), map-length (m s) qs, collect-map-length m ss qs)
+    omega (arith, length-append (map (m s) qs) (collect (λ s. map (m s) qs) ss), length-map qs (m s), collect-map-length m ss qs)
 
 -- no more entries are kept than there are
 keep-length-le : (p : ℕ → Bool) (xs : List ℕ) → length (keep p xs) ≤ length xs
@@ -51,12 +50,12 @@ combined-size {f} letters v w = sym (ap₂ _*_ (header-numbers f (v .header) .0)
 
 module _ {f letters p : List ℕ} {h k : Header} (C : Combinable f letters p h k) where
   -- the rule's header has its numbers
-  pub rule-numbers : (h .states ≡ states f) × (h .edges ≡ edgeCount f) × (h .start ≡ initial f)
-  rule-numbers = header-numbers f (C .rule-valid .header)
+  pub rule-header : (h .states ≡ states f) × (h .edges ≡ edgeCount f) × (h .start ≡ initial f)
+  rule-header = header-numbers f (C .rule-valid .header)
 
   -- the property's header has its numbers
-  pub pair-numbers : (k .states ≡ states p) × (k .edges ≡ edgeCount p) × (k .start ≡ initial p)
-  pair-numbers = property-numbers (C .property-valid)
+  pub property-header : (k .states ≡ states p) × (k .edges ≡ edgeCount p) × (k .start ≡ initial p)
+  property-header = property-numbers (C .property-valid)
 
   -- the number of combined states
   pub size-is : combined f letters p .size ≡ h .states * k .states
@@ -64,18 +63,18 @@ module _ {f letters p : List ℕ} {h k : Header} (C : Combinable f letters p h k
 
   -- the property has a state
   pub some-property-state : 0 < k .states
-  some-property-state = omega (arith, pair-numbers .0, property-facts (C .property-valid) .states-range)
+  some-property-state = omega (arith, property-header .0, property-facts (C .property-valid) .states-range)
 
   -- the initial pair
-  pub start-is : combined f letters p .start ≡ h .start * k .states + k .start
-  start-is = sym (ap₂ _+_ (ap₂ _*_ (rule-numbers .2) (pair-numbers .0)) (pair-numbers .2))
+  pub initial-pair-is : combined f letters p .start ≡ h .start * k .states + k .start
+  initial-pair-is = sym (ap₂ _+_ (ap₂ _*_ (rule-header .2) (property-header .0)) (property-header .2))
 
   -- the initial pair is a combined state
-  pub start-below : h .start * k .states + k .start < h .states * k .states
-  start-below =
+  pub initial-pair-below : h .start * k .states + k .start < h .states * k .states
+  initial-pair-below =
       pair-below (h .states) (k .states) (h .start) (k .start)
-      (omega (arith, valid-facts (C .rule-valid) .initial-below, rule-numbers))
-      (omega (arith, property-facts (C .property-valid) .initial-below, pair-numbers))
+      (omega (arith, valid-facts (C .rule-valid) .initial-below, rule-header))
+      (omega (arith, property-facts (C .property-valid) .initial-below, property-header))
 
   module _ (c : ℕ) (less : c < h .states * k .states) where
     -- the rule's state of a combined state
@@ -91,7 +90,7 @@ module _ {f letters p : List ℕ} {h k : Header} (C : Combinable f letters p h k
         ≡ rowOf (k .states) (graphIn f h .succs (c / k .states))
         (chosen (letterOf letters (c / k .states)) (rowMasks p (c % k .states)) (rowTargets p (c % k .states)))
     combined-row =
-        let size : k .states ≡ states p = pair-numbers .0 in
+        let size : k .states ≡ states p = property-header .0 in
         let below : c % states p < states p = subst (λ (n : ℕ). c % n < n) size property-below in
         let s : ℕ = c / states p in
         let letter : ℕ = letterOf letters s in
@@ -111,18 +110,18 @@ module _ {f letters p : List ℕ} {h k : Header} (C : Combinable f letters p h k
         let q : ℕ = c % k .states in
         let letter : ℕ = letterOf letters (c / k .states) in
         let qs : List ℕ = chosen letter (rowMasks p q) (rowTargets p q) in
-        let within : q < states p = omega (arith, property-below, pair-numbers .0) in
+        let within : q < states p = omega (arith, property-below, property-header .0) in
         ap length combined-row
         ∙ collect-map-length (λ (s q : ℕ). s * k .states + q) (graphIn f h .succs (c / k .states)) qs
         ∙ ap (λ (n : ℕ). length (graphIn f h .succs (c / k .states)) * n)
         (chosen-length letter (rowMasks p q) (rowTargets p q) (row-masks-length F q within .0))
 
-    -- neither number of edges is above 8,192
+    -- no combined state has more than 8,192 × 8,192 edges
     pub combined-degree-le : length (combined f letters p .succs c) ≤ 67108864
     combined-degree-le =
         let q : ℕ = c % k .states in
         let letter : ℕ = letterOf letters (c / k .states) in
-        let within : q < states p = omega (arith, property-below, pair-numbers .0) in
+        let within : q < states p = omega (arith, property-below, property-header .0) in
         let rows = row-masks-length (property-facts (C .property-valid)) q within in
         let steps : length (graphIn f h .succs (c / k .states)) ≤ 8192 =
         subst (λ (g : Graph). length (g .succs (c / k .states)) ≤ 8192) (sym (valid-graph (C .rule-valid))) (succs-length-le (valid-facts (C .rule-valid)) (c / k .states)) in
@@ -136,11 +135,11 @@ module _ {f letters p : List ℕ} {h k : Header} (C : Combinable f letters p h k
         let s : ℕ = c / k .states in
         let q : ℕ = c % k .states in
         let ss : List ℕ = graphIn f h .succs s in
-        let within : q < states p = omega (arith, property-below, pair-numbers .0) in
+        let within : q < states p = omega (arith, property-below, property-header .0) in
         record {
           successors-fit = λ j less.
               let edge = valid-well-formed (C .rule-valid) .edge-states s (getD ss j 0) (at-memb ss j less) in
               omega (arith, blocks-apart (k .states) (getD ss j 0) (h .states) (edge .1), C .pairs-limit);
           targets-fit = λ j less.
-              omega (arith, row-targets-below (property-facts (C .property-valid)) q (getD (rowTargets p q) j 0) within (at-memb (rowTargets p q) j less), pair-numbers .0);
+              omega (arith, row-targets-below (property-facts (C .property-valid)) q (getD (rowTargets p q) j 0) within (at-memb (rowTargets p q) j less), property-header .0);
         }

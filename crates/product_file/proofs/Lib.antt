@@ -1,3 +1,2 @@
 -- The laws of the model file of a combination.
 pub mod CombinedLaws
-pub mod TableLaws

@@ -2,15 +2,15 @@
 use Prim.Native.Nat.{ℕ, _+_, _*_, _%_, _≤_}
 use mathlib.Core.Path.{_≡_}
 use mathlib.Core.Bool.{Bool, _&&_}
-use mathlib.Core.List.{List, _++_}
+use mathlib.Core.List.{List}
 use lib.ListN.{length, getD}
 use lib.Dec.{ltb}
 use Rattle.lasso.specs.Graph.{Graph}
-use Rattle.format.specs.Layout.{states, marksAt}
+use Rattle.format.specs.Layout.{states}
 use Rattle.model.specs.Model.{graphOf}
 use Rattle.model.specs.declared.Header.{Header}
 use Rattle.model.specs.Values.{Valid}
-use Rattle.writer.specs.File.{words16, edgesBelow, edgeTotal, rowWords, worth}
+use Rattle.writer.specs.File.{worth}
 use Rattle.product.specs.Product.{product}
 use Rattle.property.specs.Property.{propertyGraph, propertyOf, ValidProperty}
 
@@ -22,23 +22,14 @@ letterOf letters s = getD letters s 0
 abbrev pub combined : (f letters p : List ℕ) → Graph
 combined f letters p = product (graphOf f) (letterOf letters) (propertyOf p)
 
--- what the writers ask: an accepted rule and a property that keeps its rules, each with its own header, one letter up to 15
--- for each state, and no more pairs of states than a model has states
-pub record Combinable (f letters p : List ℕ) (rule property : Header) : Type 0 where
-  pub rule-valid : Valid f rule
-  pub property-valid : ValidProperty p property
-  pub letters-length : length letters ≡ rule .states
+-- what the writers ask: an accepted rule file with its header h, one letter up to 15 for each of its states, a property file
+-- that breaks none of 1 to 11 with its header k, and no more pairs of states than a model has states
+pub record Combinable (f letters p : List ℕ) (h k : Header) : Type 0 where
+  pub rule-valid : Valid f h
+  pub property-valid : ValidProperty p k
+  pub letters-length : length letters ≡ h .states
   pub letters-range : (s : ℕ) → letterOf letters s ≤ 15
-  pub pairs-limit : rule .states * property .states ≤ 4096
-
--- the bytes of the row table and of the edge table
-abbrev pub tableBytes : Graph → List ℕ
-tableBytes g = words16 (rowWords g) ++ words16 (edgesBelow g (g .size))
-
--- the two tables fit the output, and each row entry fits 16 bits
-pub record TablesFit (g : Graph) (out : List ℕ) : Type 0 where
-  pub room : marksAt (g .size) (edgeTotal g) ≤ length out
-  pub edges-limit : edgeTotal g ≤ 8192
+  pub pairs-limit : h .states * k .states ≤ 4096
 
 -- whether the combined state with number c is marked, where there are n: (s, q) is if q is
 abbrev pub pairMark : (p : List ℕ) (n c : ℕ) → Bool

@@ -1,16 +1,16 @@
 -- The targets of a row whose masks hold a letter: how many there are, that they are the property's, and one place more.
-use Prim.Native.Nat.{ℕ, zero, suc, _+_, _-_, _≤_, _<_}
+use Prim.Native.Nat.{ℕ, zero, suc, _+_, _-_, _<_}
 use mathlib.Core.Path.{_≡_, refl, sym, ap, _∙_}
 use mathlib.Core.Bool.{Bool, true, false, _&&_, _||_}
 use mathlib.Core.List.{List, [], _∷_, _++_, map}
 use native.Mathlib.Omega.{arith}
 use native.Mathlib.Numerals.{add-one}
 use borrow.Author.Tests.{lt-ltb, ne-eqb}
-use lib.ListN.{length, getD, take, drop, length-map}
+use lib.ListN.{length, getD, take, drop}
 use lib.Seq.{drop-cons}
-use lib.Dec.{T, eqb, eqb-refl}
+use lib.Dec.{eqb, eqb-refl}
 use Rattle.lasso.specs.Lists.{anyb, pick, consIf, keep, upFrom}
-use Rattle.lasso.proofs.Tests.{T-true, and-false}
+use Rattle.lasso.proofs.Tests.{T-true}
 use Rattle.lasso.proofs.Sorted.{All, Sorted}
 use Rattle.format.specs.Bytes.{bitb}
 use Rattle.format.specs.Layout.{states, rowEntry, target, rowTargets}
@@ -20,16 +20,16 @@ use Rattle.product.proofs.PairLists.{ascends}
 use Rattle.property.specs.Property.{maskAt, rowMasks, propertyOf, chosen}
 
 -- an entry that passes counts as one, another as none
-keep-cons-length : (b : Bool) (x : ℕ) (xs : List ℕ) → length (consIf b x xs) ≡ pick b 1 0 + length xs
-keep-cons-length true x xs = omega arith
-keep-cons-length false x xs = omega arith
+consIf-length : (b : Bool) (x : ℕ) (xs : List ℕ) → length (consIf b x xs) ≡ pick b 1 0 + length xs
+consIf-length true x xs = omega arith
+consIf-length false x xs = omega arith
 
 -- the entries from a place on that pass: the one there, if it passes, and those behind it
 pub keep-from : (p : ℕ → Bool) (ws : List ℕ) (k : ℕ) → k < length ws
     → length (keep p (drop k ws)) ≡ pick (p (getD ws k 0)) 1 0 + length (keep p (drop (k + 1) ws))
 keep-from p ws k less =
     ap (λ (xs : List ℕ). length (keep p xs)) (drop-cons ws k 0 less ∙ ap (λ (j : ℕ). getD ws k 0 ∷ drop j ws) (sym (add-one k)))
-    ∙ keep-cons-length (p (getD ws k 0)) (getD ws k 0) (keep p (drop (k + 1) ws))
+    ∙ consIf-length (p (getD ws k 0)) (getD ws k 0) (keep p (drop (k + 1) ws))
 
 -- as many targets are chosen as masks hold the letter
 pub chosen-length : (letter : ℕ) (ms ts : List ℕ) → length ms ≡ length ts
@@ -37,9 +37,9 @@ pub chosen-length : (letter : ℕ) (ms ts : List ℕ) → length ms ≡ length t
 chosen-length letter [] ts e = refl
 chosen-length letter (m ∷ ms) [] e = absurd (omega arith)
 chosen-length letter (m ∷ ms) (t ∷ ts) e =
-    keep-cons-length (bitb m letter) t (chosen letter ms ts)
+    consIf-length (bitb m letter) t (chosen letter ms ts)
     ∙ ap (λ (n : ℕ). pick (bitb m letter) 1 0 + n) (chosen-length letter ms ts (omega arith))
-    ∙ sym (keep-cons-length (bitb m letter) m (keep (λ (x : ℕ). bitb x letter) ms))
+    ∙ sym (consIf-length (bitb m letter) m (keep (λ (x : ℕ). bitb x letter) ms))
 
 -- the targets chosen from the first k + 1 places: those from the first k, and the one at k if its mask holds the letter
 pub chosen-next : (letter : ℕ) (ms ts : List ℕ) (k : ℕ) → k < length ms → k < length ts

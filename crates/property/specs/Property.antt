@@ -4,13 +4,13 @@ use mathlib.Core.Path.{_≡_}
 use mathlib.Core.Bool.{Bool, _&&_, _||_}
 use mathlib.Core.List.{List, [], _∷_}
 use mathlib.Core.Option.{none}
-use lib.Dec.{eqb, ltb}
+use lib.Dec.{eqb}
 use Rattle.lasso.specs.Lists.{anyb, consIf, isSome, upFrom, below}
 use Rattle.lasso.specs.Graph.{Graph}
 use Rattle.format.specs.Bytes.{word, bitb}
-use Rattle.format.specs.Layout.{states, edgeCount, initial, totalOf, rowEntry, target, rowNumbers, rowTargets, markBit}
+use Rattle.format.specs.Layout.{states, edgeCount, totalOf, rowEntry, target, rowNumbers}
 use Rattle.format.specs.Rules.{Reason, firstBroken, rulesWith}
-use Rattle.model.specs.Model.{listIf}
+use Rattle.model.specs.Model.{rowGraph}
 use Rattle.model.specs.declared.Header.{Header}
 use Rattle.model.specs.declared.Checked.{Checked}
 use Rattle.model.specs.Values.{headerOf, checkWith}
@@ -48,15 +48,9 @@ zeroMask p = anyb (λ e. eqb (maskAt p e) 0) (below (edgeCount p))
 abbrev pub badProperty : List ℕ → Bool
 badProperty p = isSome (firstBroken (propertyRules p)) || zeroMask p
 
--- the states, edges and marks of a property file: its edges are those of its rows, with no step added
+-- the states, edges and marks of a property file: its edges are those of its rows, and no others
 abbrev pub propertyGraph : List ℕ → Graph
-propertyGraph p =
-    record {
-      size = states p;
-      start = initial p;
-      succs = λ q. listIf (ltb q (states p)) (rowTargets p q);
-      marked = λ q. ltb q (states p) && markBit p q;
-    }
+propertyGraph p = rowGraph p (headerOf p)
 
 -- q has an edge to q' whose mask holds the letter: bit l of the mask is letter l
 abbrev pub holdsLetter : List ℕ → (q q' letter : ℕ) → Bool

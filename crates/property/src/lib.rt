@@ -94,7 +94,7 @@ pub fn count_holding(masks: &[u8], letter: usize) -> usize
 }
 
 // State q is marked.
-pub fn has_mark(file: &[u8], h: Header, q: usize) -> bool
+pub fn is_marked(file: &[u8], h: Header, q: usize) -> bool
     requires { ⌜ ValidProperty (now file) h ⌝ }
     requires { ⌜ q < h .states ⌝ }
     ensures { λ r. ⌜ r ≡ markBit (now (file .entry)) q ⌝ }

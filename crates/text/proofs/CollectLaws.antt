@@ -15,25 +15,26 @@ use Rattle.text.proofs.WroteLaws.{wrote-then, wrote-as, wrote-length}
 pub take-next : {A : Type 0} (ss : List A) (i : ℕ) (d : A) → i < length ss → take (i + 1) ss ≡ take i ss ++ getD ss i d ∷ []
 take-next ss i d less = ap (λ (k : ℕ). take k ss) (add-one i) ∙ take-suc ss i d less
 
-module _ {A : Type 0} (f : A → List ℕ) where
-  -- collected along two lists, one after the other
-  collect-append : (xs ys : List A) → collect f (xs ++ ys) ≡ collect f xs ++ collect f ys
-  collect-append [] ys = refl
-  collect-append (x ∷ xs) ys = ap (λ (r : List ℕ). f x ++ r) (collect-append xs ys) ∙ sym (append-assoc (f x) (collect f xs) (collect f ys))
+-- collected along two lists, one after the other
+pub collect-append : {A B : Type 0} (f : A → List B) (xs ys : List A) → collect f (xs ++ ys) ≡ collect f xs ++ collect f ys
+collect-append f [] ys = refl
+collect-append {B = B} f (x ∷ xs) ys =
+    ap (λ (r : List B). f x ++ r) (collect-append f xs ys) ∙ sym (append-assoc (f x) (collect f xs) (collect f ys))
 
+module _ {A : Type 0} (f : A → List ℕ) where
   -- one entry more
   pub collect-next : (ss : List A) (i : ℕ) (d : A) → i < length ss
       → collect f (take (i + 1) ss) ≡ collect f (take i ss) ++ f (getD ss i d)
   collect-next ss i d less =
       ap (λ (r : List A). collect f r) (take-next ss i d less)
-      ∙ collect-append (take i ss) (getD ss i d ∷ [])
+      ∙ collect-append f (take i ss) (getD ss i d ∷ [])
       ∙ ap (λ (r : List ℕ). collect f (take i ss) ++ r) (append-nil (f (getD ss i d)))
 
   -- the first entries take no more room than all
   pub collect-take-le : (ss : List A) (i : ℕ) → length (collect f (take i ss)) ≤ length (collect f ss)
   collect-take-le ss i =
       let e : collect f ss ≡ collect f (take i ss) ++ collect f (drop i ss) =
-      ap (λ (r : List A). collect f r) (sym (take-append-drop i ss)) ∙ collect-append (take i ss) (drop i ss) in
+      ap (λ (r : List A). collect f r) (sym (take-append-drop i ss)) ∙ collect-append f (take i ss) (drop i ss) in
       omega (arith, ap length e, length-append (collect f (take i ss)) (collect f (drop i ss)))
 
   -- the next entry has room where all have

@@ -3,7 +3,7 @@ use Prim.Native.Nat.{ℕ, zero, suc, _+_, _*_, _/_, _%_, _^_, _-_, _≤_, _<_}
 use mathlib.Core.Path.{_≡_, refl, sym, ap, _∙_}
 use mathlib.Core.Logic.{inl, inr}
 use mathlib.Core.Bool.{Bool, true, false}
-use mathlib.Core.List.{List, [], _∷_, _++_, map, append-assoc, append-nil}
+use mathlib.Core.List.{List, [], _∷_, _++_, map, append-nil}
 use native.Mathlib.Omega.{arith}
 use native.Mathlib.Numerals.{add-one}
 use native.Mathlib.Nat.{add-zero, one-mul, pow-suc, eq-or-lt-of-le, div-eq-of-lt, add-mul-div-right, add-mul-mod-self-right}
@@ -12,9 +12,10 @@ use lib.Pow.{pow-pos, pow-add}
 use lib.Dec.{eqb}
 use Rattle.lasso.specs.Lists.{pick, collect, upFrom, below}
 use Rattle.lasso.specs.Graph.{Graph}
-use Rattle.lasso.proofs.Sorted.{All}
-use Rattle.format.specs.Bytes.{word, words, bitb}
+use Rattle.format.specs.Bytes.{word, bitb}
 use Rattle.format.specs.Layout.{markBytes, totalOf}
+use Rattle.model.proofs.Laws.{upFrom-length}
+use Rattle.text.proofs.CollectLaws.{collect-append}
 use Rattle.writer.specs.File.{words16, edgesBelow, edgeTotal, headerWords, rowWords, worth, markByte, fileOf}
 
 -- each number takes two bytes
@@ -31,14 +32,6 @@ words16-append (x ∷ xs) ys = ap (λ (r : List ℕ). x % 256 ∷ x / 256 ∷ r)
 pub bytes-number : (x : ℕ) → x % 256 + 256 * (x / 256) ≡ x
 bytes-number x = omega arith
 
--- the bytes of numbers read as those numbers
-pub words-words16 : (xs : List ℕ) → All (λ x. x < 65536) xs → words (words16 xs) ≡ xs
-words-words16 [] h = refl
-words-words16 (x ∷ xs) h =
-    let e : x % 256 + 256 * (x / 256) ≡ x = bytes-number x in
-    let r : words (words16 xs) ≡ xs = words-words16 xs (h .1) in
-    cc
-
 -- at twice a place stands the number at that place
 pub word-words16 : (xs rest : List ℕ) (k : ℕ) → k < length xs → word (words16 xs ++ rest) (2 * k) ≡ getD xs k 0
 word-words16 [] rest k h = absurd (omega arith)
@@ -46,11 +39,6 @@ word-words16 (x ∷ xs) rest zero h = bytes-number x
 word-words16 (x ∷ xs) rest (suc k) h =
     let e : 2 * suc k ≡ suc (suc (2 * k)) = omega arith in
     rw (e, add-one) (rw add-one at (word-words16 xs rest k (omega arith)))
-
--- a range has as many numbers as asked
-pub upFrom-length : (a n : ℕ) → length (upFrom a n) ≡ n
-upFrom-length a zero = refl
-upFrom-length a (suc n) = ap suc (upFrom-length (suc a) n)
 
 -- a longer range has one number more at its end
 pub upFrom-next : (a n b : ℕ) → a + n ≡ b → upFrom a (suc n) ≡ upFrom a n ++ b ∷ []
@@ -61,17 +49,10 @@ upFrom-next a (suc n) b e = ap (λ (r : List ℕ). a ∷ r) (upFrom-next (suc a)
 pub below-next : (s : ℕ) → below (s + 1) ≡ below s ++ s ∷ []
 below-next s = ap (λ (k : ℕ). below k) (add-one s) ∙ upFrom-next 0 s s (omega arith)
 
-module _ {A B : Type 0} where
-  -- the images along two lists, one after the other
-  pub map-append : (f : A → B) (xs ys : List A) → map f (xs ++ ys) ≡ map f xs ++ map f ys
-  map-append f [] ys = refl
-  map-append f (x ∷ xs) ys = ap (λ (r : List B). f x ∷ r) (map-append f xs ys)
-
-  -- collected along two lists, one after the other
-  pub collect-append : (f : A → List B) (xs ys : List A) → collect f (xs ++ ys) ≡ collect f xs ++ collect f ys
-  collect-append f [] ys = refl
-  collect-append f (x ∷ xs) ys =
-      ap (λ (r : List B). f x ++ r) (collect-append f xs ys) ∙ sym (append-assoc (f x) (collect f xs) (collect f ys))
+-- the images along two lists, one after the other
+pub map-append : {A B : Type 0} (f : A → B) (xs ys : List A) → map f (xs ++ ys) ≡ map f xs ++ map f ys
+map-append f [] ys = refl
+map-append {B = B} f (x ∷ xs) ys = ap (λ (r : List B). f x ∷ r) (map-append f xs ys)
 
 -- the image at a place of a table of a range
 map-upFrom-at : (f : ℕ → ℕ) (a n k i : ℕ) → k < n → a + k ≡ i → getD (map f (upFrom a n)) k 0 ≡ f i
@@ -80,7 +61,7 @@ map-upFrom-at f a (suc n) zero i h e = let q : a ≡ i = omega arith in ap f q
 map-upFrom-at f a (suc n) (suc k) i h e = map-upFrom-at f (suc a) n k i (omega arith) (omega arith)
 
 -- a table of the numbers below n has n entries
-map-below-length : (f : ℕ → ℕ) (n : ℕ) → length (map f (below n)) ≡ n
+pub map-below-length : (f : ℕ → ℕ) (n : ℕ) → length (map f (below n)) ≡ n
 map-below-length f n = length-map (below n) f ∙ upFrom-length 0 n
 
 -- the image at a place of a table of the numbers below n
@@ -99,9 +80,9 @@ pub map-below-next : {B : Type 0} (f : ℕ → B) (s : ℕ) → map f (below (s 
 map-below-next {B} f s = ap (λ (r : List ℕ). map f r) (below-next s) ∙ map-append f (below s) (s ∷ [])
 
 -- the row table of one state more
-pub row-words-take : (g : Graph) (s : ℕ)
+pub row-words-next : (g : Graph) (s : ℕ)
     → map (λ s. length (edgesBelow g s)) (below (s + 1)) ≡ map (λ s. length (edgesBelow g s)) (below s) ++ length (edgesBelow g s) ∷ []
-row-words-take g s = map-below-next (λ (t : ℕ). length (edgesBelow g t)) s
+row-words-next g s = map-below-next (λ (t : ℕ). length (edgesBelow g t)) s
 
 -- d states more have no fewer edges
 edges-add : (g : Graph) (s d t : ℕ) → s + d ≡ t → length (edgesBelow g s) ≤ length (edgesBelow g t)

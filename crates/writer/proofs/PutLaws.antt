@@ -33,8 +33,8 @@ put-none t at =
     ap (λ (k : ℕ). take at t ++ [] ++ drop k t) e ∙ ap (λ (p : List ℕ). p ++ drop at t) (append-nil (take at t)) ∙ take-append-drop at t
 
 -- the front of the text and the bytes reach to the place behind the bytes
-front-length : (t : List ℕ) (at : ℕ) (bytes : List ℕ) → at ≤ length t → length (take at t ++ bytes) ≡ at + length bytes
-front-length t at bytes l = length-append (take at t) bytes ∙ ap (λ (k : ℕ). k + length bytes) (length-take-le at t l)
+put-front-length : (t : List ℕ) (at : ℕ) (bytes : List ℕ) → at ≤ length t → length (take at t ++ bytes) ≡ at + length bytes
+put-front-length t at bytes l = length-append (take at t) bytes ∙ ap (λ (k : ℕ). k + length bytes) (length-take-le at t l)
 
 -- the text from a place behind the bytes on is as it was
 put-behind : (t : List ℕ) (at : ℕ) (bytes : List ℕ) (k : ℕ) → at ≤ length t
@@ -42,7 +42,7 @@ put-behind : (t : List ℕ) (at : ℕ) (bytes : List ℕ) (k : ℕ) → at ≤ l
 put-behind t at bytes k l =
     let front : List ℕ = take at t ++ bytes in
     let rest : List ℕ = drop (at + length bytes) t in
-    ap (λ (n : ℕ). drop (n + k) (front ++ rest)) (sym (front-length t at bytes l))
+    ap (λ (n : ℕ). drop (n + k) (front ++ rest)) (sym (put-front-length t at bytes l))
     ∙ drop-append-add front rest k
     ∙ drop-drop k (at + length bytes) t
 
@@ -53,14 +53,14 @@ put-next t at xs ys l =
     let front : List ℕ = take at t ++ xs in
     let behind : ℕ = at + length xs + length ys in
     let e : behind ≡ at + length (xs ++ ys) = omega (arith, length-append xs ys) in
-    ap (λ (p : List ℕ). p ++ ys ++ drop behind (put at xs t)) (take-at front (drop (at + length xs) t) (at + length xs) (front-length t at xs l))
+    ap (λ (p : List ℕ). p ++ ys ++ drop behind (put at xs t)) (take-at front (drop (at + length xs) t) (at + length xs) (put-front-length t at xs l))
     ∙ ap (λ (r : List ℕ). front ++ ys ++ r) (put-behind t at xs (length ys) l)
     ∙ ap (λ (k : ℕ). front ++ ys ++ drop k t) e
     ∙ ap (λ (p : List ℕ). p ++ drop (at + length (xs ++ ys)) t) (append-assoc (take at t) xs ys)
 
 -- the part from one place to another, cut in either order
-drop-take : (t : List ℕ) (k d : ℕ) → k ≤ length t → drop k (take (k + d) t) ≡ take d (drop k t)
-drop-take t k d l =
+put-drop-take : (t : List ℕ) (k d : ℕ) → k ≤ length t → drop k (take (k + d) t) ≡ take d (drop k t)
+put-drop-take t k d l =
     ap (λ (x : List ℕ). drop k x) (take-add k d t) ∙ drop-at (take k t) (take d (drop k t)) k (length-take-le k t l)
 
 -- bytes d places behind others may be put before them or after them
@@ -77,9 +77,9 @@ put-gap t a d xs ys l =
     let before : take a (put b ys t) ≡ take a t =
     ap (λ (x : List ℕ). take a x) split ∙ take-append-le a (take b t) (ys ++ rest) (omega arith) ∙ take-take a b t (omega arith) in
     let after : drop m (put b ys t) ≡ gap ++ (ys ++ rest) =
-    ap (λ (x : List ℕ). drop m x) split ∙ drop-append-le m (take b t) (ys ++ rest) (omega arith) ∙ ap (λ (x : List ℕ). x ++ (ys ++ rest)) (drop-take t m d (omega arith)) in
+    ap (λ (x : List ℕ). drop m x) split ∙ drop-append-le m (take b t) (ys ++ rest) (omega arith) ∙ ap (λ (x : List ℕ). x ++ (ys ++ rest)) (put-drop-take t m d (omega arith)) in
     let to-gap : take b (put a xs t) ≡ front ++ gap =
-    ap (λ (n : ℕ). take (n + d) (front ++ drop m t)) (sym (front-length t a xs (omega arith))) ∙ take-append-add front (drop m t) d in
+    ap (λ (n : ℕ). take (n + d) (front ++ drop m t)) (sym (put-front-length t a xs (omega arith))) ∙ take-append-add front (drop m t) d in
     let e : b + length ys ≡ m + (d + length ys) = omega arith in
     let behind : drop (b + length ys) (put a xs t) ≡ rest =
     ap (λ (n : ℕ). drop n (put a xs t)) e ∙ put-behind t a xs (d + length ys) (omega arith) ∙ ap (λ (n : ℕ). drop n t) (sym e) in
@@ -106,14 +106,6 @@ put-at-before t at bytes i l before =
     ap (λ (x : List ℕ). getD x i 0) (append-assoc (take at t) bytes rest)
     ∙ List·getD-append (take at t) (bytes ++ rest) 0 i (omega (arith, length-take-le at t l))
     ∙ getD-take at t i 0 before
-
--- from the place on stand the bytes
-pub put-part : (t : List ℕ) (at : ℕ) (bytes : List ℕ) → at ≤ length t → take (length bytes) (drop at (put at bytes t)) ≡ bytes
-put-part t at bytes l =
-    let rest : List ℕ = drop (at + length bytes) t in
-    ap (λ (x : List ℕ). take (length bytes) (drop at x)) (append-assoc (take at t) bytes rest)
-    ∙ ap (λ (x : List ℕ). take (length bytes) x) (drop-at (take at t) (bytes ++ rest) at (length-take-le at t l))
-    ∙ take-at bytes rest (length bytes) refl
 
 -- each byte stands at its place
 pub put-at : (t : List ℕ) (at : ℕ) (bytes : List ℕ) (i : ℕ) → at ≤ length t → i < length bytes

@@ -1,3 +1,4 @@
 -- The model file that holds a graph.
 pub mod File
-pub mod WritesBack
+pub mod Tables
+pub mod Holds

@@ -46,7 +46,8 @@ returns : tie.Need-returns
 returns c =
     let known = c .before .before .before in
     let a = start (known .before .before) .args in
-    refused-16 (now (a .rule)) (now (a .letters)) (now (a .property)) (now (a .out)) (valid known .accepted) (sym (letters-told (c .before)) ∙ c .if1 .taken)
+    let is = refused-16 (now (a .rule)) (now (a .letters)) (now (a .property)) (now (a .output)) (valid known .accepted) (sym (letters-told (c .before)) ∙ c .if1 .taken) in
+    (is .0, is .1)
 
 with-property-requires : tie.Need-with-property-requires
 with-property-requires c κs =
@@ -58,7 +59,7 @@ returns-2 c =
     let known = c .before in
     let answer = known .before .before in
     let a = start answer .args in
-    refused-rule (now (a .rule)) (now (a .letters)) (now (a .property)) (now (a .out)) _
+    refused-rule (now (a .rule)) (now (a .letters)) (now (a .property)) (now (a .output)) _
     (check-refused (now (a .rule)) _ (sym (known .checked .given .1) ∙ answer .check .ensures))
 
 same-length : tie.Need-same-length

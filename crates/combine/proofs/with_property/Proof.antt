@@ -1,5 +1,5 @@
 -- `with_property` meets its contract: 17 for a property that is refused or has a zero mask, else what follows.
-use mathlib.Core.Path.{_≡_, sym, _∙_}
+use mathlib.Core.Path.{sym, _∙_}
 use borrow.Author.Needs.{needs}
 use denote.Ref.{now}
 use Rattle.property.specs.Property.{ValidProperty}
@@ -33,7 +33,7 @@ returns c =
     let known = c .before .before .before in
     let s = start (known .before .before) in
     let a = s .args in
-    refused-17 (now (a .rule)) (now (a .letters)) (now (a .property)) (now (a .out)) (s .pre .0 .accepted) (s .pre .1)
+    refused-17 (now (a .rule)) (now (a .letters)) (now (a .property)) (now (a .output)) (s .pre .0 .accepted) (s .pre .1)
     (valid-bad (valid known) ∙ sym (c .before .has-zero-mask .ensures) ∙ c .if1 .taken)
 
 within-limits-requires : tie.Need-within-limits-requires
@@ -48,7 +48,7 @@ returns-2 c =
     let answer = c .before .before in
     let s = start answer in
     let a = s .args in
-    refused-17 (now (a .rule)) (now (a .letters)) (now (a .property)) (now (a .out)) (s .pre .0 .accepted) (s .pre .1)
+    refused-17 (now (a .rule)) (now (a .letters)) (now (a .property)) (now (a .output)) (s .pre .0 .accepted) (s .pre .1)
     (refused-bad (now (a .property)) _ (sym (c .enum-told .given .1) ∙ answer .check-property .ensures))
 
 same-length : tie.Need-same-length

@@ -1,14 +1,12 @@
 -- `within_limits` meets its contract: 18 for too many states or edges, 15 for a short output, else the file is written.
-use Prim.Native.Nat.{ℕ, _*_, _≤_}
+use Prim.Native.Nat.{_*_, _≤_}
 use mathlib.Core.Path.{_≡_, sym, _∙_}
 use mathlib.Core.Bool.{false}
-use mathlib.Core.List.{List}
 use native.Mathlib.Omega.{arith}
 use native.Mathlib.Nat.{mul-le-mul}
 use borrow.Author.Needs.{needs}
 use denote.Ref.{now}
 use lib.ListN.{length}
-use Rattle.format.specs.Layout.{totalOf}
 use Rattle.model.proofs.Laws.{valid-sizes}
 use Rattle.property.proofs.PropertyLaws.{property-facts, property-numbers}
 use Rattle.product_file.specs.Combined.{combined, Combinable}
@@ -26,13 +24,13 @@ start c = c .before .before .before .before .before .before
 -- the number of combined states
 size-told : (c : tie.After-struct-known2) →
     let a = start c .args in
-    combined (now (a .rule)) (now (a .letters)) (now (a .property)) .size ≡ a .h .states * a .p .states
+    combined (now (a .rule)) (now (a .letters)) (now (a .property)) .size ≡ a .h .states * a .k .states
 size-told c = let s = start c in combined-size (now (s .args .letters)) (s .pre .0) (s .pre .1 .1 .0)
 
 -- with few enough of them the files can be combined
 ready : (c : tie.Else1) →
     let a = start (c .before) .args in
-    Combinable (now (a .rule)) (now (a .letters)) (now (a .property)) (a .h) (a .p)
+    Combinable (now (a .rule)) (now (a .letters)) (now (a .property)) (a .h) (a .k)
 ready c = let s = start (c .before) in combinable (s .pre .0) (s .pre .1 .0) (s .pre .1 .1 .0) (omega (arith, c .if1 .left))
 
 -- with few enough edges reason 18 does not hold
@@ -60,14 +58,14 @@ mul-states c =
     let s = start c in
     let sizes = valid-sizes (s .pre .0) in
     let property = s .pre .1 .1 .0 in
-    let fewer : s .args .p .states ≤ 4096 = omega (arith, property-numbers property .0, property-facts property .states-range) in
+    let fewer : s .args .k .states ≤ 4096 = omega (arith, property-numbers property .0, property-facts property .states-range) in
     omega (arith, mul-le-mul (sizes .states-range .1) fewer)
 
 returns : tie.Need-returns
 returns c =
     let s = start (c .before) in
     let a = s .args in
-    refused-18 (now (a .rule)) (now (a .letters)) (now (a .property)) (now (a .out)) (s .pre .0 .accepted) (s .pre .1 .0) (s .pre .1 .1 .1)
+    refused-18 (now (a .rule)) (now (a .letters)) (now (a .property)) (now (a .output)) (s .pre .0 .accepted) (s .pre .1 .0) (s .pre .1 .1 .1)
     (large-states (now (a .rule)) (now (a .letters)) (now (a .property)) _ (size-told (c .before)) (omega (arith, c .if1 .taken)))
 
 count-edges-requires : tie.Need-count-edges-requires
@@ -78,7 +76,7 @@ returns-2 c =
     let few = c .before .before in
     let s = start (few .before) in
     let a = s .args in
-    refused-18 (now (a .rule)) (now (a .letters)) (now (a .property)) (now (a .out)) (s .pre .0 .accepted) (s .pre .1 .0) (s .pre .1 .1 .1)
+    refused-18 (now (a .rule)) (now (a .letters)) (now (a .property)) (now (a .output)) (s .pre .0 .accepted) (s .pre .1 .0) (s .pre .1 .1 .1)
     (large-edges (now (a .rule)) (now (a .letters)) (now (a .property)) _ _ (size-told (few .before)) (omega (arith, few .if1 .left)) (c .before .count-edges .ensures) (omega (arith, c .if2 .taken)))
 
 total-of-requires : tie.Need-total-of-requires
@@ -89,7 +87,7 @@ returns-3 c =
     let total = c .before in
     let s = start (total .before .before .before .before) in
     let a = s .args in
-    refused-15 (now (a .rule)) (now (a .letters)) (now (a .property)) (now (a .out)) (s .pre .0 .accepted) (s .pre .1 .0) (s .pre .1 .1 .1) (not-large (total .before))
+    refused-15 (now (a .rule)) (now (a .letters)) (now (a .property)) (now (a .output)) (s .pre .0 .accepted) (s .pre .1 .0) (s .pre .1 .1 .1) (not-large (total .before))
     (omega (arith, c .if3 .taken, total-told total))
 
 write-product-requires : tie.Need-write-product-requires
@@ -110,8 +108,9 @@ returns-4 c =
     let total = fits .before in
     let s = start (total .before .before .before .before) in
     let a = s .args in
-    written-is (now (a .rule)) (now (a .letters)) (now (a .property)) (now (a .out)) (s .pre .0 .accepted) (s .pre .1 .0) (s .pre .1 .1 .1) (not-large (total .before))
-    (omega (arith, fits .if3 .left, total-told total)) (wrote .write-product .ensures)
+    let is = written-is (now (a .rule)) (now (a .letters)) (now (a .property)) (now (a .output)) (s .pre .0 .accepted) (s .pre .1 .0) (s .pre .1 .1 .1) (not-large (total .before))
+    (omega (arith, fits .if3 .left, total-told total)) (wrote .write-product .ensures) in
+    (is .0, is .1)
 
 pub within-limits-spec : {M : Type 1} → statement M
 within-limits-spec =

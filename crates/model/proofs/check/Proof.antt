@@ -1,7 +1,7 @@
 -- `check` meets its contract: a file refused by the rules 1 to 5 is refused by their number, and past them the rules 6 to 11
 -- decide, by the total length of a model file.
 use Prim.Native.Nat.{ℕ}
-use mathlib.Core.Path.{_≡_, sym, ap, ap₂, _∙_}
+use mathlib.Core.Path.{sym, ap, ap₂, _∙_}
 use native.Mathlib.Omega.{arith}
 use denote.Ref.{now}
 use borrow.Author.Needs.{needs}

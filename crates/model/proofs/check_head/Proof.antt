@@ -33,38 +33,38 @@ abbrev from5 : tie.Else6 → tie.Start
 from5 c = from4 (c .before .before)
 
 -- the file that is checked
-abbrev fileOf : tie.Start → List ℕ
-fileOf c = now (c .args .file)
+abbrev checked : tie.Start → List ℕ
+checked c = now (c .args .file)
 
 -- past each rule those behind it decide
-kept-1 : (c : tie.Else1) → KeptTo 1 (headRules (fileOf (from1 c)))
-kept-1 c = let file = fileOf (from1 c) in unheld-skipped _ (shortFile file) 1 _ refl (le-ltb (length file) 24 (c .if1 .left))
+kept-1 : (c : tie.Else1) → KeptTo 1 (headRules (checked (from1 c)))
+kept-1 c = let file = checked (from1 c) in unheld-skipped _ (shortFile file) 1 _ refl (le-ltb (length file) 24 (c .if1 .left))
 
-kept-2 : (c : tie.Else3) → KeptTo 2 (headRules (fileOf (from2 c)))
+kept-2 : (c : tie.Else3) → KeptTo 2 (headRules (checked (from2 c)))
 kept-2 c =
-    let file = fileOf (from2 c) in
+    let file = checked (from2 c) in
     let in-range : badStates file ≡ false = rw (ne-eqb (states file) 0 (omega arith), le-ltb 4096 (states file) (omega arith)) in
     unheld-skipped _ (badStates file) 2 _ (kept-1 (c .before .before .before .before .before)) in-range
 
-kept-3 : (c : tie.Else4) → KeptTo 3 (headRules (fileOf (from3 c)))
+kept-3 : (c : tie.Else4) → KeptTo 3 (headRules (checked (from3 c)))
 kept-3 c =
-    let file = fileOf (from3 c) in
+    let file = checked (from3 c) in
     unheld-skipped _ (badEdges file) 3 _ (kept-2 (c .before)) (le-ltb 8192 (edgeCount file) (omega arith))
 
-kept-4 : (c : tie.Else5) → KeptTo 4 (headRules (fileOf (from4 c)))
+kept-4 : (c : tie.Else5) → KeptTo 4 (headRules (checked (from4 c)))
 kept-4 c =
-    let file = fileOf (from4 c) in
+    let file = checked (from4 c) in
     unheld-skipped _ (badInitial file) 4 _ (kept-3 (c .before)) (rw (lt-ltb (initial file) (states file) (omega arith)))
 
-kept-5 : (c : tie.Else6) → KeptTo 5 (headRules (fileOf (from5 c)))
+kept-5 : (c : tie.Else6) → KeptTo 5 (headRules (checked (from5 c)))
 kept-5 c =
-    let file = fileOf (from5 c) in
+    let file = checked (from5 c) in
     unheld-skipped _ (badReserved file) 5 _ (kept-4 (c .before .before)) (rw (eq-eqb (reserved file) 0 (omega arith)))
 
 returns : tie.Need-returns
 returns c =
     let start = c .before .before in
-    let file = fileOf start in
+    let file = checked start in
     held-refuses (headRules file) file (shortFile file) 1 _ refl (lt-ltb (length file) 24 (c .if1 .taken))
 
 word-requires : tie.Need-word-requires
@@ -80,26 +80,26 @@ returns-2 : tie.Need-returns-2
 returns-2 c =
     let first = c .before .before .before .before in
     let start = from1 first in
-    let file = fileOf start in
+    let file = checked start in
     held-refuses (headRules file) file (badStates file) 2 _ (kept-1 first) (rw (eq-eqb (states file) 0 (omega arith)))
 
 returns-3 : tie.Need-returns-3
 returns-3 c =
     let first = c .before .before .before .before .before in
     let start = from1 first in
-    let file = fileOf start in
+    let file = checked start in
     held-refuses (headRules file) file (badStates file) 2 _ (kept-1 first) (rw (ne-eqb (states file) 0 (omega arith), lt-ltb 4096 (states file) (omega arith)))
 
 returns-4 : tie.Need-returns-4
 returns-4 c =
     let start = from2 (c .before) in
-    let file = fileOf start in
+    let file = checked start in
     held-refuses (headRules file) file (badEdges file) 3 _ (kept-2 (c .before)) (lt-ltb 8192 (edgeCount file) (omega arith))
 
 returns-5 : tie.Need-returns-5
 returns-5 c =
     let start = from3 (c .before) in
-    let file = fileOf start in
+    let file = checked start in
     held-refuses (headRules file) file (badInitial file) 4 _ (kept-3 (c .before)) (rw (le-ltb (initial file) (states file) (omega arith)))
 
 word-requires-4 : tie.Need-word-requires-4
@@ -108,12 +108,12 @@ word-requires-4 c κs = search needs
 returns-6 : tie.Need-returns-6
 returns-6 c =
     let start = from4 (c .before .before) in
-    let file = fileOf start in
+    let file = checked start in
     held-refuses (headRules file) file (badReserved file) 5 _ (kept-4 (c .before .before)) (rw (ne-eqb (reserved file) 0 (omega arith)))
 
 returns-7 : tie.Need-returns-7
 returns-7 c =
-    let file = fileOf (from5 c) in
+    let file = checked (from5 c) in
     let read = c .before .before .before .before .before .before in
     none-accepts (headRules file) file _
     (rw (read .before .before .word .ensures .0, read .before .word2 .ensures .0, read .word3 .ensures .0)) (kept-5 c)

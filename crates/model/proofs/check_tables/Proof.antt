@@ -8,7 +8,7 @@ use mathlib.Core.Option.{none}
 use borrow.Author.Tests.{eq-eqb, ne-eqb}
 use denote.Ref.{now}
 use lib.ListN.{length}
-use Prim.Native.Nat.{ℕ, _≤_}
+use Prim.Native.Nat.{ℕ}
 use Rattle.format.specs.Bytes.{long}
 use Rattle.format.specs.Layout.{HasTables}
 use Rattle.format.specs.Rules.{badOffsets, badLength, badRows, badTargets, badOrder, badSpare, rulesWith}
@@ -17,7 +17,6 @@ use Rattle.model.proofs.Answers.{held-refuses, none-accepts}
 use Rattle.format.proofs.Kept.{length-kept}
 use Rattle.model.proofs.HeadLaws.{HeadKept, head-kept, head-decides}
 use Rattle.model.proofs.Laws.{header-numbers}
-use borrow.Author.Needs.{needs}
 use Rattle.model.proofs.check_tables.Statement.{statement}
 use Rattle.model.proofs.check_tables.Tie as tie
 
@@ -38,55 +37,55 @@ abbrev from10 : tie.Else5 → tie.Start
 from10 c = from9 (c .before .before)
 
 -- the file that is checked
-abbrev fileOf : tie.Start → List ℕ
-fileOf c = now (c .args .file)
+abbrev checked : tie.Start → List ℕ
+checked c = now (c .args .file)
 
 -- the total length that it is to have
 abbrev totalFor : tie.Start → ℕ
 totalFor c = c .args .total
 
 -- the rules 1 to 5 are kept
-headKept : (c : tie.Start) → HeadKept (fileOf c) (c .args .h)
-headKept c = head-kept (fileOf c) (c .args .h) (c .pre .0)
+headKept : (c : tie.Start) → HeadKept (checked c) (c .args .h)
+headKept c = head-kept (checked c) (c .args .h) (c .pre .0)
 
 -- past rule 6 its test is false
-offsets-kept : (c : tie.Else1) → badOffsets (totalFor (from6 c)) (fileOf (from6 c)) ≡ false
+offsets-kept : (c : tie.Else1) → badOffsets (totalFor (from6 c)) (checked (from6 c)) ≡ false
 offsets-kept c = sym (c .before .offsets-broken .ensures) ∙ c .if1 .left
 
 -- past rule 7 its test is false
-own-length-kept : (c : tie.Else2) → badLength (fileOf (from7 c)) ≡ false
+own-length-kept : (c : tie.Else2) → badLength (checked (from7 c)) ≡ false
 own-length-kept c =
-    let file = fileOf (from7 c) in
+    let file = checked (from7 c) in
     rw (eq-eqb (length file) (long file 20) (omega arith))
 
 -- past rule 8 its test is false
-rows-kept : (c : tie.Else3) → badRows (fileOf (from8 c)) ≡ false
+rows-kept : (c : tie.Else3) → badRows (checked (from8 c)) ≡ false
 rows-kept c = sym (c .before .rows-broken .ensures) ∙ c .if3 .left
 
 -- past each rule those behind it decide
-kept-6 : (c : tie.Else1) → KeptTo 6 (rulesWith (totalFor (from6 c)) (fileOf (from6 c)))
-kept-6 c = unheld-skipped _ (badOffsets (totalFor (from6 c)) (fileOf (from6 c))) 6 _ (head-decides (headKept (from6 c)) (totalFor (from6 c))) (offsets-kept c)
+kept-6 : (c : tie.Else1) → KeptTo 6 (rulesWith (totalFor (from6 c)) (checked (from6 c)))
+kept-6 c = unheld-skipped _ (badOffsets (totalFor (from6 c)) (checked (from6 c))) 6 _ (head-decides (headKept (from6 c)) (totalFor (from6 c))) (offsets-kept c)
 
-kept-7 : (c : tie.Else2) → KeptTo 7 (rulesWith (totalFor (from7 c)) (fileOf (from7 c)))
-kept-7 c = unheld-skipped _ (badLength (fileOf (from7 c))) 7 _ (kept-6 (c .before .before)) (own-length-kept c)
+kept-7 : (c : tie.Else2) → KeptTo 7 (rulesWith (totalFor (from7 c)) (checked (from7 c)))
+kept-7 c = unheld-skipped _ (badLength (checked (from7 c))) 7 _ (kept-6 (c .before .before)) (own-length-kept c)
 
-kept-8 : (c : tie.Else3) → KeptTo 8 (rulesWith (totalFor (from8 c)) (fileOf (from8 c)))
-kept-8 c = unheld-skipped _ (badRows (fileOf (from8 c))) 8 _ (kept-7 (c .before .before)) (rows-kept c)
+kept-8 : (c : tie.Else3) → KeptTo 8 (rulesWith (totalFor (from8 c)) (checked (from8 c)))
+kept-8 c = unheld-skipped _ (badRows (checked (from8 c))) 8 _ (kept-7 (c .before .before)) (rows-kept c)
 
-kept-9 : (c : tie.Else4) → KeptTo 9 (rulesWith (totalFor (from9 c)) (fileOf (from9 c)))
+kept-9 : (c : tie.Else4) → KeptTo 9 (rulesWith (totalFor (from9 c)) (checked (from9 c)))
 kept-9 c =
-    unheld-skipped _ (badTargets (fileOf (from9 c))) 9 _ (kept-8 (c .before .before)) (sym (c .before .targets-broken .ensures) ∙ c .if4 .left)
+    unheld-skipped _ (badTargets (checked (from9 c))) 9 _ (kept-8 (c .before .before)) (sym (c .before .targets-broken .ensures) ∙ c .if4 .left)
 
-kept-10 : (c : tie.Else5) → KeptTo 10 (rulesWith (totalFor (from10 c)) (fileOf (from10 c)))
+kept-10 : (c : tie.Else5) → KeptTo 10 (rulesWith (totalFor (from10 c)) (checked (from10 c)))
 kept-10 c =
-    unheld-skipped _ (badOrder (fileOf (from10 c))) 10 _ (kept-9 (c .before .before)) (sym (c .before .order-broken .ensures) ∙ c .if5 .left)
+    unheld-skipped _ (badOrder (checked (from10 c))) 10 _ (kept-9 (c .before .before)) (sym (c .before .order-broken .ensures) ∙ c .if5 .left)
 
 -- past rule 7 the file has room for the tables of its header
 sized : (c : tie.Else2) →
     let h = from7 c .args .h in
-    HasTables (fileOf (from7 c)) (h .states) (h .edges)
+    HasTables (checked (from7 c)) (h .states) (h .edges)
 sized c =
-    let file = fileOf (from7 c) in
+    let file = checked (from7 c) in
     let total = totalFor (from7 c) in
     let head = headKept (from7 c) in
     let numbers = header-numbers file (head .header) in
@@ -96,12 +95,12 @@ sized c =
 offsets-broken-requires : tie.Need-offsets-broken-requires
 offsets-broken-requires c κs =
     let head = headKept (c .before) in
-    omega (arith, header-numbers (fileOf (c .before)) (head .header))
+    omega (arith, header-numbers (checked (c .before)) (head .header))
 
 returns : tie.Need-returns
 returns c =
     let start = c .before .before .before in
-    held-refuses (rulesWith (totalFor start) (fileOf start)) (fileOf start) (badOffsets (totalFor start) (fileOf start)) 6 _ (head-decides (headKept start) (totalFor start)) (sym (c .before .offsets-broken .ensures) ∙ c .if1 .taken)
+    held-refuses (rulesWith (totalFor start) (checked start)) (checked start) (badOffsets (totalFor start) (checked start)) 6 _ (head-decides (headKept start) (totalFor start)) (sym (c .before .offsets-broken .ensures) ∙ c .if1 .taken)
 
 long-requires : tie.Need-long-requires
 long-requires c κs = omega (arith, headKept (from6 c) .long-enough)
@@ -109,7 +108,7 @@ long-requires c κs = omega (arith, headKept (from6 c) .long-enough)
 returns-2 : tie.Need-returns-2
 returns-2 c =
     let start = from6 (c .before .before) in
-    let file = fileOf start in
+    let file = checked start in
     held-refuses (rulesWith (totalFor start) file) file (badLength file) 7 _ (kept-6 (c .before .before)) (rw (ne-eqb (length file) (long file 20) (omega arith)))
 
 rows-broken-requires : tie.Need-rows-broken-requires
@@ -118,7 +117,7 @@ rows-broken-requires c κs = sized c
 returns-3 : tie.Need-returns-3
 returns-3 c =
     let start = from7 (c .before .before) in
-    let file = fileOf start in
+    let file = checked start in
     held-refuses (rulesWith (totalFor start) file) file (badRows file) 8 _ (kept-7 (c .before .before)) (sym (c .before .rows-broken .ensures) ∙ c .if3 .taken)
 
 targets-broken-requires : tie.Need-targets-broken-requires
@@ -127,7 +126,7 @@ targets-broken-requires c κs = sized (c .before .before)
 returns-4 : tie.Need-returns-4
 returns-4 c =
     let start = from8 (c .before .before) in
-    let file = fileOf start in
+    let file = checked start in
     held-refuses (rulesWith (totalFor start) file) file (badTargets file) 9 _ (kept-8 (c .before .before)) (sym (c .before .targets-broken .ensures) ∙ c .if4 .taken)
 
 order-broken-requires : tie.Need-order-broken-requires
@@ -137,7 +136,7 @@ order-broken-requires c κs =
 returns-5 : tie.Need-returns-5
 returns-5 c =
     let start = from9 (c .before .before) in
-    let file = fileOf start in
+    let file = checked start in
     held-refuses (rulesWith (totalFor start) file) file (badOrder file) 10 _ (kept-9 (c .before .before)) (sym (c .before .order-broken .ensures) ∙ c .if5 .taken)
 
 spare-set-requires : tie.Need-spare-set-requires
@@ -146,13 +145,13 @@ spare-set-requires c κs = sized (c .before .before .before .before .before .bef
 returns-6 : tie.Need-returns-6
 returns-6 c =
     let start = from10 (c .before .before) in
-    let file = fileOf start in
+    let file = checked start in
     held-refuses (rulesWith (totalFor start) file) file (badSpare file) 11 _ (kept-10 (c .before .before)) (sym (c .before .spare-set .ensures) ∙ c .if6 .taken)
 
 returns-7 : tie.Need-returns-7
 returns-7 c =
     let start = from10 (c .before .before) in
-    let file = fileOf start in
+    let file = checked start in
     none-accepts (rulesWith (totalFor start) file) file (start .args .h) (headKept start .header)
     (unheld-skipped _ (badSpare file) 11 none (kept-10 (c .before .before)) (sym (c .before .spare-set .ensures) ∙ c .if6 .left))
 

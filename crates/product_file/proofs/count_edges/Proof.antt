@@ -1,6 +1,6 @@
 -- `count_edges` meets its contract: the edges of the combined states below c are counted.
-use Prim.Native.Nat.{ℕ, _+_, _*_, _-_, _≤_}
-use mathlib.Core.Path.{_≡_, refl, sym, ap, _∙_}
+use Prim.Native.Nat.{ℕ, _*_, _-_, _≤_}
+use mathlib.Core.Path.{_≡_, refl, ap, _∙_}
 use native.Mathlib.Omega.{arith}
 use denote.Ref.{now}
 use lib.ListN.{length, length-append}
@@ -12,11 +12,11 @@ use Rattle.product_file.proofs.count_edges.Statement.{statement}
 use Rattle.product_file.proofs.count_edges.Tie as tie
 
 abbrev Inv-loop : tie.InvT-loop
-Inv-loop rule h letters property p pairs edges₀ c₀ edges c =
+Inv-loop rule h letters property k pairs edges₀ c₀ edges c =
     (c ≤ pairs) × (edges ≡ length (edgesBelow (combined rule letters property) c)) × (edges ≤ c * 67108864)
 
 abbrev μ-loop : tie.MeasureT-loop
-μ-loop rule h letters property p pairs edges₀ c₀ edges c = pairs - c
+μ-loop rule h letters property k pairs edges₀ c₀ edges c = pairs - c
 
 mul-pairs : tie.Need-mul-pairs Inv-loop μ-loop
 mul-pairs c = omega (arith, c .before .before .before .before .before .pre .pairs-limit)
@@ -25,7 +25,7 @@ loop-holds : tie.Need-loop-holds Inv-loop μ-loop
 loop-holds c = (omega arith, refl, omega arith)
 
 pair-degree-requires : tie.Need-pair-degree-requires Inv-loop μ-loop
-pair-degree-requires c κs = (c .before .before .before .before .before .before .before .pre, c .loop-test .taken)
+pair-degree-requires c κs = (c .before .before .before .before .before .before .before .pre, omega (arith, c .loop-test .taken))
 
 add-edges : tie.Need-add-edges Inv-loop μ-loop
 add-edges c =

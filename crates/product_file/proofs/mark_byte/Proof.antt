@@ -1,5 +1,5 @@
 -- `mark_byte` meets its contract: the bits below j are added up, each with its weight.
-use Prim.Native.Nat.{ℕ, suc, _+_, _*_, _-_, _^_, _≤_, _<_}
+use Prim.Native.Nat.{ℕ, _+_, _*_, _-_, _^_, _≤_, _<_}
 use mathlib.Core.Path.{_≡_, refl, sym, ap, ap₂, _∙_}
 use mathlib.Core.Bool.{Bool}
 use mathlib.Core.List.{List}
@@ -21,11 +21,11 @@ abbrev setAt : (p : List ℕ) (n b : ℕ) → ℕ → Bool
 setAt p n b j = pairMark p n (8 * b + j)
 
 abbrev Inv-loop : tie.InvT-loop
-Inv-loop property p states b byte₀ weight₀ j₀ byte weight j =
+Inv-loop property k states b byte₀ weight₀ j₀ byte weight j =
     (j ≤ 8) × (weight ≡ 2 ^ j) × (byte ≡ worth (setAt property states b) j)
 
 abbrev μ-loop : tie.MeasureT-loop
-μ-loop property p states b byte₀ weight₀ j₀ byte weight j = 8 - j
+μ-loop property k states b byte₀ weight₀ j₀ byte weight j = 8 - j
 
 -- what the loop has: the weight and the byte are small
 small : (c : tie.At-loop Inv-loop μ-loop) → (c .loop .weight ≤ 256) × (c .loop .byte < c .loop .weight)

@@ -1,14 +1,13 @@
 -- `pair_degree` meets its contract: the edges of the rule's state times those of the property's whose masks hold the letter.
-use Prim.Native.Nat.{ℕ, _*_, _/_, _%_, _<_}
+use Prim.Native.Nat.{ℕ, _*_, _/_}
 use mathlib.Core.Path.{_≡_, sym, ap, ap₂, _∙_}
 use mathlib.Core.List.{List}
 use native.Mathlib.Omega.{arith}
 use denote.Ref.{now}
 use borrow.Author.Needs.{needs}
-use lib.ListN.{length, getD}
+use lib.ListN.{length}
 use Rattle.lasso.specs.Lists.{keep}
 use Rattle.format.specs.Bytes.{bitb}
-use Rattle.property.specs.Property.{rowMasks}
 use Rattle.product_file.specs.Combined.{letterOf, combined}
 use Rattle.product_file.proofs.CombinedLaws.{some-property-state, state-below, property-below, combined-degree, combined-degree-le}
 use Rattle.product_file.proofs.pair_degree.Statement.{statement}
@@ -18,8 +17,8 @@ use Rattle.product_file.proofs.pair_degree.Tie as tie
 abbrev start : tie.After-shared-slice-known4 → tie.Start
 start c = c .before .before .before .before
 
-div-state : tie.Need-div-state
-div-state c = let s = c .before .before .before in some-property-state (s .pre .0)
+div-s : tie.Need-div-s
+div-s c = let s = c .before .before .before in some-property-state (s .pre .0)
 
 shared-slice-read-letter : tie.Need-shared-slice-read-letter
 shared-slice-read-letter c =
@@ -29,7 +28,7 @@ shared-slice-read-letter c =
 cast-letter : tie.Need-cast-letter
 cast-letter c =
     let s = start c in
-    omega (arith, s .pre .0 .letters-range (s .args .c / s .args .p .states))
+    omega (arith, s .pre .0 .letters-range (s .args .c / s .args .k .states))
 
 row-part-requires : tie.Need-row-part-requires
 row-part-requires c κs =
@@ -50,7 +49,7 @@ mask-part-requires c κs =
 count-holding-requires : tie.Need-count-holding-requires
 count-holding-requires c κs =
     let s = start (c .before .before .before) in
-    s .pre .0 .letters-range (s .args .c / s .args .p .states)
+    s .pre .0 .letters-range (s .args .c / s .args .k .states)
 
 -- the product is the number of edges
 told : (c : tie.After-count-holding) →
@@ -59,7 +58,7 @@ told : (c : tie.After-count-holding) →
     ≡ length (combined (now (s .args .rule)) (now (s .args .letters)) (now (s .args .property)) .succs (s .args .c))
 told c =
     let s = start (c .before .before .before .before) in
-    let letter : ℕ = letterOf (now (s .args .letters)) (s .args .c / s .args .p .states) in
+    let letter : ℕ = letterOf (now (s .args .letters)) (s .args .c / s .args .k .states) in
     let steps = c .before .before .degree .ensures ∙ ap length (c .before .before .before .row-part .ensures) in
     let held = c .count-holding .ensures ∙ ap (λ (ms : List ℕ). length (keep (λ (m : ℕ). bitb m letter) ms)) (c .before .mask-part .ensures) in
     ap₂ _*_ steps held ∙ sym (combined-degree (s .pre .0) (s .args .c) (s .pre .1))
@@ -78,7 +77,7 @@ pub pair-degree-spec : {M : Type 1} → statement M
 pair-degree-spec =
     tie.close
     (tie.spec
-    div-state
+    div-s
     shared-slice-read-letter
     cast-letter
     row-part-requires

@@ -12,7 +12,7 @@ use Rattle.property.specs.Property.{chosen}
 use Rattle.property.proofs.PropertyLaws.{property-facts}
 use Rattle.pair_row.specs.Row.{rowOf}
 use Rattle.product_file.specs.Combined.{letterOf, combined}
-use Rattle.product_file.proofs.CombinedLaws.{pair-numbers, some-property-state, state-below, property-below, combined-row, row-fits, row-masks-length}
+use Rattle.product_file.proofs.CombinedLaws.{property-header, some-property-state, state-below, property-below, combined-row, row-fits, row-masks-length}
 use Rattle.product_file.proofs.write_edges.Statement.{statement}
 use Rattle.product_file.proofs.write_edges.Tie as tie
 
@@ -34,7 +34,7 @@ shared-slice-read-letter c =
 cast-letter : tie.Need-cast-letter
 cast-letter c =
     let s = start c in
-    omega (arith, s .pre .0 .letters-range (s .args .c / s .args .p .states))
+    omega (arith, s .pre .0 .letters-range (s .args .c / s .args .k .states))
 
 row-part-requires : tie.Need-row-part-requires
 row-part-requires c κs =
@@ -55,8 +55,8 @@ mask-part-requires c κs =
 row-told : (c : tie.After-mask-part) →
     let s = start (c .before .before .before) in
     let a = s .args in
-    rowOf (a .p .states) (stepsOf (a .h) (a .c / a .p .states) (now (c .before .before .row-part .result)))
-    (chosen (letterOf (now (a .letters)) (a .c / a .p .states)) (words (now (c .mask-part .result))) (words (now (c .before .target-part .result))))
+    rowOf (a .k .states) (stepsOf (a .h) (a .c / a .k .states) (now (c .before .before .row-part .result)))
+    (chosen (letterOf (now (a .letters)) (a .c / a .k .states)) (words (now (c .mask-part .result))) (words (now (c .before .target-part .result))))
     ≡ combined (now (a .rule)) (now (a .letters)) (now (a .property)) .succs (a .c)
 row-told c =
     let s = start (c .before .before .before) in
@@ -70,10 +70,10 @@ write-row-requires c κs =
     let C = s .pre .0 in
     let less = s .pre .1 .0 in
     let within = property-below C (a .c) less in (
-      C .letters-range (a .c / a .p .states),
+      C .letters-range (a .c / a .k .states),
       (
         rw (at .mask-part .ensures, at .before .target-part .ensures)
-            (row-masks-length (property-facts (C .property-valid)) (a .c % a .p .states) (omega (arith, within, pair-numbers C .0)) .0),
+            (row-masks-length (property-facts (C .property-valid)) (a .c % a .k .states) (omega (arith, within, property-header C .0)) .0),
         (
           rw (at .before .before .row-part .ensures, at .before .target-part .ensures) (row-fits C (a .c) less),
           omega (arith, ap length (row-told at), s .pre .1 .1),

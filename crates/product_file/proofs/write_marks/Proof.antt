@@ -4,22 +4,20 @@ use mathlib.Core.Path.{_≡_, sym, ap, _∙_}
 use mathlib.Core.List.{[], _∷_, map}
 use native.Mathlib.Omega.{arith}
 use denote.Ref.{now}
-use lib.ListN.{length}
 use Rattle.lasso.specs.Lists.{below}
 use Rattle.text.specs.Writing.{Wrote}
 use Rattle.text.proofs.WroteLaws.{wrote-length, wrote-none, wrote-then, wrote-as}
-use Rattle.writer.proofs.FileLaws.{map-below-next, upFrom-length}
-use Rattle.product.proofs.PathsLaws.{map-length}
+use Rattle.writer.proofs.FileLaws.{map-below-next, map-below-length}
 use Rattle.product_file.specs.Combined.{pairMarkByte}
 use Rattle.product_file.proofs.write_marks.Statement.{statement}
 use Rattle.product_file.proofs.write_marks.Tie as tie
 
 abbrev Inv-loop : tie.InvT-loop
-Inv-loop out₀ at property p states count next₀ b₀ out next b =
+Inv-loop out₀ at property k states count next₀ b₀ out next b =
     (b ≤ count) × Wrote out₀ at (map (pairMarkByte property states) (below b)) out next
 
 abbrev μ-loop : tie.MeasureT-loop
-μ-loop out₀ at property p states count next₀ b₀ out next b = count - b
+μ-loop out₀ at property k states count next₀ b₀ out next b = count - b
 
 mark-bytes-requires : tie.Need-mark-bytes-requires Inv-loop μ-loop
 mark-bytes-requires c κs = c .before .before .pre .1 .0
@@ -50,8 +48,7 @@ write-byte-requires c κs =
       arith,
       w .place,
       wrote-length w,
-      map-length f (below (at-loop .loop .b)),
-      upFrom-length 0 (at-loop .loop .b),
+      map-below-length f (at-loop .loop .b),
       in-loop .loop-test .taken,
       told .mark-bytes .ensures,
       start .pre .1 .1,

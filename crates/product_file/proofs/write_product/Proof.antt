@@ -1,20 +1,20 @@
 -- `write_product` meets its contract: the header, the two tables and the marks are written one after the other.
-use Prim.Native.Nat.{ℕ, _+_, _*_, _≤_}
-use mathlib.Core.Path.{_≡_, sym, ap, ap₂, subst, _∙_}
+use Prim.Native.Nat.{ℕ, _+_}
+use mathlib.Core.Path.{sym, ap, ap₂, subst, _∙_}
 use mathlib.Core.List.{List, _++_, map, append-assoc}
 use native.Mathlib.Omega.{arith}
 use denote.Ref.{now}
 use borrow.Author.Needs.{needs}
-use lib.ListN.{length, length-append}
 use Rattle.lasso.specs.Lists.{below}
 use Rattle.lasso.specs.Graph.{Graph}
 use Rattle.format.specs.Layout.{markBytes}
 use Rattle.text.specs.Writing.{Wrote}
 use Rattle.text.proofs.WroteLaws.{wrote-length, wrote-then, wrote-as}
 use Rattle.writer.specs.File.{words16, edgesBelow, edgeTotal, headerWords, rowWords, markByte}
-use Rattle.product_file.specs.Combined.{combined, tableBytes, TablesFit, pairMarkByte}
-use Rattle.product_file.proofs.CombinedLaws.{size-is, start-is, start-below}
-use Rattle.product_file.proofs.TableLaws.{table-bytes-length}
+use Rattle.product_file.specs.Combined.{combined, pairMarkByte}
+use Rattle.writer.specs.Tables.{TablesFit}
+use Rattle.product_file.proofs.CombinedLaws.{size-is, initial-pair-is, initial-pair-below}
+use Rattle.writer.proofs.TableLaws.{table-bytes-length}
 use Rattle.product_file.proofs.write_product.Statement.{statement}
 use Rattle.product_file.proofs.write_product.Tie as tie
 
@@ -37,7 +37,7 @@ header-written c =
     let C = s .pre .0 in
     let w = c .write-header .ensures in
     subst (λ (next : ℕ). Wrote (now (s .args .out)) 0 (words16 (headerWords (g .size) (edgeTotal g) (g .start))) (c .write-header .last .0) next) (w .place)
-    (wrote-as (ap₂ (λ (n i : ℕ). words16 (headerWords n (s .args .edges) i)) (sym (size-is C)) (sym (start-is C))
+    (wrote-as (ap₂ (λ (n i : ℕ). words16 (headerWords n (s .args .edges) i)) (sym (size-is C)) (sym (initial-pair-is C))
     ∙ ap (λ (m : ℕ). words16 (headerWords (g .size) m (g .start))) (s .pre .1 .0 .0)) w)
 
 -- the tables have room behind the header
@@ -55,17 +55,17 @@ mul-states c = search needs
 mul-start : tie.Need-mul-start
 mul-start c =
     let s = c .before .before .before .before .before .before .before .before in
-    omega (arith, start-below (s .pre .0), s .pre .0 .pairs-limit)
+    omega (arith, initial-pair-below (s .pre .0), s .pre .0 .pairs-limit)
 
 add-start : tie.Need-add-start
 add-start c =
     let s = c .before .before .before .before .before .before .before .before .before in
-    omega (arith, start-below (s .pre .0), s .pre .0 .pairs-limit)
+    omega (arith, initial-pair-below (s .pre .0), s .pre .0 .pairs-limit)
 
 write-header-requires : tie.Need-write-header-requires
 write-header-requires c κs =
     let s = c .before .before .before .before .before .before .before .before .before .before in
-    omega (arith, start-below (s .pre .0), s .pre .0 .pairs-limit, s .pre .1)
+    omega (arith, initial-pair-below (s .pre .0), s .pre .0 .pairs-limit, s .pre .1)
 
 write-tables-requires : tie.Need-write-tables-requires
 write-tables-requires c κs =

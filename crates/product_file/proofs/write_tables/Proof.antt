@@ -2,7 +2,6 @@
 -- the states before it.
 use Prim.Native.Nat.{ℕ, _+_, _*_, _-_, _/_, _≤_, _<_}
 use mathlib.Core.Path.{_≡_, sym, ap, subst, _∙_}
-use mathlib.Core.List.{List}
 use native.Mathlib.Omega.{arith}
 use denote.Ref.{now}
 use lib.ListN.{length}
@@ -10,18 +9,18 @@ use Rattle.lasso.specs.Graph.{Graph}
 use Rattle.format.specs.Layout.{edgesAt}
 use Rattle.text.proofs.WroteLaws.{wrote-length}
 use Rattle.writer.specs.File.{edgesBelow}
-use Rattle.product_file.specs.Combined.{combined, TablesFit}
+use Rattle.product_file.specs.Combined.{combined}
 use Rattle.product_file.proofs.CombinedLaws.{size-is}
-use Rattle.product_file.proofs.TableLaws.{tablesTo, PassedTo, passed-none, passed-length, passed-entry, entry-written, edges-written, edges-fit, tables-written}
+use Rattle.writer.proofs.TableLaws.{tablesTo, PassedTo, passed-none, passed-length, passed-entry, entry-written, edges-written, edges-fit, tables-written}
 use Rattle.product_file.proofs.write_tables.Statement.{statement}
 use Rattle.product_file.proofs.write_tables.Tie as tie
 
 abbrev Inv-loop : tie.InvT-loop
-Inv-loop out₀ rule h letters property p states base at₀ c₀ out at c =
+Inv-loop out₀ rule h letters property k states base at₀ c₀ out at c =
     PassedTo (combined rule letters property) out₀ c out at
 
 abbrev μ-loop : tie.MeasureT-loop
-μ-loop out₀ rule h letters property p states base at₀ c₀ out at c = states - c
+μ-loop out₀ rule h letters property k states base at₀ c₀ out at c = states - c
 
 -- the function's start, from the loop
 abbrev start : tie.At-loop Inv-loop μ-loop → tie.Start Inv-loop μ-loop
@@ -92,7 +91,7 @@ sub-write-word : tie.Need-sub-write-word Inv-loop μ-loop
 sub-write-word c = edges-behind (c .before .before)
 
 write-word-requires : tie.Need-write-word-requires Inv-loop μ-loop
-write-word-requires c κs = (entry-room (c .before .before), entry-small (c .before .before))
+write-word-requires c κs = (omega (arith, entry-room (c .before .before)), omega (arith, entry-small (c .before .before)))
 
 write-edges-requires : tie.Need-write-edges-requires Inv-loop μ-loop
 write-edges-requires c κs =
@@ -126,7 +125,7 @@ add-write-word-2 : tie.Need-add-write-word-2 Inv-loop μ-loop
 add-write-word-2 c = omega (arith, c .before .before .loop .inv .within, size-is (start (c .before .before) .pre .0), start (c .before .before) .pre .0 .pairs-limit)
 
 write-word-requires-2 : tie.Need-write-word-requires-2 Inv-loop μ-loop
-write-word-requires-2 c κs = (entry-room (c .before .before), entry-small (c .before .before))
+write-word-requires-2 c κs = (omega (arith, entry-room (c .before .before)), omega (arith, entry-small (c .before .before)))
 
 same-length : tie.Need-same-length Inv-loop μ-loop
 same-length c =

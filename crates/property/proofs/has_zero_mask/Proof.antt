@@ -57,7 +57,7 @@ returns : tie.Need-returns Inv-loop μ-loop
 returns c =
     let at = c .before .before .before in
     let file = now (at .before .before .before .args .file) in
-    sym (left-found (at .loop .inv) (c .before .before .loop-test .taken)
+    sym (left-found (at .loop .inv) (omega (arith, c .before .before .loop-test .taken))
     (eq-eqb (maskAt file (at .loop .e)) 0 (omega (arith, mask-read (c .before)))))
 
 add-e : tie.Need-add-e Inv-loop μ-loop
@@ -70,11 +70,11 @@ loop-again : tie.Need-loop-again Inv-loop μ-loop
 loop-again c =
     let at = c .before .before .before in
     let file = now (at .before .before .before .args .file) in
-    left-next (at .loop .inv) (c .before .before .loop-test .taken)
+    left-next (at .loop .inv) (omega (arith, c .before .before .loop-test .taken))
     (ne-eqb (maskAt file (at .loop .e)) 0 (omega (arith, mask-read (c .before))))
 
 returns-2 : tie.Need-returns-2 Inv-loop μ-loop
-returns-2 c = sym (left-none (c .before .loop .inv) (c .loop-test .left))
+returns-2 c = sym (left-none (c .before .loop .inv) (omega (arith, c .loop-test .left)))
 
 pub has-zero-mask-spec : {M : Type 1} → statement M
 has-zero-mask-spec =

@@ -4,7 +4,6 @@ use mathlib.Core.Path.{ap, ap₂, _∙_}
 use native.Mathlib.Omega.{arith}
 use denote.Ref.{now}
 use Rattle.format.specs.Layout.{rowNumbers}
-use Rattle.model.proofs.Laws.{row-end-le}
 use Rattle.property.specs.Property.{masksAt}
 use Rattle.property.proofs.PropertyLaws.{property-facts, property-length, property-numbers, masks-within}
 use Rattle.property.proofs.mask_part.Statement.{statement}

@@ -1,6 +1,5 @@
 -- `target_part` meets its contract: the row lies within the edge table.
 use native.Mathlib.Omega.{arith}
-use denote.Ref.{now}
 use Rattle.model.proofs.Laws.{row-end-le}
 use Rattle.property.proofs.PropertyLaws.{property-facts, property-numbers}
 use Rattle.property.proofs.target_part.Statement.{statement}

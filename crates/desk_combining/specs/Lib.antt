@@ -1,0 +1,3 @@
+-- What the combining program writes for three inputs, and the laws of its sizes.
+pub mod Combining
+pub mod Sizes

@@ -1,0 +1,6 @@
+-- How many bytes of a model file decide.
+use Prim.Native.Nat.{ℕ}
+
+-- one more than the longest model file has
+abbrev pub fileBytes : ℕ
+fileBytes = 25115
