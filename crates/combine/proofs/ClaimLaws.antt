@@ -32,16 +32,16 @@ use Rattle.combine.specs.declared.CombineAnswer.the-variants.{Refused, W
 use Rattle.combine.specs.Combine.{badLetters, tooLarge, combinedFile, combineReasons, combineBroken, combineOutcome, combineOutcomeOf, CombineLosesNothing}
 use Rattle.combine.specs.Claim.{CombinationHolds, SameButMarks, RuleMarksUnused}
 use Rattle.combine.specs.Examples.{ExamplesOfCombining}
-use Rattle.combine.proofs.ReasonLaws.{firstBehind, behind}
+use Rattle.combine.proofs.ReasonLaws.{firstBehind, reasons-behind-decide}
 
 -- the combined model of a combination that is not refused can be written, and combines the rule with the property
 written-model : (f letters p : List ℕ) (out : ℕ) → combineBroken f letters p out ≡ none
     → Writable (combined f letters p) × Combines (combined f letters p) (graphOf f) (letterOf letters) (propertyOf p)
 written-model f letters p out e =
     let accepted : Accepted f = append-clear (rules f) (drop 11 (combineReasons f letters p out)) e in
-    let behind = none-clear (drop 11 (combineReasons f letters p out)) (sym (clear-append (rules f) (drop 11 (combineReasons f letters p out)) accepted) ∙ e) in
-    let property = behind .1 .0 in
-    let large = behind .1 .1 .0 in
+    let own = none-clear (drop 11 (combineReasons f letters p out)) (sym (clear-append (rules f) (drop 11 (combineReasons f letters p out)) accepted) ∙ e) in
+    let property = own .1 .0 in
+    let large = own .1 .1 .0 in
     let rule-formed = accepted-well-formed f accepted in
     let property-formed = property-well-formed (bad-kept p property) in (
       record {
@@ -91,8 +91,8 @@ rule-marks-unused f f' letters p out a a' same =
     λ n g. firstBehind (badLetters n letters) (badProperty p) (tooLarge g) (ltb (length out) (length (fileOf g))) in
     let answer : ℕ → Graph → Outcome ℕ = λ n g. outcome (broken n g) (length (fileOf g)) in
     let output : ℕ → Graph → List ℕ = λ n g. written (unlessRefused (broken n g) (some (fileOf g))) out in
-    let told = behind f letters p out a in
-    let told' = behind f' letters p out a' in
+    let told = reasons-behind-decide f letters p out a in
+    let told' = reasons-behind-decide f' letters p out a' in
     let g : Graph = combined f letters p in
     let g' : Graph = combined f' letters p in (
       ap (λ (o : Option ℕ). outcome o (length (fileOf g))) told

@@ -65,36 +65,36 @@ module _ (f letters p out : List ℕ) where
   refused-rule n e = refused-is n (broken-append (rules f) (drop 11 (combineReasons f letters p (length out))) n e)
 
   module _ (a : Accepted f) where
-    -- for an accepted rule those behind decide
-    pub behind : combineBroken f letters p (length out)
+    -- for an accepted rule the reasons behind its own decide
+    pub reasons-behind-decide : combineBroken f letters p (length out)
         ≡ firstBehind (badLetters (states f) letters) (badProperty p) (tooLarge (combined f letters p)) (ltb (length out) (length (combinedFile f letters p)))
-    behind = clear-append (rules f) (drop 11 (combineReasons f letters p (length out))) a
+    reasons-behind-decide = clear-append (rules f) (drop 11 (combineReasons f letters p (length out))) a
 
     -- 16 holds
     pub refused-16 : badLetters (states f) letters ≡ true → CombineIs (Refused 16) out
-    refused-16 e = refused-is 16 (behind ∙ rw e)
+    refused-16 e = refused-is 16 (reasons-behind-decide ∙ rw e)
 
     module _ (l : badLetters (states f) letters ≡ false) where
       -- 17 holds
       pub refused-17 : badProperty p ≡ true → CombineIs (Refused 17) out
-      refused-17 e = refused-is 17 (behind ∙ rw (l, e))
+      refused-17 e = refused-is 17 (reasons-behind-decide ∙ rw (l, e))
 
       module _ (q : badProperty p ≡ false) where
         -- 18 holds
         pub refused-18 : tooLarge (combined f letters p) ≡ true → CombineIs (Refused 18) out
-        refused-18 e = refused-is 18 (behind ∙ rw (l, q, e))
+        refused-18 e = refused-is 18 (reasons-behind-decide ∙ rw (l, q, e))
 
         module _ (s : tooLarge (combined f letters p) ≡ false) where
           -- 15 holds
           pub refused-15 : length out < length (combinedFile f letters p) → CombineIs (Refused 15) out
-          refused-15 less = refused-is 15 (behind ∙ rw (l, q, s, lt-ltb (length out) (length (combinedFile f letters p)) less))
+          refused-15 less = refused-is 15 (reasons-behind-decide ∙ rw (l, q, s, lt-ltb (length out) (length (combinedFile f letters p)) less))
 
           -- no reason holds: the file is written from the first byte on
           pub written-is : length (combinedFile f letters p) ≤ length out → {n : ℕ} {out' : List ℕ}
               → Wrote out 0 (combinedFile f letters p) out' n → CombineIs (Written n) out'
           written-is room {n} {out'} w =
               let file : List ℕ = combinedFile f letters p in
-              let passes : combineBroken f letters p (length out) ≡ none = behind ∙ rw (l, q, s, le-ltb (length out) (length file) room) in
+              let passes : combineBroken f letters p (length out) ≡ none = reasons-behind-decide ∙ rw (l, q, s, le-ltb (length out) (length file) room) in
               let long : 0 + length file ≡ length file = zero-add (length file) in
               let bytes : length file ≡ n = sym (w .place ∙ long) in
               let call = call-kept (combineReasons f letters p (length out)) (length file) n (some file) (some file) passes bytes refl in

@@ -15,11 +15,10 @@ use Rattle.gate.specs.Gate.{commonRules}
 use Rattle.outcomes.specs.Tables.{listReasons}
 use Rattle.search.specs.Search.{searched, firstDue}
 use Rattle.search.proofs.SearchLaws.{search-empty, search-found, roll-first}
-use Rattle.format.proofs.Reasons.{broken-append}
+use Rattle.format.proofs.Reasons.{broken-append, broken-number}
 use Rattle.gate.proofs.GateLaws.{common-refused}
 use Rattle.sheet_text.specs.SheetText.{sheetAsk}
 use Rattle.sheet_text.proofs.SheetLaws.{outcome-answered, enough-rounds}
-use Rattle.sheet.proofs.LengthLaws.{broken-number}
 use Rattle.desk.specs.Desk.{answerEntries, workEntries, inputRefusal}
 use Rattle.desk.specs.Sizes.{OnlyTheFileRefuses, RefusedUpToEleven, EmptyRefused}
 

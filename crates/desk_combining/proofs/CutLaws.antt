@@ -25,7 +25,7 @@ use Rattle.combine.specs.Combine.{badLetters, combinedFile, combineOutcome}
 use Rattle.combine.proofs.ReasonLaws.{CombineIs, refused-rule, refused-16, refused-17}
 use Rattle.combine.specs.declared.CombineAnswer.the-variants.{Refused}
 use Rattle.desk_combining.specs.Combining.{outputBytes, combining, fileTold, lineTold, outputText, errorText}
-use Rattle.desk_combining.specs.Sizes.{lettersBytes, propertyBytes, FirstBytesDecide}
+use Rattle.desk_combining.specs.Sizes.{lettersBytes, propertyBytes, FirstBytesOfEachDecide}
 
 -- the same is told of three inputs and of three others
 abbrev SameTold : (f letters p f' letters' p' : List ℕ) → Type 0
@@ -148,6 +148,6 @@ cut-told {k} {l} {m} {f} {letters} {p} {f'} {letters'} {p'} rule table property 
     )
 
 -- the first bytes, as many as the buffers have, decide
-pub first-bytes-decide : FirstBytesDecide
-first-bytes-decide f letters p =
+pub first-bytes-of-each-decide : FirstBytesOfEachDecide
+first-bytes-of-each-decide f letters p =
     cut-told {k = fileBytes} {l = lettersBytes} {m = propertyBytes} {f = f} {letters = letters} {p = p} (record { are = refl }) (record { are = refl }) (record { are = refl }) (omega arith) (omega arith) (omega arith)

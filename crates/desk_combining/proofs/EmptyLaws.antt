@@ -6,11 +6,11 @@ use borrow.Author.Tests.{ne-eqb}
 use Rattle.format.specs.Layout.{states}
 use Rattle.model.proofs.Laws.{accepted-facts}
 use Rattle.combine.proofs.ReasonLaws.{refused-rule, refused-16, refused-17}
-use Rattle.desk_combining.specs.Sizes.{EmptyRefused}
+use Rattle.desk_combining.specs.Sizes.{EmptyInputRefused}
 use Rattle.desk_combining.proofs.CutLaws.{output, refused-told}
 
-pub empty-refused : EmptyRefused
-empty-refused =
+pub empty-input-refused : EmptyInputRefused
+empty-input-refused =
     record {
       rule = λ letters p. refused-told [] letters p 1 (refused-rule [] letters p output 1 refl);
       letters =

@@ -3,18 +3,16 @@ use Prim.Native.Nat.{ℕ, _≤_}
 use mathlib.Core.Path.{_≡_, refl, sym, _∙_, subst}
 use mathlib.Core.Bool.{Bool, true, false, not}
 use mathlib.Core.Logic.{_⊎_, inl, inr}
-use mathlib.Core.List.{List, [], _∷_}
+use mathlib.Core.List.{List}
 use mathlib.Core.Option.{Option, some, none}
 use native.Mathlib.Omega.{arith}
 use borrow.Author.Tests.{le-ltb}
 use lib.ListN.{length, drop}
 use lib.Dec.{T, ltb, nltb→le}
-use Rattle.lasso.specs.Lists.{someIf}
 use Rattle.lasso.specs.Graph.{Graph}
-use Rattle.lasso.proofs.Sorted.{All}
 use Rattle.format.specs.Layout.{states}
-use Rattle.format.specs.Rules.{Reason, firstBroken, rules}
-use Rattle.format.proofs.Reasons.{clear-append, broken-append, false-not, neither-l, neither-r}
+use Rattle.format.specs.Rules.{firstBroken, rules}
+use Rattle.format.proofs.Reasons.{clear-append, broken-append, broken-number, false-not, neither-l, neither-r}
 use Rattle.outcomes.specs.Outcome.{Outcome, refused, answered, outcome}
 use Rattle.writer.specs.File.{edgeTotal, fileOf}
 use Rattle.writer.proofs.FileLaws.{file-length-is}
@@ -24,15 +22,6 @@ use Rattle.combine.specs.Combine.{badLetters, tooLarge, combinedFile, combineRe
 use Rattle.combine.proofs.ReasonLaws.{firstBehind}
 use Rattle.desk_combining.specs.Combining.{outputBytes, NumberFits}
 use Rattle.desk_combining.specs.Sizes.{RefusedNumbers}
-
--- the number of the first reason is one of the table's
-broken-number : (P : ℕ → Type 0) (rs : List Reason) → All (λ r. P (r .number)) rs → (n : ℕ) → firstBroken rs ≡ some n → P n
-broken-number P [] h n e = let z : _≡_ {A = ℕ} 0 1 = cc in absurd (omega arith)
-broken-number P (r ∷ rs) h n e = go (r .holds) e (λ q. broken-number P rs (h .1) n q)
-  where
-    go : (b : Bool) → someIf b (r .number) (firstBroken rs) ≡ some n → (firstBroken rs ≡ some n → P n) → P n
-    go true q later = let same : r .number ≡ n = cc in subst P same (h .0)
-    go false q later = later q
 
 -- a model that is not too large has a file that the output holds
 file-fits : (g : Graph) → tooLarge g ≡ false → length (fileOf g) ≤ outputBytes

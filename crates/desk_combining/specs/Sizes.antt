@@ -22,8 +22,8 @@ propertyBytes = 41499
 
 -- what is written for three inputs is what is written for the first 25,115 bytes of the rule, the first 4,097 letters and
 -- the first 41,499 bytes of the property
-abbrev pub FirstBytesDecide : Type 0
-FirstBytesDecide = (rule letters property : List ℕ) →
+abbrev pub FirstBytesOfEachDecide : Type 0
+FirstBytesOfEachDecide = (rule letters property : List ℕ) →
     (outputText (take fileBytes rule) (take lettersBytes letters) (take propertyBytes property) ≡ outputText rule letters property)
     × (errorText (take fileBytes rule) (take lettersBytes letters) (take propertyBytes property) ≡ errorText rule letters property)
 
@@ -33,7 +33,7 @@ RefusedNumbers = (rule letters property : List ℕ) (n : ℕ) → combining rule
     → ((1 ≤ n) × (n ≤ 11)) ⊎ ((16 ≤ n) × (n ≤ 18))
 
 -- An empty input, and so one that cannot be read to its end, is refused.
-pub record EmptyRefused : Type 0 where
+pub record EmptyInputRefused : Type 0 where
   pub rule : (letters property : List ℕ) → combining [] letters property ≡ refused 1
   pub letters : (rule property : List ℕ) → Accepted rule → combining rule [] property ≡ refused 16
   pub property : (rule letters : List ℕ) → Accepted rule → badLetters (states rule) letters ≡ false → combining rule letters [] ≡ refused 17

@@ -1,6 +1,6 @@
 -- What it says that no reason of a table holds, and how the first one that holds is found.
 use Prim.Native.Nat.{ℕ, _+_, _≤_, _<_}
-use mathlib.Core.Path.{_≡_, refl, sym, ap, _∙_}
+use mathlib.Core.Path.{_≡_, refl, sym, ap, subst, _∙_}
 use mathlib.Core.Bool.{Bool, true, false, _||_, not}
 use mathlib.Core.List.{List, [], _∷_, _++_}
 use mathlib.Core.Option.{Option, some, none, Option·some-ne-none}
@@ -8,6 +8,7 @@ use native.Mathlib.Omega.{arith}
 use lib.ListN.{drop}
 use lib.Dec.{T, eqb, not-T, T-not}
 use Rattle.lasso.specs.Lists.{anyb, upFrom, below, someIf}
+use Rattle.lasso.proofs.Sorted.{All}
 use Rattle.lasso.proofs.Tests.{some-anyb, range-upFrom, eq→eqb}
 use Rattle.format.specs.Rules.{Reason, firstBroken}
 
@@ -59,6 +60,15 @@ append-clear rs ss e = go (firstBroken rs) (sym (firstBroken-append rs ss) ∙ e
     go : (o : Option ℕ) → orElse o (firstBroken ss) ≡ none → o ≡ none
     go none q = refl
     go (some n) q = let z : _≡_ {A = ℕ} 0 1 = cc in absurd (omega arith)
+
+-- the number of the first reason is one of the table's
+pub broken-number : (P : ℕ → Type 0) (rs : List Reason) → All (λ r. P (r .number)) rs → (n : ℕ) → firstBroken rs ≡ some n → P n
+broken-number P [] h n e = let z : _≡_ {A = ℕ} 0 1 = cc in absurd (omega arith)
+broken-number P (r ∷ rs) h n e = go (r .holds) e (λ q. broken-number P rs (h .1) n q)
+  where
+    go : (b : Bool) → someIf b (r .number) (firstBroken rs) ≡ some n → (firstBroken rs ≡ some n → P n) → P n
+    go true q later = let same : r .number ≡ n = cc in subst P same (h .0)
+    go false q later = later q
 
 -- the first k reasons of a table do not hold: those behind them decide
 abbrev pub KeptTo : ℕ → List Reason → Type 0

@@ -58,8 +58,8 @@ module _ {f letters p : List ℕ} {h k : Header} (C : Combinable f letters p h k
   property-header = property-numbers (C .property-valid)
 
   -- the number of combined states
-  pub size-is : combined f letters p .size ≡ h .states * k .states
-  size-is = combined-size letters (C .rule-valid) (C .property-valid)
+  pub pairs-are : combined f letters p .size ≡ h .states * k .states
+  pairs-are = combined-size letters (C .rule-valid) (C .property-valid)
 
   -- the property has a state
   pub some-property-state : 0 < k .states

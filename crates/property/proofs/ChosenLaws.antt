@@ -69,22 +69,22 @@ keep-same p q (x ∷ xs) a = rw (a .0) (ap (λ (r : List ℕ). consIf (q x) x r)
 
 module _ (t : ℕ → ℕ) (b : ℕ → Bool) where
   -- some place holds x and passes
-  abbrev found : List ℕ → ℕ → Bool
-  found es x = anyb (λ e. eqb (t e) x && b e) es
+  abbrev heldAt : List ℕ → ℕ → Bool
+  heldAt es x = anyb (λ e. eqb (t e) x && b e) es
 
   -- no place holds a number below all that the places hold
-  found-none : (x : ℕ) (es : List ℕ) → All (λ y. x < y) (map t es) → found es x ≡ false
-  found-none x [] a = refl
-  found-none x (e ∷ es) a = rw (ne-eqb (t e) x (omega (arith, a .0)), found-none x es (a .1))
+  heldAt-none : (x : ℕ) (es : List ℕ) → All (λ y. x < y) (map t es) → heldAt es x ≡ false
+  heldAt-none x [] a = refl
+  heldAt-none x (e ∷ es) a = rw (ne-eqb (t e) x (omega (arith, a .0)), heldAt-none x es (a .1))
 
   -- a place that holds another number does not matter
-  found-past : (e : ℕ) (es : List ℕ) (xs : List ℕ) → All (λ y. t e < y) xs → All (λ x. found (e ∷ es) x ≡ found es x) xs
-  found-past e es [] a = tt
-  found-past e es (x ∷ xs) a = (rw (ne-eqb (t e) x (omega (arith, a .0))), found-past e es xs (a .1))
+  heldAt-past : (e : ℕ) (es : List ℕ) (xs : List ℕ) → All (λ y. t e < y) xs → All (λ x. heldAt (e ∷ es) x ≡ heldAt es x) xs
+  heldAt-past e es [] a = tt
+  heldAt-past e es (x ∷ xs) a = (rw (ne-eqb (t e) x (omega (arith, a .0))), heldAt-past e es xs (a .1))
 
   -- a place that holds a number less than all behind it decides about that number
-  found-here : (e : ℕ) (es : List ℕ) → All (λ y. t e < y) (map t es) → found (e ∷ es) (t e) ≡ b e
-  found-here e es a = rw (T-true (eqb (t e) (t e)) (eqb-refl (t e)), found-none (t e) es a) (or-false (b e))
+  heldAt-here : (e : ℕ) (es : List ℕ) → All (λ y. t e < y) (map t es) → heldAt (e ∷ es) (t e) ≡ b e
+  heldAt-here e es a = rw (T-true (eqb (t e) (t e)) (eqb-refl (t e)), heldAt-none (t e) es a) (or-false (b e))
     where
       or-false : (c : Bool) → c || false ≡ c
       or-false true = refl
@@ -97,9 +97,9 @@ module _ (t m : ℕ → ℕ) (letter : ℕ) where
   kept-chosen [] s = refl
   kept-chosen (e ∷ es) s =
       let b : ℕ → Bool = λ k. bitb (m k) letter in
-      let behind : keep (found t b (e ∷ es)) (map t es) ≡ chosen letter (map m es) (map t es) =
-      keep-same (found t b (e ∷ es)) (found t b es) (map t es) (found-past t b e es (map t es) (s .0)) ∙ kept-chosen es (s .1) in
-      ap (λ (c : Bool). consIf c (t e) (keep (found t b (e ∷ es)) (map t es))) (found-here t b e es (s .0))
+      let behind : keep (heldAt t b (e ∷ es)) (map t es) ≡ chosen letter (map m es) (map t es) =
+      keep-same (heldAt t b (e ∷ es)) (heldAt t b es) (map t es) (heldAt-past t b e es (map t es) (s .0)) ∙ kept-chosen es (s .1) in
+      ap (λ (c : Bool). consIf c (t e) (keep (heldAt t b (e ∷ es)) (map t es))) (heldAt-here t b e es (s .0))
       ∙ ap (λ (r : List ℕ). consIf (b e) (t e) r) behind
 
 -- the property's states that an edge leads to from q whose mask holds the letter are those chosen from its row

@@ -1,21 +1,20 @@
 -- No sheet is longer than the room that is asked for its text.
 use Prim.Native.Nat.{ℕ, _≤_, min}
-use mathlib.Core.Path.{_≡_, refl, ap, subst}
-use mathlib.Core.Bool.{Bool, true, false}
-use mathlib.Core.List.{List, [], _∷_, _++_}
+use mathlib.Core.Path.{_≡_, refl, ap}
+use mathlib.Core.List.{List, _++_}
 use mathlib.Core.Option.{Option, some, none}
 use native.Mathlib.Omega.{arith}
 use lib.ListN.{length, take, drop, length-append}
 use lib.Dec.{ltb}
-use Rattle.lasso.specs.Lists.{someIf, collect}
+use Rattle.lasso.specs.Lists.{collect}
 use Rattle.lasso.specs.Graph.{Graph}
 use Rattle.lasso.specs.Roll.{leastLength, roll}
 use Rattle.lasso.specs.Rounds.{candidates}
-use Rattle.lasso.proofs.Sorted.{All}
 use Rattle.lasso.proofs.RollLaws.{roll-empty, leastLength-range}
 use Rattle.format.specs.Layout.{states, edgeCount}
 use Rattle.model.specs.Model.{graphOf}
-use Rattle.format.specs.Rules.{Reason, firstBroken, rules, Accepted}
+use Rattle.format.specs.Rules.{rules, Accepted}
+use Rattle.format.proofs.Reasons.{broken-number, append-clear}
 use Rattle.model.proofs.Laws.{accepted-facts, accepted-well-formed}
 use Rattle.lasso.proofs.RoundLaws.{candidates-length-le}
 use Rattle.search.specs.Search.{searchReasons}
@@ -30,28 +29,9 @@ use Rattle.roll_text.proofs.RoomLaws.{roll-room, lines-room, closing-room}
 use Rattle.sheet_head.proofs.HeadLaws.{head-room}
 use Rattle.sheet_text.proofs.SheetLaws.{headOf, rollText-some}
 
--- the number of the first reason is one of the table's
-pub broken-number : (P : ℕ → Type 0) (rs : List Reason) → All (λ r. P (r .number)) rs → (n : ℕ) → firstBroken rs ≡ some n → P n
-broken-number P [] h n e = let z : _≡_ {A = ℕ} 0 1 = cc in absurd (omega arith)
-broken-number P (r ∷ rs) h n e = go (r .holds) e (λ q. broken-number P rs (h .1) n q)
-  where
-    go : (b : Bool) → someIf b (r .number) (firstBroken rs) ≡ some n → (firstBroken rs ≡ some n → P n) → P n
-    go true q later = let same : r .number ≡ n = cc in subst P same (h .0)
-    go false q later = later q
-
--- if no reason of a table holds, none of its first part does
-clear-front : (rs ss : List Reason) → firstBroken (rs ++ ss) ≡ none → firstBroken rs ≡ none
-clear-front [] ss e = refl
-clear-front (r ∷ rs) ss e = go (r .holds) e (λ q. clear-front rs ss q)
-  where
-    go : (b : Bool) → someIf b (r .number) (firstBroken (rs ++ ss)) ≡ none → (firstBroken (rs ++ ss) ≡ none → firstBroken rs ≡ none)
-        → someIf b (r .number) (firstBroken rs) ≡ none
-    go true q later = let z : _≡_ {A = ℕ} 0 1 = cc in absurd (omega arith)
-    go false q later = later q
-
 -- a file that is not refused breaks none of 1 to 11
 refusal-accepted : (f : List ℕ) (answer work : ℕ) → sheetRefusal f answer work ≡ none → Accepted f
-refusal-accepted f answer work e = clear-front (rules f) (drop 11 (searchReasons f sheetAsk answer work)) e
+refusal-accepted f answer work e = append-clear (rules f) (drop 11 (searchReasons f sheetAsk answer work)) e
 
 -- the number of a refusal is at most 15
 refusal-number : (f : List ℕ) (answer work n : ℕ) → sheetRefusal f answer work ≡ some n → n ≤ 15

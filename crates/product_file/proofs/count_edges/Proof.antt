@@ -7,7 +7,7 @@ use lib.ListN.{length, length-append}
 use Rattle.writer.specs.File.{edgesBelow}
 use Rattle.writer.proofs.FileLaws.{edges-next}
 use Rattle.product_file.specs.Combined.{combined}
-use Rattle.product_file.proofs.CombinedLaws.{size-is}
+use Rattle.product_file.proofs.CombinedLaws.{pairs-are}
 use Rattle.product_file.proofs.count_edges.Statement.{statement}
 use Rattle.product_file.proofs.count_edges.Tie as tie
 
@@ -56,7 +56,7 @@ returns c =
     let start = at .before .before .before .before .before .before in
     let a = start .args in
     let g = combined (now (a .rule)) (now (a .letters)) (now (a .property)) in
-    let all : at .loop .c ≡ g .size = omega (arith, size-is (start .pre), c .loop-test .left, at .loop .inv .0) in
+    let all : at .loop .c ≡ g .size = omega (arith, pairs-are (start .pre), c .loop-test .left, at .loop .inv .0) in
     at .loop .inv .1 ∙ ap (λ (i : ℕ). length (edgesBelow g i)) all
 
 pub count-edges-spec : {M : Type 1} → statement M

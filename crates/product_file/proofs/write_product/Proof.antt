@@ -13,7 +13,7 @@ use Rattle.text.proofs.WroteLaws.{wrote-length, wrote-then, wrote-as}
 use Rattle.writer.specs.File.{words16, edgesBelow, edgeTotal, headerWords, rowWords, markByte}
 use Rattle.product_file.specs.Combined.{combined, pairMarkByte}
 use Rattle.writer.specs.Tables.{TablesFit}
-use Rattle.product_file.proofs.CombinedLaws.{size-is, initial-pair-is, initial-pair-below}
+use Rattle.product_file.proofs.CombinedLaws.{pairs-are, initial-pair-is, initial-pair-below}
 use Rattle.writer.proofs.TableLaws.{table-bytes-length}
 use Rattle.product_file.proofs.write_product.Statement.{statement}
 use Rattle.product_file.proofs.write_product.Tie as tie
@@ -37,7 +37,7 @@ header-written c =
     let C = s .pre .0 in
     let w = c .write-header .ensures in
     subst (λ (next : ℕ). Wrote (now (s .args .out)) 0 (words16 (headerWords (g .size) (edgeTotal g) (g .start))) (c .write-header .last .0) next) (w .place)
-    (wrote-as (ap₂ (λ (n i : ℕ). words16 (headerWords n (s .args .edges) i)) (sym (size-is C)) (sym (initial-pair-is C))
+    (wrote-as (ap₂ (λ (n i : ℕ). words16 (headerWords n (s .args .edges) i)) (sym (pairs-are C)) (sym (initial-pair-is C))
     ∙ ap (λ (m : ℕ). words16 (headerWords (g .size) m (g .start))) (s .pre .1 .0 .0)) w)
 
 -- the tables have room behind the header
@@ -45,7 +45,7 @@ tables-fit : (c : tie.After-write-header) → TablesFit (graph (start c)) (c .wr
 tables-fit c =
     let s = start c in
     record {
-      room = omega (arith, wrote-length (c .write-header .ensures), size-is (s .pre .0), s .pre .1);
+      room = omega (arith, wrote-length (c .write-header .ensures), pairs-are (s .pre .0), s .pre .1);
       edges-limit = omega (arith, s .pre .1 .0);
     }
 
@@ -81,7 +81,7 @@ write-marks-requires c κs =
       s .pre .0 .property-valid,
       (
         s .pre .0 .pairs-limit,
-        omega (arith, w .place, wrote-length w, wrote-length (header .write-header .ensures), table-bytes-length (graph s), size-is (s .pre .0), s .pre .1),
+        omega (arith, w .place, wrote-length w, wrote-length (header .write-header .ensures), table-bytes-length (graph s), pairs-are (s .pre .0), s .pre .1),
       ),
     )
 
@@ -99,7 +99,7 @@ returns c =
     let rows : List ℕ = words16 (rowWords g) in
     let edges : List ℕ = words16 (edgesBelow g (g .size)) in
     let bits : List ℕ = map (markByte g) (below (markBytes (g .size))) in
-    let marked = wrote-as (ap (λ (n : ℕ). map (pairMarkByte (now (s .args .property)) n) (below (markBytes n))) (sym (size-is (s .pre .0)))) (marks .write-marks .ensures) in
+    let marked = wrote-as (ap (λ (n : ℕ). map (pairMarkByte (now (s .args .property)) n) (below (markBytes n))) (sym (pairs-are (s .pre .0)))) (marks .write-marks .ensures) in
     wrote-as (ap (λ (r : List ℕ). r ++ bits) (sym (append-assoc head rows edges)))
     (wrote-then (wrote-then (header-written header) (tables .write-tables .ensures)) marked)
 

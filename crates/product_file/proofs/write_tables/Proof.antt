@@ -10,7 +10,7 @@ use Rattle.format.specs.Layout.{edgesAt}
 use Rattle.text.proofs.WroteLaws.{wrote-length}
 use Rattle.writer.specs.File.{edgesBelow}
 use Rattle.product_file.specs.Combined.{combined}
-use Rattle.product_file.proofs.CombinedLaws.{size-is}
+use Rattle.product_file.proofs.CombinedLaws.{pairs-are}
 use Rattle.writer.proofs.TableLaws.{tablesTo, PassedTo, passed-none, passed-length, passed-entry, entry-written, edges-written, edges-fit, tables-written}
 use Rattle.product_file.proofs.write_tables.Statement.{statement}
 use Rattle.product_file.proofs.write_tables.Tie as tie
@@ -32,7 +32,7 @@ graph s = combined (now (s .args .rule)) (now (s .args .letters)) (now (s .args 
 
 -- the edge table's offset
 base-is : (c : tie.At-loop Inv-loop μ-loop) → c .before .edges-at .result ≡ edgesAt (graph (start c) .size)
-base-is c = c .before .edges-at .ensures ∙ ap edgesAt (sym (size-is (start c .pre .0)))
+base-is c = c .before .edges-at .ensures ∙ ap edgesAt (sym (pairs-are (start c .pre .0)))
 
 -- the row entry that is written
 entry-is : (c : tie.At-loop Inv-loop μ-loop) → (c .loop .at - c .before .edges-at .result) / 2 ≡ length (edgesBelow (graph (start c)) (c .loop .c))
@@ -40,7 +40,7 @@ entry-is c = ap (λ (b : ℕ). (c .loop .at - b) / 2) (base-is c) ∙ passed-ent
 
 -- a turn's combined state is one of them
 turn-below : (c : tie.In-loop Inv-loop μ-loop) → c .before .loop .c < graph (start (c .before)) .size
-turn-below c = omega (arith, c .loop-test .taken, size-is (start (c .before) .pre .0))
+turn-below c = omega (arith, c .loop-test .taken, pairs-are (start (c .before) .pre .0))
 
 -- with its row entry written, the output has the entries up to it
 entered : (c : tie.After-write-word Inv-loop μ-loop) →
@@ -52,7 +52,7 @@ entered c =
 
 -- behind the loop all combined states are passed
 all-passed : (c : tie.After-loop Inv-loop μ-loop) → c .before .loop .c ≡ graph (start (c .before)) .size
-all-passed c = omega (arith, c .loop-test .left, size-is (start (c .before) .pre .0), c .before .loop .inv .within)
+all-passed c = omega (arith, c .loop-test .left, pairs-are (start (c .before) .pre .0), c .before .loop .inv .within)
 
 -- an entry has room in the row table
 entry-room : (c : tie.At-loop Inv-loop μ-loop) → 24 + 2 * c .loop .c + 1 < length (c .loop .out)
@@ -78,14 +78,14 @@ loop-holds : tie.Need-loop-holds Inv-loop μ-loop
 loop-holds c =
     let s = c .before .before .before .before .before .before .before in
     let g = graph s in
-    subst (λ (at : ℕ). PassedTo g (now (s .args .out)) 0 (now (s .args .out)) at) (sym (c .edges-at .ensures ∙ ap edgesAt (sym (size-is (s .pre .0)))))
+    subst (λ (at : ℕ). PassedTo g (now (s .args .out)) 0 (now (s .args .out)) at) (sym (c .edges-at .ensures ∙ ap edgesAt (sym (pairs-are (s .pre .0)))))
     (passed-none (s .pre .1))
 
 mul-write-word : tie.Need-mul-write-word Inv-loop μ-loop
-mul-write-word c = omega (arith, c .before .before .loop .inv .within, size-is (start (c .before .before) .pre .0), start (c .before .before) .pre .0 .pairs-limit)
+mul-write-word c = omega (arith, c .before .before .loop .inv .within, pairs-are (start (c .before .before) .pre .0), start (c .before .before) .pre .0 .pairs-limit)
 
 add-write-word : tie.Need-add-write-word Inv-loop μ-loop
-add-write-word c = omega (arith, c .before .before .loop .inv .within, size-is (start (c .before .before) .pre .0), start (c .before .before) .pre .0 .pairs-limit)
+add-write-word c = omega (arith, c .before .before .loop .inv .within, pairs-are (start (c .before .before) .pre .0), start (c .before .before) .pre .0 .pairs-limit)
 
 sub-write-word : tie.Need-sub-write-word Inv-loop μ-loop
 sub-write-word c = edges-behind (c .before .before)
@@ -102,7 +102,7 @@ write-edges-requires c κs =
     (s .pre .0, (in-loop .loop-test .taken, edges-fit (s .pre .1) (at .loop .inv) (turn-below in-loop) (entered word)))
 
 add-c : tie.Need-add-c Inv-loop μ-loop
-add-c c = let at = c .before .before .before .before .before .before .before .before .before in omega (arith, at .loop .inv .within, size-is (start at .pre .0), start at .pre .0 .pairs-limit)
+add-c c = let at = c .before .before .before .before .before .before .before .before .before in omega (arith, at .loop .inv .within, pairs-are (start at .pre .0), start at .pre .0 .pairs-limit)
 
 loop-less : tie.Need-loop-less Inv-loop μ-loop
 loop-less c = omega (arith, c .before .before .before .before .before .before .before .before .loop-test .taken)
@@ -119,10 +119,10 @@ sub-edges : tie.Need-sub-edges Inv-loop μ-loop
 sub-edges c = edges-behind (c .before)
 
 mul-write-word-2 : tie.Need-mul-write-word-2 Inv-loop μ-loop
-mul-write-word-2 c = omega (arith, c .before .before .loop .inv .within, size-is (start (c .before .before) .pre .0), start (c .before .before) .pre .0 .pairs-limit)
+mul-write-word-2 c = omega (arith, c .before .before .loop .inv .within, pairs-are (start (c .before .before) .pre .0), start (c .before .before) .pre .0 .pairs-limit)
 
 add-write-word-2 : tie.Need-add-write-word-2 Inv-loop μ-loop
-add-write-word-2 c = omega (arith, c .before .before .loop .inv .within, size-is (start (c .before .before) .pre .0), start (c .before .before) .pre .0 .pairs-limit)
+add-write-word-2 c = omega (arith, c .before .before .loop .inv .within, pairs-are (start (c .before .before) .pre .0), start (c .before .before) .pre .0 .pairs-limit)
 
 write-word-requires-2 : tie.Need-write-word-requires-2 Inv-loop μ-loop
 write-word-requires-2 c κs = (omega (arith, entry-room (c .before .before)), omega (arith, entry-small (c .before .before)))
