@@ -1,4 +1,4 @@
--- Worked examples: a rule of two states that alternate, with letters 0 and 1, and a property of two states whose edges into
+-- Worked examples. The first: a rule of two states that alternate, letters 0 and 1, a property of two states whose edges into
 -- state 1 read letter 1; state 1 is marked.
 use Prim.Native.Nat.{ℕ}
 use mathlib.Core.Path.{_≡_}
@@ -41,8 +41,8 @@ exampleResult =
     2 ∷ 0 ∷ 2 ∷ 0 ∷ 1 ∷ 0 ∷ 1 ∷ 0 ∷
     10 ∷ []
 
--- A second example, in which no two numbers can be taken for one another: a rule of two states, 0→1, 1→0, 1→1, which starts
--- at 1 and whose own mark, 0, does not count,
+-- A second example, in which the two numbers of states, the initial states and the letters differ: a rule of two states,
+-- 0→1, 1→0, 1→1, which starts at 1 and whose own mark, 0, does not count,
 abbrev pub secondRule : List ℕ
 secondRule =
     2 ∷ 0 ∷ 3 ∷ 0 ∷ 1 ∷ 0 ∷ 0 ∷ 0 ∷
