@@ -17,11 +17,15 @@ ALL_LETTERS = 0xFFFF
 
 
 class Model(NamedTuple):
-    """A model. Row s is the ascending list of the targets of state s; marks is a set of states."""
+    """A model. Row s is the ascending list of the targets of state s; marks is a set of states.
+
+    stays: bytes 6 and 7 of its file are 1, so a state without edges has an implied step to itself.
+    """
 
     start: int
     rows: list
     marks: set
+    stays: bool = False
 
 
 class Property(NamedTuple):
@@ -53,6 +57,13 @@ def edges_of(model):
     return [(source, target) for source, row in enumerate(model.rows) for target in row]
 
 
+def with_implied_steps(model):
+    """The model in which the implied steps are edges, so that each row holds all successors of its state."""
+    if not model.stays:
+        return model
+    return model._replace(rows=[row or [state] for state, row in enumerate(model.rows)])
+
+
 def encode_up_to_masks(model, masked):
     """The bytes of a file up to the end of its marks; its header counts the masks of a property."""
     states = len(model.rows)
@@ -62,7 +73,7 @@ def encode_up_to_masks(model, masked):
         row_table.append(row_table[-1] + len(row))
     *offsets, masks, total = layout(states, len(targets), masked)
     bits = sum(1 << state for state in model.marks)
-    data = struct.pack("<4H4I", states, len(targets), model.start, 0, *offsets, total)
+    data = struct.pack("<4H4I", states, len(targets), model.start, model.stays, *offsets, total)
     data += struct.pack(f"<{states + 1}H{len(targets)}H", *row_table, *targets)
     return data + bits.to_bytes(masks - len(data), "little")
 
@@ -86,15 +97,15 @@ def decode(data, masked=False):
     """The model that a file holds, or if masked a property file. Raises Refused with the first reason that holds."""
     if len(data) < HEADER_BYTES:
         raise Refused(1, f"the file has {len(data)} bytes, and the header alone has 24")
-    states, edges, start, zero, *places = struct.unpack_from("<4H4I", data)
+    states, edges, start, flag, *places = struct.unpack_from("<4H4I", data)
     if not 1 <= states <= MAX_STATES:
         raise Refused(2, f"it has {states} states, and 1 to {MAX_STATES} are allowed")
     if edges > MAX_EDGES:
         raise Refused(3, f"it has {edges} edges, and at most {MAX_EDGES} are allowed")
     if start >= states:
         raise Refused(4, f"the initial state {start} is not below {states}, the number of states")
-    if zero != 0:
-        raise Refused(5, f"bytes 6 and 7 hold {zero}, not zero")
+    if flag > 1:
+        raise Refused(5, f"bytes 6 and 7 hold {flag}, and 0 and 1 are allowed")
     names = ["offset of the row table", "offset of the edge table", "offset of the marks", "total length"]
     *offsets, masks, total = layout(states, edges, masked)
     for name, place, right in zip(names, places, offsets + [total]):
@@ -115,7 +126,7 @@ def decode(data, masked=False):
     bits = int.from_bytes(data[offsets[2]:masks], "little")
     if bits >> states:
         raise Refused(11, f"a bit after the mark of state {states - 1}, the last one, is set")
-    return Model(start, rows, {state for state in range(states) if bits >> state & 1})
+    return Model(start, rows, {state for state in range(states) if bits >> state & 1}, flag == 1)
 
 
 def check_row_table(row_table, edges):
@@ -157,6 +168,7 @@ def decode_letters(data, states):
 def combine(model, letters, property):
     """The model that a rule, read, gives with its letter table and a property file, both as bytes.
 
+    The rule's implied steps are followed, the property's are not, and the result has none.
     Raises Refused 16, 17 or 18, in this order; combine(decode(rule), ..) raises the rule's 1 to 11 before them.
     """
     letters = decode_letters(letters, len(model.rows))
@@ -171,8 +183,8 @@ def combine(model, letters, property):
 
 
 def agreeing_edges(model, letters, property):
-    """Each edge from (s, q) to (s', q'): s has an edge to s' and q one to q' whose mask holds the letter of s."""
-    for s, s_next in edges_of(model):
+    """Each edge from (s, q) to (s', q'): s has s' as a successor and q an edge to q' whose mask holds the letter of s."""
+    for s, s_next in edges_of(with_implied_steps(model)):
         for (q, q_next), mask in property.masks.items():
             if mask >> letters[s] & 1:
                 yield (s, q), (s_next, q_next)

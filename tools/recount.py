@@ -28,23 +28,27 @@ def draws(x):
 
 
 class Model:
-    """States 0 to n - 1, the initial state, and the successors and the mark of each state."""
+    """States 0 to n - 1, the initial state, and the targets, the successors and the mark of each state.
 
-    def __init__(self, n, initial, edges, marks):
+    The targets are those of its edges. If it stays, a state without edges is its own successor.
+    """
+
+    def __init__(self, n, initial, edges, marks, stays):
         """edges(s, t) and marks(s) say what there is."""
         self.n, self.initial = n, initial
-        self.successors = [[t for t in range(n) if edges(s, t)] for s in range(n)]
+        self.targets = [[t for t in range(n) if edges(s, t)] for s in range(n)]
+        self.successors = [row or [s] for s, row in enumerate(self.targets)] if stays else self.targets
         self.marks = [bool(marks(s)) for s in range(n)]
 
 
-def small(n, number):
+def small(n, number, stays):
     """The model with a number: the initial state, then the marks, then the edges row by row."""
     number, initial = divmod(number, n)
     edges, marks = divmod(number, 2 ** n)
-    return Model(n, initial, lambda s, t: edges >> (n * s + t) & 1, lambda s: marks >> s & 1)
+    return Model(n, initial, lambda s, t: edges >> (n * s + t) & 1, lambda s: marks >> s & 1, stays)
 
 
-def random(n, number):
+def random(n, number, stays):
     """The pseudo-random model with a number: density and marks go by the number, the rest by six draws."""
     seed = drawn(drawn(number ^ n << 32 ^ 0x9E3779B97F4A7C15))
     a, b, c, d, e, f = islice(draws(seed), 6)
@@ -52,7 +56,7 @@ def random(n, number):
     edges = [a & b & c, a & b, a & (b | c), a, a | b, a & b & c | ring][number % 6]
     d, e = d >> 16, e >> 16
     marks = [1 << d % n, d & e, d, d | e][number // 6 % 4]
-    return Model(n, (f >> 8) % n, lambda s, t: edges >> (8 * s + t) & 1, lambda s: marks >> s & 1)
+    return Model(n, (f >> 8) % n, lambda s, t: edges >> (8 * s + t) & 1, lambda s: marks >> s & 1, stays)
 
 
 def accepting(m, path):
@@ -133,7 +137,7 @@ def near(path):
 def random_lists(m):
     """The empty list and six pseudo-random ones; every second starts at the initial state."""
     yield ()
-    edges = sum(1 << 8 * s + t for s in range(m.n) for t in m.successors[s])
+    edges = sum(1 << 8 * s + t for s in range(m.n) for t in m.targets[s])
     marks = sum(1 << s for s in range(m.n) if m.marks[s])
     seed = drawn(drawn((edges ^ marks << 56 ^ m.initial << 61 ^ 0x2545F4914F6CDD1D) & WORD))
     for turn, x in enumerate(islice(draws(seed), 6)):
@@ -148,6 +152,8 @@ def compared(m, count):
     """Counts the answers of all calls on a model; count(call, answer) is told each of them."""
     t = Truth(m)
     count("model", f"least {t.least}" if t.roll else "none")
+    if m.successors != m.targets:
+        count("implied", "any")
     if len(t.roll) > 1:
         count("several", "any")
     counts = list(range(len(t.rounds) + 2)) + [65535]
@@ -188,14 +194,18 @@ def main():
     def refused(number):
         return sum(n for (c, answer), n in seen.items() if answer == f"refused {number}")
 
+    print("each model with 0 and with 1 in bytes 6 and 7")
     for n, models in SMALL:
         for number in range(models):
-            compared(small(n, number), count)
-        print(f"all models of {n} state{'s' if n > 1 else ''}: {models}")
+            compared(small(n, number, False), count)
+            compared(small(n, number, True), count)
+        print(f"all models of {n} state{'s' if n > 1 else ''}: {2 * models}")
     for n, models in RANDOM:
         for number in range(models):
-            compared(random(n, number), count)
-        print(f"random models of {n} states: {models}")
+            compared(random(n, number, False), count)
+            compared(random(n, number, True), count)
+        print(f"random models of {n} states: {2 * models}")
+    print("models with an implied step:", total("implied"))
     print("models without an accepting path:", total("model", "none"))
     for least in range(1, 8):
         print(f"models with a least length of {least}:", total("model", f"least {least}"))

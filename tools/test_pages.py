@@ -11,7 +11,7 @@ import tempfile
 import xml.etree.ElementTree as xml
 
 from modelfile import Model, encode
-from testing import D_BYTES, TOOLS, expect, expect_failure, made, run
+from testing import D_BYTES, STAYS_BYTES, TOOLS, expect, expect_failure, made, run
 
 ROOT = os.path.dirname(TOOLS)
 PROGRAM = os.path.join(ROOT, "target/bin/desk_sheet")
@@ -21,6 +21,7 @@ HTML = "{http://www.w3.org/1999/xhtml}"
 D_SHEET = "model 5 7\nrounds 1\nshortest 3\n0 | 1 3\n0 | 2 3\nend 2\n"
 H_BYTES = encode(Model(0, [[1, 5], [2], [3], [4], [1], [6], [6]], {1, 6}))
 H_SHEET = "model 7 8\nrounds 2\nshortest 3\n0 5 | 6\nend 1\n"
+STAYS_SHEET = "model 2 1\nrounds 1\nshortest 2\n0 | 1\nend 1\n"
 # 0 -> 1..5 -> 6..10 -> 11 <-> 12: 25 runs.
 MANY_BYTES = encode(Model(0, [range(1, 6)] + [range(6, 11)] * 5 + [[11]] * 5 + [[12], [11]], {12}))
 MANY_RUNS = [f"0 {one} {two} | 11 12\n" for one in range(1, 6) for two in range(6, 11)][:20]
@@ -55,6 +56,7 @@ def long_sheet():
 SHEETS = {
     "D": (D_BYTES, D_SHEET),
     "H": (H_BYTES, H_SHEET),
+    "stays": (STAYS_BYTES, STAYS_SHEET),
     "many": (MANY_BYTES, MANY_SHEET),
     "long": (LONG_BYTES, long_sheet()),
     "cuts": (CUTS_BYTES, CUTS_SHEET),
@@ -160,6 +162,7 @@ def test_page_sentences(desk):
             "Starts at 0, then repeats 2, 3 for ever; marked: 3.",
         ],
         "H": ["Starts at 0, goes to 5, then repeats 6 for ever; marked: 6."],
+        "stays": ["Starts at 0, then repeats 1 for ever; marked: 1."],
         "ring 1": ["Starts at 0 and repeats 0 for ever; marked: 0."],
         "ring 2": ["Starts at 0 and repeats 0, 1 for ever; marked: 1."],
         "ring 12": ["Starts at 0 and repeats 0, 1, 2, 3, 4, 5, 6, 7, 8, 9, 10, 11 for ever; marked: 0, 11."],
@@ -191,7 +194,7 @@ def test_page_sentences(desk):
 def test_page_pictures(desk):
     """What is in the pictures: states, double circles, arrows, folds, and the model with its runs."""
     for case, pictures, choices, folds in [
-        ("D", 3, 2, 0), ("H", 2, 1, 0), ("ring 12", 2, 1, 0), ("ring 4096", 1, 0, 1), ("long", 2, 0, 9),
+        ("D", 3, 2, 0), ("H", 2, 1, 0), ("stays", 2, 1, 0), ("ring 12", 2, 1, 0), ("ring 4096", 1, 0, 1), ("long", 2, 0, 9),
         ("many", 21, 20, 0), ("none", 1, 0, 0),
     ]:
         desk.lay(*SHEETS[case])
@@ -223,8 +226,9 @@ def test_page_words(desk):
     for case, parts in {
         "D": ["5 states and 7 edges", "Within reach: 4 states, 1 marked", "There are 2", "1 state cannot be reached"],
         "H": ["It is the only one", "Drawn strong: run 1."],
+        "stays": ["2 states and 1 edge and", "1 state without edges stays as it is and has an arrow to itself."],
         "many": ["These are the first 20 such runs; there are more", "Run 20", "Drawn strong: run 20."],
-        "ring 4096": ["has 4,096 states and 4,096 edges: too many to be read in a picture"],
+        "ring 4096": ["has 4,096 states and 4,096 arrows: too many to be read in a picture"],
         "none": ["No run comes to a marked state again and again"],
     }.items():
         desk.lay(*SHEETS[case])
@@ -346,6 +350,10 @@ def test_page_wrong_sheets(desk):
         desk.fails([], 1, "NO PAGE", part)
     desk.lay(encode(Model(0, [[0]], set())), "model 1 1\nrounds 1\nshortest 1\n| 0\nend 1\n")
     desk.fails([], 1, "NO PAGE", "no marked state")
+    desk.lay(made("damage 6 0", STAYS_BYTES), STAYS_SHEET)
+    desk.fails([], 1, "NO PAGE", "it goes from 1 to 1")
+    desk.lay(STAYS_BYTES, STAYS_SHEET.replace("model 2 1", "model 2 2"))
+    desk.fails([], 1, "NO PAGE", "2 states and 2 edges")
     desk.lay(D_BYTES[:40], D_SHEET)
     desk.fails([], 1, "NO PAGE", "refused 7")
     desk.lay(D_BYTES[:40], "refused 6\n")
@@ -397,6 +405,8 @@ def test_dot(desk):
         "start -> 0;", "0 -> 1 [penwidth=3];", "3 -> 1 [penwidth=3];", "3 -> 2 [color=gray50];",
     ]:
         expect(f"Graphviz text has {line}", f"  {line}\n" in text, text)
+    desk.lay(*SHEETS["stays"])
+    expect("an implied step as Graphviz text", "  1 -> 1 [penwidth=3];\n" in desk.draw("--dot"))
     program = shutil.which("dot")
     if not program:
         print("skipped: dot is not installed, so it did not read the Graphviz text")

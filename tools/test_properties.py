@@ -60,6 +60,9 @@ def test_property_text():
     expect("masks of many letters", full[-4:] == b"\x81\x80\xff\xff", full)
     expect("all letters", made("make-model", many[:many.rindex(b"1 0 1")] + b"1 all") == full)
     expect("masks as text", made("show-model --property", full).endswith(b"mask 0 0 0 7 15\nmask 0 1 all\n"))
+    staying = made("make-model --property", f"{PROPERTY_TEXT}stays".encode())
+    expect("a property that stays", staying == with_word(PROPERTY_BYTES, 6, 1))
+    expect_round_trip("a property that stays", staying, "--property")
     bare = made("make-model --property", b"states 9\nmark 8")
     expect("a property without edges", bare == made("make-model", b"states 9\nmark 8"))
     expect_round_trip("a property without edges", bare, "--property")
@@ -177,7 +180,7 @@ def test_property_refusals():
     good = PROPERTY_BYTES
     for inner, data in [
         (1, b""), (1, good[:23]), (2, with_word(good, 0, 0)), (2, with_word(good, 0, 4097)),
-        (3, with_word(good, 2, 8193)), (4, with_word(good, 4, 2)), (5, with_word(good, 6, 1)),
+        (3, with_word(good, 2, 8193)), (4, with_word(good, 4, 2)), (5, with_word(good, 6, 2)), (5, with_word(good, 6, 256)),
         (6, with_word(good, 8, 25)), (6, with_word(good, 12, 31)), (6, with_word(good, 16, 39)),
         (6, with_word(good, 20, 39)), (6, with_word(good, 22, 1)), (6, RULE_BYTES), (6, D_BYTES),
         (7, good[:-1]), (7, good[:39]), (7, good + b"\0"), (8, with_word(good, 24, 1)),
@@ -254,11 +257,39 @@ def test_combined_example():
         expect(f"the combination with the rule's marks {marks}", result == COMBINED_BYTES, result.hex())
 
 
+B_BYTES = encode(Model(0, [[0]], {0}))
+
+
+def test_combined_implied_steps():
+    """The rule's implied steps are followed, the property's are not, and the result has 0 in bytes 6 and 7."""
+    stopped = bare(1)
+    loop = encode_property(Property(Model(0, [[0]], {0}), {(0, 0): 8}))
+    no_edge = encode(stopped._replace(marks={0}))
+    for place, property in enumerate([loop, with_word(loop, 6, 1)]):
+        for rule, letter, result in [
+            (stopped._replace(stays=True), 3, B_BYTES), (stopped._replace(stays=True), 2, no_edge), (stopped, 3, no_edge),
+        ]:
+            found = encode(combine(rule, bytes([letter]), property))
+            expect(f"property {place}, {rule}, letter {letter}", found == result, found.hex())
+    for rule in [decode(B_BYTES), stopped._replace(stays=True)]:
+        found = encode(combine(rule, b"\3", with_word(no_edge, 6, 1)))
+        expect(f"a property that stays, {rule}", found == no_edge, found.hex())
+    for rule in [decode(RULE_BYTES), decode(with_word(RULE_BYTES, 6, 1))]:
+        for property in [PROPERTY_BYTES, with_word(PROPERTY_BYTES, 6, 1)]:
+            found = encode(combine(rule, RULE_LETTERS, property))
+            expect(f"the example, {rule}", found == COMBINED_BYTES, found.hex())
+
+
+def successors(model, state):
+    """The states that a step leads to, the implied one among them."""
+    return [state] if model.stays and not model.rows[state] else model.rows[state]
+
+
 def paths(model, length):
-    """All paths with so many edges, from any state."""
+    """All paths with so many steps, from any state."""
     found = [[state] for state in range(len(model.rows))]
     for _ in range(length):
-        found = [path + [target] for path in found for target in model.rows[path[-1]]]
+        found = [path + [target] for path in found for target in successors(model, path[-1])]
     return found
 
 
@@ -274,9 +305,12 @@ def test_random_combinations():
     for case in range(1000):
         states, count = 1 + below(rng, 4), 1 + below(rng, 3)
         rule = random_model(rng, states, below(rng, states * states + 1), below(rng, states + 1))
+        rule = rule._replace(stays=case % 2 == 1)
         letters = bytes(below(rng, 16) for _ in range(states))
         property = random_property(rng, count, below(rng, count * count + 1), below(rng, count + 1))
-        result = combine(rule, letters, encode_property(property))
+        file = encode_property(property)
+        result = combine(rule, letters, file)
+        expect(f"the property that stays {case}", combine(rule, letters, with_word(file, 6, 1)) == result)
         expect(f"combination {case} in a file", decode(encode(result)) == result)
         expect(f"initial pair {case}", divmod(result.start, count) == (rule.start, property.model.start))
         marked = {c for c in range(states * count) if c % count in property.model.marks}
@@ -285,11 +319,11 @@ def test_random_combinations():
             pairs = itertools.product(paths(rule, length), paths(property.model, length))
             agreeing = [pair for pair in pairs if agree(letters, property.masks, *pair)]
             combined = [[s * count + q for s, q in zip(*pair)] for pair in agreeing]
-            expect(f"paths {case} with {length} edges", sorted(paths(result, length)) == sorted(combined))
+            expect(f"paths {case} with {length} steps", sorted(paths(result, length)) == sorted(combined))
 
 
 PROPERTY_TESTS = [
     test_property_text, test_letters, test_bad_property_texts, test_bad_property_words, test_random_properties,
     test_format_page, test_letter_refusals, test_property_refusals, test_size_refusals, test_checking_order,
-    test_combined_example, test_random_combinations,
+    test_combined_example, test_combined_implied_steps, test_random_combinations,
 ]

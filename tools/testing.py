@@ -1,5 +1,5 @@
-# What the tests of the scripts in this folder share: example D, an example of a combination, running a
-# tool, and saying what fails.
+# What the tests of the scripts in this folder share: example D, a model that stays, an example of a
+# combination, running a tool, and saying what fails.
 # A convenience outside the proofs: nothing in crates/ uses it.
 import os
 import subprocess
@@ -11,6 +11,9 @@ D_BYTES = bytes.fromhex(
     "0500070000000000 18000000240000003200000033000000"
     "000002000300040006000700 0100020003000300010002000400 18"
 )
+# A way from 0 to the marked state 1, which stays for ever.
+STAYS_TEXT = "states 2\nstart 0\nstays\n0 -> 1\nmark 1\n"
+STAYS_BYTES = bytes.fromhex("0200010000000100 180000001e0000002000000021000000 000001000100 0100 02")
 # A rule of two states that take turns, with the letters 0 and 1; a property whose edges into its marked
 # state 1 hold letter 1, the others letter 0; and the model that they give together.
 RULE_TEXT = "states 2\nstart 0\n0 -> 1\n1 -> 0\nletter 0 0\nletter 1 1\n"

@@ -6,10 +6,21 @@ use crate::property::Property;
 use crate::random::Random;
 
 /// The files of a combination.
+#[derive(Clone)]
 pub struct Input {
     pub rule: Vec<u8>,
     pub letters: Vec<u8>,
     pub property: Vec<u8>,
+}
+
+impl Input {
+    /// The same files with the flags of bytes 6–7 as given, for the rule and for the property.
+    pub fn staying(&self, rule: bool, property: bool) -> Input {
+        let mut input = self.clone();
+        input.rule[6] = rule as u8;
+        input.property[6] = property as u8;
+        input
+    }
 }
 
 /// A family: the states and edges of the rule and of the property, and how many property edges hold each letter of the

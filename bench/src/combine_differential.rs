@@ -13,6 +13,7 @@ use crate::fahkelo::{combine_into, kind, CombineAnswer};
 use crate::model::Model;
 use crate::product::{is_pair_of_paths, product};
 use crate::random::Random;
+use crate::reference::{read, read_property};
 use crate::samples::dirty;
 use crate::versions::{Combiner, SAFE};
 
@@ -23,6 +24,8 @@ const MOST_LISTS: usize = 4;
 #[derive(Default)]
 struct Counts {
     combinations: u64,
+    rules_implying: u64,
+    properties_implying: u64,
     values: BTreeMap<u16, u64>,
     largest: (usize, usize),
     paths: u64,
@@ -40,23 +43,33 @@ impl Counts {
     }
 }
 
-/// Runs the comparison; the number of differences.
+/// The flags of bytes 6–7, of a rule and of a property.
+const FLAGS: [(bool, bool); 4] = [(false, false), (false, true), (true, false), (true, true)];
+
+/// Runs the comparison on so many combinations, four of each input: bytes 6–7 of the rule and of the property are 0 and
+/// 1. The number of differences.
 pub fn run(count: u64, seed: u64) -> u64 {
     let mut lot = Random::new(seed);
     let mut counts = Counts::default();
-    for round in 0..count {
-        let mut input = match round % 40 {
+    for round in 0..count.div_ceil(4) {
+        let drawn = match round % 40 {
             0..=31 => small(&mut lot),
             32..=37 => middle(&mut lot),
             _ => large(&mut lot),
         };
-        if round % 3 == 2 {
-            damage_input(&mut lot, &mut input);
+        for (rule, property) in FLAGS {
+            let mut input = drawn.staying(rule, property);
+            if round % 3 == 2 {
+                damage_input(&mut lot, &mut input);
+            }
+            compare(&mut lot, &mut counts, &input);
         }
-        compare(&mut lot, &mut counts, &input);
     }
     for family in COMBINATIONS {
-        compare(&mut lot, &mut counts, &family.make());
+        let made = family.make();
+        for (rule, property) in FLAGS {
+            compare(&mut lot, &mut counts, &made.staying(rule, property));
+        }
     }
     for (input, refusal) in at_limits() {
         if product(&input.rule, &input.letters, &input.property).err() != refusal {
@@ -78,6 +91,10 @@ fn print(counts: &Counts) {
         counts.combinations, counts.largest.0, counts.largest.1, counts.paths
     );
     println!(
+        "bytes 6–7 are 1 and some state has no edge: {} rules, {} properties",
+        counts.rules_implying, counts.properties_implying
+    );
+    println!(
         "calls by value: {}; of the calls in C, with too short a table for the figures: {}",
         shown(&counts.values),
         counts.out_too_short
@@ -89,6 +106,7 @@ fn print(counts: &Counts) {
 /// All comparisons on one input: several outputs, and searches on the result.
 fn compare(lot: &mut Random, counts: &mut Counts, input: &Input) {
     counts.combinations += 1;
+    count_implying(counts, input);
     let verdict = product(&input.rule, &input.letters, &input.property);
     let file = verdict.as_ref().map(Model::to_bytes).map_err(|&n| n);
     let needed = match &file {
@@ -105,6 +123,14 @@ fn compare(lot: &mut Random, counts: &mut Counts, input: &Input) {
         counts.largest = counts.largest.max((model.states(), model.edges()));
         compare_searches(lot, counts, input, model, file);
     }
+}
+
+/// Counts the rule and the property, if they are accepted and have implied steps.
+fn count_implying(counts: &mut Counts, input: &Input) {
+    let rule = read(&input.rule).is_ok_and(|rule| rule.implies_steps());
+    let property = read_property(&input.property).is_ok_and(|(model, _)| model.implies_steps());
+    counts.rules_implying += u64::from(rule);
+    counts.properties_implying += u64::from(property);
 }
 
 /// The answer for an output of a length.

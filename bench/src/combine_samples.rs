@@ -143,12 +143,17 @@ pub fn output_len(lot: &mut Random, needed: usize) -> usize {
     }
 }
 
-/// A rule of two states that each lead to themselves, with letters 0 and 1, and a property of 2,048 states whose 8,192
-/// edges hold letter 0, so many of them letter 1 too: the result has 8,192 edges and so many more.
-fn edges_above(more: usize) -> Input {
+/// A rule of two states that each lead to themselves, by edges.
+fn two_loops() -> Model {
     let mut rule = Model::new(2);
     rule.edge(0, 0);
     rule.edge(1, 1);
+    rule
+}
+
+/// A rule of two states, with letters 0 and 1, and a property of 2,048 states whose 8,192 edges hold letter 0, so many of
+/// them letter 1 too. If each state of the rule leads to itself, the result has 8,192 edges and so many more.
+fn edges_above(rule: Model, more: usize) -> Input {
     let mut model = Model::new(2048);
     for q in 0..2048 {
         for step in 0..4 {
@@ -178,14 +183,19 @@ fn states(n: usize, q: usize) -> Input {
 /// Combinations at the limits and just above them, with the reason to refuse them.
 pub fn at_limits() -> Vec<(Input, Option<u16>)> {
     vec![
-        (edges_above(0), None),
-        (edges_above(1), Some(18)),
-        (edges_above(8192), Some(18)),
+        (edges_above(two_loops(), 0), None),
+        (edges_above(two_loops(), 1), Some(18)),
+        (edges_above(two_loops(), 8192), Some(18)),
+        (edges_above(Model::new(2).staying(true), 0), None),
+        (edges_above(Model::new(2).staying(true), 1), Some(18)),
+        (edges_above(Model::new(2), 1), None),
         (states(64, 64), None),
         (states(17, 241), Some(18)),
         (states(4096, 1), None),
         (states(1, 4096), None),
         (states(4096, 2), Some(18)),
         (states(4096, 4096), Some(18)),
+        (states(64, 64).staying(true, true), None),
+        (states(17, 241).staying(true, true), Some(18)),
     ]
 }

@@ -5,6 +5,7 @@ use crate::fahkelo::{
     kind, next_into, search_into, step_into, NextAnswer, Record, SearchAnswer, StepAnswer,
 };
 use crate::families::FAMILIES;
+use crate::graph::Graph;
 use crate::model::Model;
 use crate::oracle::{self, Verdict};
 use crate::random::Random;
@@ -25,6 +26,8 @@ const MOST_LISTS: usize = 60;
 pub struct Counts {
     small: u64,
     large: u64,
+    staying: u64,
+    implying: u64,
     refused_files: [u64; 16],
     damaged: u64,
     steps: u64,
@@ -45,11 +48,11 @@ impl Counts {
     }
 }
 
-/// Runs the comparison; the number of differences.
+/// Runs the comparison on so many files, two of each model: bytes 6–7 are 0 and 1. The number of differences.
 pub fn run(count: u64, seed: u64) -> u64 {
     let mut lot = Random::new(seed);
     let mut counts = Counts::default();
-    for round in 0..count {
+    for round in 0..count.div_ceil(2) {
         let damaged = round % 2 == 1;
         let large = round % 20 >= 18;
         let model = if large {
@@ -57,30 +60,39 @@ pub fn run(count: u64, seed: u64) -> u64 {
         } else {
             random_model(&mut lot, 1, SMALL)
         };
-        let mut file = model.to_bytes();
-        if damaged {
-            damage(&mut lot, &mut file);
-            counts.damaged += 1;
+        for stays in [false, true] {
+            compare_model(&mut lot, &mut counts, &model.staying(stays), damaged);
         }
-        compare_file(&mut lot, &mut counts, &file, (!damaged).then_some(&model));
     }
     for family in FAMILIES {
-        let file = (family.make)(256).to_bytes();
-        compare_family(&mut lot, &mut counts, &file);
+        let model = (family.make)(256);
+        for stays in [false, true] {
+            compare_family(&mut lot, &mut counts, &model.staying(stays).to_bytes());
+        }
     }
     print(&counts);
     counts.differences
 }
 
+/// All comparisons on the file of a model, damaged or not.
+fn compare_model(lot: &mut Random, counts: &mut Counts, model: &Model, damaged: bool) {
+    let mut file = model.to_bytes();
+    if damaged {
+        damage(lot, &mut file);
+        counts.damaged += 1;
+    }
+    compare_file(lot, counts, &file, (!damaged).then_some(model));
+}
+
 /// A search and the lists behind the first, on a file of a measured family.
 fn compare_family(lot: &mut Random, counts: &mut Counts, file: &[u8]) {
     let verdict = verdict_of(counts, file, None);
-    let Ok((model, facts)) = &verdict else {
+    let Ok((graph, facts)) = &verdict else {
         counts.difference("a family's file is refused", file);
         return;
     };
     let roll = &facts.roll[..facts.roll.len().min(20)];
-    compare_roll(lot, counts, file, &verdict, roll, model.states());
+    compare_roll(lot, counts, file, &verdict, roll, graph.states());
 }
 
 pub fn print(counts: &Counts) {
@@ -96,6 +108,10 @@ pub fn print(counts: &Counts) {
     println!(
         "files accepted: {} of up to {SMALL} states (exhaustive), {} larger (textbook)",
         counts.small, counts.large
+    );
+    println!(
+        "bytes 6–7 are 1 in {} of them, {} with implied steps",
+        counts.staying, counts.implying
     );
     println!(
         "files damaged: {}; refused by rule: {}",
@@ -130,14 +146,17 @@ pub fn verdict_of(counts: &mut Counts, file: &[u8], written: Option<&Model>) -> 
     if written.is_some_and(|written| *written != model) {
         counts.difference("the reference reads another model than was written", file);
     }
-    let by_textbook = textbook_facts(&model);
-    if model.states() > SMALL {
+    counts.staying += u64::from(model.stays);
+    counts.implying += u64::from(model.implies_steps());
+    let graph = Graph::of(model);
+    let by_textbook = textbook_facts(&graph);
+    if graph.states() > SMALL {
         counts.large += 1;
-        return Ok((model, by_textbook));
+        return Ok((graph, by_textbook));
     }
     counts.small += 1;
-    let facts = Facts::by_exhaustion(&model);
-    if facts.round_lengths != rounds_by_formula(&model, &facts.candidates) {
+    let facts = Facts::by_exhaustion(&graph);
+    if facts.round_lengths != rounds_by_formula(&graph, &facts.candidates) {
         counts.difference("rounds: exhaustive search and formula", file);
     }
     let known = facts.roll.len().min(MOST_LISTS);
@@ -147,12 +166,12 @@ pub fn verdict_of(counts: &mut Counts, file: &[u8], written: Option<&Model>) -> 
     {
         counts.difference("exhaustive search and textbook", file);
     }
-    Ok((model, facts))
+    Ok((graph, facts))
 }
 
-/// The facts of a model by the textbook version.
-fn textbook_facts(model: &Model) -> Facts {
-    let textbook = Textbook::new(model);
+/// The facts of a graph by the textbook version.
+fn textbook_facts(graph: &Graph) -> Facts {
+    let textbook = Textbook::new(graph);
     let mut roll = Vec::new();
     let mut cut_off = false;
     if let Some(mut lister) = textbook.solve() {
@@ -178,8 +197,8 @@ fn compare_file(lot: &mut Random, counts: &mut Counts, file: &[u8], written: Opt
     let verdict = verdict_of(counts, file, written);
     let (states, rounds, needed, roll) = match &verdict {
         Err(_) => (4, 1, 3, Vec::new()),
-        Ok((model, facts)) => (
-            model.states(),
+        Ok((graph, facts)) => (
+            graph.states(),
             facts.candidates.len(),
             facts.length().map_or(1, |length| length + 1),
             facts.roll.clone(),
@@ -199,7 +218,7 @@ fn compare_file(lot: &mut Random, counts: &mut Counts, file: &[u8], written: Opt
     compare_roll(lot, counts, file, &verdict, &roll, states);
     for _ in 0..6 {
         let earlier = match &verdict {
-            Ok((model, _)) if lot.once_in(3) => walk(lot, model, needed),
+            Ok((graph, _)) if lot.once_in(3) => walk(lot, graph, needed),
             _ => wrong_list(lot, &roll, states, needed),
         };
         let (answer, work) = (answer_len(lot, needed), work_len(lot, states));
@@ -212,8 +231,8 @@ fn compare_file(lot: &mut Random, counts: &mut Counts, file: &[u8], written: Opt
 /// The oracle knows what follows the list.
 fn may_ask(verdict: &Verdict, earlier: &[u16]) -> bool {
     match verdict {
-        Ok((model, facts)) if facts.cut_off => {
-            !oracle::is_shortest(model, facts, earlier)
+        Ok((graph, facts)) if facts.cut_off => {
+            !oracle::is_shortest(graph, facts, earlier)
                 || facts
                     .roll
                     .last()

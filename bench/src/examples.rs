@@ -24,6 +24,20 @@ fn file_of(states: usize, edges: &[(usize, usize)], marks: &[usize]) -> Vec<u8> 
     model.to_bytes()
 }
 
+/// The file with another number in bytes 6–7; with 1 a state without edges has an implied step to itself.
+fn with_flag(mut file: Vec<u8>, flag: u16) -> Vec<u8> {
+    file[6..8].copy_from_slice(&flag.to_le_bytes());
+    file
+}
+
+fn file_a() -> Vec<u8> {
+    file_of(1, &[], &[0])
+}
+
+fn file_b() -> Vec<u8> {
+    file_of(1, &[(0, 0)], &[0])
+}
+
 fn file_d() -> Vec<u8> {
     let edges = [(0, 1), (0, 2), (1, 3), (2, 3), (3, 1), (3, 2), (4, 4)];
     file_of(5, &edges, &[3, 4])
@@ -83,11 +97,8 @@ fn file_d_is_the_printed_one() {
 #[test]
 fn searches() {
     let empty = |rounds| (SearchAnswer::Empty { rounds }, vec![]);
-    assert_eq!(searched(&file_of(1, &[], &[0]), 65535), empty(1));
-    assert_eq!(
-        searched(&file_of(1, &[(0, 0)], &[0]), 65535),
-        (found(1, 0, 1), vec![0, 0])
-    );
+    assert_eq!(searched(&file_a(), 65535), empty(1));
+    assert_eq!(searched(&file_b(), 65535), (found(1, 0, 1), vec![0, 0]));
     assert_eq!(searched(&file_of(1, &[(0, 0)], &[]), 65535), empty(0));
     assert_eq!(
         searched(&file_d(), 65535),
@@ -151,6 +162,73 @@ fn nexts() {
     assert_eq!(next_in_d(&[0, 1, 3, 1]), (second, [0, 2, 3, 2]));
     assert_eq!(next_in_d(&[0, 2, 3, 2]), (NextAnswer::NoMore, [9; 4]));
     assert_eq!(next_in_d(&[0, 2, 3, 1]), (NextAnswer::Refused(13), [9; 4]));
+}
+
+#[test]
+fn a_state_that_stays() {
+    let file = with_flag(file_a(), 1);
+    let after_one = Record {
+        done: 1,
+        best: Some(1),
+    };
+    let mut work = [9; 6];
+    assert_eq!(
+        step(&file, NOTHING_DONE, &mut work),
+        StepAnswer::Advanced(after_one)
+    );
+    assert_eq!(
+        step(&file, after_one, &mut work),
+        StepAnswer::Finished(after_one)
+    );
+    assert_eq!(searched(&file, 65535), (found(1, 0, 1), vec![0, 0]));
+    let mut answer = [9; 2];
+    assert_eq!(
+        next(&file, &[0, 0], &mut answer, &mut work),
+        NextAnswer::NoMore
+    );
+    assert_eq!((answer, work), ([9; 2], [0; 6]));
+}
+
+#[test]
+fn a_way_to_a_state_that_stays() {
+    let file = file_of(2, &[(0, 1)], &[1]);
+    assert_eq!(
+        searched(&file, 65535),
+        (SearchAnswer::Empty { rounds: 1 }, vec![])
+    );
+    assert_eq!(
+        searched(&with_flag(file, 1), 65535),
+        (found(2, 1, 1), vec![0, 1, 1])
+    );
+}
+
+#[test]
+fn a_flag_where_every_state_has_edges() {
+    for file in [file_b(), file_d(), file_h()] {
+        let staying = with_flag(file.clone(), 1);
+        for allowance in [0, 1, 2, 65535] {
+            assert_eq!(searched(&staying, allowance), searched(&file, allowance));
+        }
+        let mut work = [0; 42];
+        assert_eq!(
+            step(&staying, NOTHING_DONE, &mut work),
+            step(&file, NOTHING_DONE, &mut work)
+        );
+    }
+}
+
+#[test]
+fn flags_above_1() {
+    for flag in [2, 3, 255, 256, 257, 65535] {
+        let file = with_flag(file_a(), flag);
+        assert_eq!(searched(&file, 65535).0, SearchAnswer::Refused(5));
+        let mut work = [0; 6];
+        assert_eq!(step(&file, NOTHING_DONE, &mut work), StepAnswer::Refused(5));
+        assert_eq!(
+            next(&file, &[0, 0], &mut [0; 2], &mut work),
+            NextAnswer::Refused(5)
+        );
+    }
 }
 
 #[test]
@@ -280,5 +358,56 @@ fn refused_combinations() {
             refused(rule, letters, property),
             CombineAnswer::Refused(number)
         );
+    }
+}
+
+/// The bytes of a combination, in an output that is large enough.
+fn combined(rule: &[u8], letters: &[u8], property: &[u8]) -> Vec<u8> {
+    let mut output = [9; 60];
+    match combine(rule, letters, property, &mut output) {
+        CombineAnswer::Written(bytes) => output[..bytes].to_vec(),
+        refused => panic!("{refused:?}"),
+    }
+}
+
+#[test]
+fn implied_steps_of_a_rule() {
+    let rule = file_of(1, &[], &[]);
+    let mut model = Model::new(1);
+    model.edge(0, 0);
+    model.marks[0] = true;
+    let property = Property::new(model, 8).to_bytes();
+    let staying = with_flag(rule.clone(), 1);
+    for flag in [0, 1] {
+        let property = with_flag(property.clone(), flag);
+        assert_eq!(combined(&staying, &[3], &property), file_b());
+        assert_eq!(combined(&staying, &[2], &property), file_a());
+        assert_eq!(combined(&rule, &[3], &property), file_a());
+    }
+}
+
+#[test]
+fn implied_steps_of_a_property_are_not_read() {
+    let (loops, stays) = (file_b(), with_flag(file_a(), 1));
+    assert_eq!(combined(&loops, &[3], &stays), file_a());
+    assert_eq!(combined(&stays, &[3], &stays), file_a());
+}
+
+#[test]
+fn combinations_with_flags_above_1() {
+    let (rule, property) = (rule_file(), property_file());
+    for flag in [2, 256, 257] {
+        let mut output = [9; 60];
+        let wrong_rule = with_flag(rule.clone(), flag);
+        let wrong_property = with_flag(property.clone(), flag);
+        assert_eq!(
+            combine(&wrong_rule, &LETTERS, &property, &mut output),
+            CombineAnswer::Refused(5)
+        );
+        assert_eq!(
+            combine(&rule, &LETTERS, &wrong_property, &mut output),
+            CombineAnswer::Refused(17)
+        );
+        assert_eq!(output, [9; 60]);
     }
 }

@@ -68,6 +68,10 @@ pub const FAMILIES: &[Family] = &[
         name: "largest",
         make: largest,
     },
+    Family {
+        name: "sinks",
+        make: sinks,
+    },
 ];
 
 /// The family of a name.
@@ -279,5 +283,21 @@ fn largest(n: usize) -> Model {
         model.edge(s, (s + 2) % n);
     }
     model.marks.fill(true);
+    model
+}
+
+/// A way of half the states. Each of them leads to a state of its own without edges, which stays; those of the second
+/// half of the way are marked.
+fn sinks(n: usize) -> Model {
+    let mut model = Model::new(n);
+    model.stays = true;
+    let half = n / 2;
+    for s in 0..half {
+        if s + 1 < half {
+            model.edge(s, s + 1);
+        }
+        model.edge(s, half + s);
+        model.marks[half + s] = half / 2 <= s;
+    }
     model
 }

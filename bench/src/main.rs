@@ -10,6 +10,7 @@ mod differential;
 mod examples;
 mod fahkelo;
 mod families;
+mod graph;
 mod measure;
 mod model;
 mod oracle;

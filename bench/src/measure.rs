@@ -8,6 +8,7 @@ use std::time::{Duration, Instant};
 use crate::clock::{children_time, process_time};
 use crate::fahkelo::SearchAnswer;
 use crate::families::{Family, FAMILIES};
+use crate::graph::Graph;
 use crate::model::Model;
 use crate::ported::access::{Counting, Work};
 use crate::ported::finder;
@@ -41,7 +42,7 @@ pub fn search_once(version: &dyn Finder, file: &[u8], states: usize) -> (SearchA
 #[inline(never)]
 pub fn textbook_once(file: &[u8]) -> Option<Vec<u16>> {
     let model = read(file).expect("the families are valid files");
-    let textbook = Textbook::new(&model);
+    let textbook = Textbook::new(&Graph::of(model));
     textbook.solve().map(|lister| lister.list().to_vec())
 }
 
@@ -112,20 +113,18 @@ fn agreed_answer(file: &[u8], states: usize) -> SearchAnswer {
 /// The sheet of a file, by the textbook version.
 fn sheet_text(file: &[u8]) -> String {
     let model = read(file).expect("the families are valid files");
-    let textbook = Textbook::new(&model);
+    let (states, edges) = (model.states(), model.edges());
+    let graph = Graph::of(model);
+    let textbook = Textbook::new(&graph);
     let rounds = textbook.candidates().len();
-    let head = format!(
-        "model {} {}\nrounds {rounds}\n",
-        model.states(),
-        model.edges()
-    );
+    let head = format!("model {states} {edges}\nrounds {rounds}\n");
     let Some(mut lister) = textbook.solve() else {
         return head + "none\n";
     };
     let mut text = format!("{head}shortest {}\n", lister.list().len() - 1);
     for count in 1.. {
         let list = lister.list();
-        let k = accepting(&model, list).expect("the lister gives accepting paths");
+        let k = accepting(&graph, list).expect("the lister gives accepting paths");
         let words = |part: &[u16]| part.iter().map(u16::to_string).collect::<Vec<_>>();
         let line = [
             words(&list[..k]),

@@ -1,9 +1,11 @@
 //! A model in memory, and the file that holds it.
 
-/// A model: its initial state, the successors of each state, the marks.
+/// A model: its initial state, the targets of each state's edges, the marks. `stays`: bytes 6–7 of its file are 1, so a
+/// state without edges has an implied step to itself, which is no edge of the file.
 #[derive(Clone, Debug, PartialEq, Eq)]
 pub struct Model {
     pub start: u16,
+    pub stays: bool,
     pub succs: Vec<Vec<u16>>,
     pub marks: Vec<bool>,
 }
@@ -13,6 +15,7 @@ impl Model {
     pub fn new(states: usize) -> Model {
         Model {
             start: 0,
+            stays: false,
             succs: vec![Vec::new(); states],
             marks: vec![false; states],
         }
@@ -26,12 +29,20 @@ impl Model {
         self.succs.iter().map(Vec::len).sum()
     }
 
-    /// There is an edge from s to t.
-    pub fn has_edge(&self, s: u16, t: u16) -> bool {
-        self.succs[s as usize].binary_search(&t).is_ok()
+    /// The same model with the flag of bytes 6–7 as given.
+    pub fn staying(&self, stays: bool) -> Model {
+        Model {
+            stays,
+            ..self.clone()
+        }
     }
 
-    /// Adds an edge, unless it is there; the successors stay in ascending order.
+    /// Some state has an implied step.
+    pub fn implies_steps(&self) -> bool {
+        self.stays && self.succs.iter().any(Vec::is_empty)
+    }
+
+    /// Adds an edge, unless it is there; the targets remain in ascending order.
     pub fn edge(&mut self, from: usize, to: usize) {
         let row = &mut self.succs[from];
         if let Err(at) = row.binary_search(&(to as u16)) {
@@ -47,7 +58,7 @@ impl Model {
         let mark_table = edge_table + 2 * m;
         let total = mark_table + n.div_ceil(8);
         let mut file = Vec::with_capacity(total);
-        for number in [n as u16, m as u16, self.start, 0] {
+        for number in [n as u16, m as u16, self.start, self.stays as u16] {
             file.extend(number.to_le_bytes());
         }
         for number in [24, edge_table, mark_table, total] {

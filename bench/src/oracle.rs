@@ -2,11 +2,11 @@
 //! round record, the roll.
 
 use crate::fahkelo::{NextAnswer, Record, SearchAnswer, StepAnswer};
-use crate::model::Model;
+use crate::graph::Graph;
 use crate::reference::{accepting, Facts};
 
-/// A file's verdict: the number of the rule it breaks, or its model and facts.
-pub type Verdict = Result<(Model, Facts), u16>;
+/// A file's verdict: the number of the rule it breaks, or its graph and facts.
+pub type Verdict = Result<(Graph, Facts), u16>;
 
 /// The lesser of two lengths, none counting as more than every length.
 fn lesser(a: Option<u16>, b: Option<u16>) -> Option<u16> {
@@ -23,7 +23,7 @@ fn after_round(facts: &Facts, so_far: Record) -> Option<Record> {
 }
 
 /// Reason 12, or the reasons 1 to 11 of the file.
-fn admitted(verdict: &Verdict, work_len: usize) -> Result<&(Model, Facts), u16> {
+fn admitted(verdict: &Verdict, work_len: usize) -> Result<&(Graph, Facts), u16> {
     let admitted = verdict.as_ref().map_err(|&number| number)?;
     if work_len < 6 * admitted.0.states() {
         return Err(12);
@@ -52,8 +52,8 @@ fn written(list: &[u16], answer_len: usize) -> Result<&[u16], u16> {
     Ok(list)
 }
 
-fn loop_start(model: &Model, list: &[u16]) -> u16 {
-    accepting(model, list).expect("the roll holds accepting paths") as u16
+fn loop_start(graph: &Graph, list: &[u16]) -> u16 {
+    accepting(graph, list).expect("the roll holds accepting paths") as u16
 }
 
 /// The answer of a search, and the list that it writes.
@@ -63,7 +63,7 @@ pub fn search(
     answer_len: usize,
     work_len: usize,
 ) -> (SearchAnswer, &[u16]) {
-    let (model, facts) = match admitted(verdict, work_len) {
+    let (graph, facts) = match admitted(verdict, work_len) {
         Err(number) => return (SearchAnswer::Refused(number), &[]),
         Ok(admitted) => admitted,
     };
@@ -86,7 +86,7 @@ pub fn search(
             Ok(list) => (
                 SearchAnswer::Found {
                     length: (list.len() - 1) as u16,
-                    loop_start: loop_start(model, list),
+                    loop_start: loop_start(graph, list),
                     rounds,
                 },
                 list,
@@ -102,11 +102,11 @@ pub fn next<'a>(
     answer_len: usize,
     work_len: usize,
 ) -> (NextAnswer, &'a [u16]) {
-    let (model, facts) = match admitted(verdict, work_len) {
+    let (graph, facts) = match admitted(verdict, work_len) {
         Err(number) => return (NextAnswer::Refused(number), &[]),
         Ok(admitted) => admitted,
     };
-    if !is_shortest(model, facts, earlier) {
+    if !is_shortest(graph, facts, earlier) {
         return (NextAnswer::Refused(13), &[]);
     }
     let follower = facts.roll.iter().find(|list| earlier < list.as_slice());
@@ -120,7 +120,7 @@ pub fn next<'a>(
             Ok(list) => (
                 NextAnswer::Found {
                     length: (list.len() - 1) as u16,
-                    loop_start: loop_start(model, list),
+                    loop_start: loop_start(graph, list),
                 },
                 list,
             ),
@@ -129,8 +129,8 @@ pub fn next<'a>(
 }
 
 /// The list is an accepting path of least length.
-pub fn is_shortest(model: &Model, facts: &Facts, list: &[u16]) -> bool {
-    accepting(model, list).is_some() && Some(list.len() - 1) == facts.length()
+pub fn is_shortest(graph: &Graph, facts: &Facts, list: &[u16]) -> bool {
+    accepting(graph, list).is_some() && Some(list.len() - 1) == facts.length()
 }
 
 /// The working table afterwards: untouched after the refusals 1 to 12, otherwise all zero.

@@ -3,6 +3,7 @@
 
 use std::collections::BTreeSet;
 
+use crate::graph::Graph;
 use crate::model::Model;
 use crate::reference::{read, read_property};
 
@@ -14,7 +15,7 @@ type Pair = (u16, u16);
 
 /// The combined model, or the number of the first reason of 1 to 11 and 16 to 18 that holds.
 pub fn product(rule: &[u8], letters: &[u8], property: &[u8]) -> Result<Model, u16> {
-    let rule = read(rule)?;
+    let rule = Graph::of(read(rule)?);
     if letters.len() != rule.states() || letters.iter().any(|&letter| letter > 15) {
         return Err(16);
     }
@@ -32,24 +33,24 @@ pub fn product(rule: &[u8], letters: &[u8], property: &[u8]) -> Result<Model, u1
     Ok(numbered(&rule, &property, &edges))
 }
 
-/// The edges of a model, in the order of its file.
-fn edges_of(model: &Model) -> impl Iterator<Item = Pair> + '_ {
-    let rows = (0u16..).zip(&model.succs);
+/// The pairs of a state and one of its successors, in order.
+fn pairs_of(succs: &[Vec<u16>]) -> impl Iterator<Item = Pair> + '_ {
+    let rows = (0u16..).zip(succs);
     rows.flat_map(|(s, row)| row.iter().map(move |&t| (s, t)))
 }
 
-/// There is an edge from (s, q) to (t, u) exactly if s has an edge to t, and q an edge to u whose mask holds the letter
-/// of s. A set that is too large already grows no further.
+/// There is an edge from (s, q) to (t, u) exactly if s has an edge or an implied step to t, and q an edge to u whose mask
+/// holds the letter of s. A set that is too large already grows no further.
 fn pair_edges(
-    rule: &Model,
+    rule: &Graph,
     letters: &[u8],
     property: &Model,
     masks: &[u16],
 ) -> BTreeSet<(Pair, Pair)> {
     let mut edges = BTreeSet::new();
-    for (s, t) in edges_of(rule) {
+    for (s, t) in pairs_of(&rule.succs) {
         let letter = 1 << letters[s as usize];
-        for ((q, u), mask) in edges_of(property).zip(masks) {
+        for ((q, u), mask) in pairs_of(&property.succs).zip(masks) {
             if mask & letter != 0 {
                 edges.insert(((s, q), (t, u)));
             }
@@ -62,7 +63,7 @@ fn pair_edges(
 }
 
 /// The model whose state s × Q + q is the pair (s, q).
-fn numbered(rule: &Model, property: &Model, edges: &BTreeSet<(Pair, Pair)>) -> Model {
+fn numbered(rule: &Graph, property: &Model, edges: &BTreeSet<(Pair, Pair)>) -> Model {
     let size = property.states();
     let number = |(s, q): Pair| s as usize * size + q as usize;
     let mut model = Model::new(rule.states() * size);
@@ -83,13 +84,14 @@ pub fn is_pair_of_paths(rule: &[u8], letters: &[u8], property: &[u8], list: &[u1
     let (Ok(rule), Ok((property, masks))) = (read(rule), read_property(property)) else {
         return false;
     };
+    let rule = Graph::of(rule);
     let size = property.states() as u16;
-    let steps: BTreeSet<(Pair, u16)> = edges_of(&property).zip(masks).collect();
+    let steps: BTreeSet<(Pair, u16)> = pairs_of(&property.succs).zip(masks).collect();
     list.windows(2).all(|two| {
         let (s, q) = (two[0] / size, two[0] % size);
         let (t, u) = (two[1] / size, two[1] % size);
         let agrees = |&(_, mask): &(Pair, u16)| mask >> letters[s as usize] & 1 == 1;
         let step = ((q, u), 0)..=((q, u), u16::MAX);
-        rule.has_edge(s, t) && steps.range(step).any(agrees)
+        rule.has_step(s, t) && steps.range(step).any(agrees)
     })
 }

@@ -1,6 +1,7 @@
 //! The reference, straight from the definitions: the rules of the model file in order, and all accepting paths of a
 //! small model by trying every path.
 
+use crate::graph::Graph;
 use crate::model::Model;
 
 /// Models of up to this many states are tried exhaustively.
@@ -46,7 +47,7 @@ fn read_kind(file: &[u8], bytes_an_edge: usize) -> Result<Model, u16> {
     if start as usize >= n {
         return Err(4);
     }
-    if file[6] != 0 || file[7] != 0 {
+    if word(file, 6) > 1 {
         return Err(5);
     }
     let rows_at = 24;
@@ -89,20 +90,21 @@ fn read_kind(file: &[u8], bytes_an_edge: usize) -> Result<Model, u16> {
     let marks = (0..n).map(bit).collect();
     Ok(Model {
         start,
+        stays: word(file, 6) == 1,
         succs,
         marks,
     })
 }
 
 /// The place where the loop of a list starts, if the list is an accepting path.
-pub fn accepting(model: &Model, list: &[u16]) -> Option<usize> {
+pub fn accepting(graph: &Graph, list: &[u16]) -> Option<usize> {
     let (&last, states) = list.split_last()?;
-    if states.first() != Some(&model.start) {
+    if states.first() != Some(&graph.start) {
         return None;
     }
     if !list
         .windows(2)
-        .all(|two| (two[0] as usize) < model.states() && model.has_edge(two[0], two[1]))
+        .all(|two| (two[0] as usize) < graph.states() && graph.has_step(two[0], two[1]))
     {
         return None;
     }
@@ -110,30 +112,30 @@ pub fn accepting(model: &Model, list: &[u16]) -> Option<usize> {
         return None;
     }
     let k = states.iter().position(|&s| s == last)?;
-    let marked = states[k..].iter().any(|&s| model.marks[s as usize]);
+    let marked = states[k..].iter().any(|&s| graph.marks[s as usize]);
     marked.then_some(k)
 }
 
-/// All accepting paths of a model, by trying every path whose states are all different.
-fn all_accepting(model: &Model, path: &mut Vec<u16>, found: &mut Vec<Vec<u16>>) {
+/// All accepting paths of a graph, by trying every path whose states are all different.
+fn all_accepting(graph: &Graph, path: &mut Vec<u16>, found: &mut Vec<Vec<u16>>) {
     let last = *path.last().expect("a path has a state");
-    for t in 0..model.states() as u16 {
-        if !model.has_edge(last, t) {
+    for t in 0..graph.states() as u16 {
+        if !graph.has_step(last, t) {
             continue;
         }
         path.push(t);
         if path[..path.len() - 1].contains(&t) {
-            if accepting(model, path).is_some() {
+            if accepting(graph, path).is_some() {
                 found.push(path.clone());
             }
         } else {
-            all_accepting(model, path, found);
+            all_accepting(graph, path, found);
         }
         path.pop();
     }
 }
 
-/// What the definitions say of a model: its candidates, the length of each one's round, and the roll. Of a large model
+/// What the definitions say of a graph: its candidates, the length of each one's round, and the roll. Of a large graph
 /// the roll may be cut off after some lists.
 pub struct Facts {
     pub candidates: Vec<u16>,
@@ -143,14 +145,14 @@ pub struct Facts {
 }
 
 impl Facts {
-    /// The facts of a small model, by trying everything.
-    pub fn by_exhaustion(model: &Model) -> Facts {
+    /// The facts of a small graph, by trying everything.
+    pub fn by_exhaustion(graph: &Graph) -> Facts {
         let mut lists = Vec::new();
-        all_accepting(model, &mut vec![model.start], &mut lists);
-        let candidates = reached_marks(model);
+        all_accepting(graph, &mut vec![graph.start], &mut lists);
+        let candidates = reached_marks(graph);
         let round_lengths = candidates.iter().map(|&r| {
             let holding = lists.iter().filter(|list| {
-                let k = accepting(model, list).expect("the lists are accepting");
+                let k = accepting(graph, list).expect("the lists are accepting");
                 list[k..].contains(&r)
             });
             holding.map(|list| (list.len() - 1) as u16).min()
@@ -174,30 +176,30 @@ impl Facts {
 }
 
 /// The marked states that can be reached from the start.
-fn reached_marks(model: &Model) -> Vec<u16> {
-    let n = model.states();
+fn reached_marks(graph: &Graph) -> Vec<u16> {
+    let n = graph.states();
     let mut reached = vec![false; n];
-    reached[model.start as usize] = true;
+    reached[graph.start as usize] = true;
     for _ in 0..n {
         for s in 0..n {
             if reached[s] {
-                for &t in &model.succs[s] {
+                for &t in &graph.succs[s] {
                     reached[t as usize] = true;
                 }
             }
         }
     }
-    let states = (0..n).filter(|&s| reached[s] && model.marks[s]);
+    let states = (0..n).filter(|&s| reached[s] && graph.marks[s]);
     states.map(|s| s as u16).collect()
 }
 
 /// The round of each candidate by its formula: the minimum, over states s, of d(i, s) + d(r, s) plus the least length of
-/// a path with at least one edge from s to r.
-pub fn rounds_by_formula(model: &Model, candidates: &[u16]) -> Vec<Option<u16>> {
+/// a path with at least one step from s to r.
+pub fn rounds_by_formula(graph: &Graph, candidates: &[u16]) -> Vec<Option<u16>> {
     const FAR: u32 = 1 << 20;
-    let n = model.states();
+    let n = graph.states();
     let mut plus = vec![vec![FAR; n]; n];
-    for (row, targets) in plus.iter_mut().zip(&model.succs) {
+    for (row, targets) in plus.iter_mut().zip(&graph.succs) {
         for &t in targets {
             row[t as usize] = 1;
         }
@@ -212,7 +214,7 @@ pub fn rounds_by_formula(model: &Model, candidates: &[u16]) -> Vec<Option<u16>> 
         }
     }
     let d = |r: usize, s: usize| if r == s { 0 } else { plus[r][s] };
-    let start = model.start as usize;
+    let start = graph.start as usize;
     let lengths = candidates.iter().map(|&r| {
         let r = r as usize;
         let sums = (0..n).map(|s| d(start, s) + d(r, s) + plus[s][r]);

@@ -1,6 +1,7 @@
 //! What a differential run draws by lot: models, damage to files, lengths and contents of tables, records and lists.
 
 use crate::fahkelo::Record;
+use crate::graph::Graph;
 use crate::model::Model;
 use crate::random::Random;
 use crate::reference::SMALL;
@@ -31,7 +32,7 @@ pub fn random_model(lot: &mut Random, least: usize, most: usize) -> Model {
 /// Damages a file in one of several ways, up to three times.
 pub fn damage(lot: &mut Random, file: &mut Vec<u8>) {
     for _ in 0..lot.between(1, 3) {
-        match lot.below(7) {
+        match lot.below(8) {
             0 if !file.is_empty() => {
                 let at = lot.below(file.len());
                 file[at] ^= 1 << lot.below(8);
@@ -54,6 +55,10 @@ pub fn damage(lot: &mut Random, file: &mut Vec<u8>) {
                 let at = 24 + 2 * lot.below((file.len() - 24) / 2);
                 let value = [0, 1, lot.below(8) as u16, lot.word()][lot.below(4)];
                 file[at..at + 2].copy_from_slice(&value.to_le_bytes());
+            }
+            6 if file.len() >= 24 => {
+                let value = [0, 1, 2, 256, 257, lot.word()][lot.below(6)];
+                file[6..8].copy_from_slice(&value.to_le_bytes());
             }
             _ => {
                 if let Some(last) = file.last_mut() {
@@ -137,10 +142,10 @@ pub fn random_record(lot: &mut Random, rounds: usize, needed: usize) -> Record {
 }
 
 /// A path of so many states from the start, as far as there is one: often a lasso, with a mark or without.
-pub fn walk(lot: &mut Random, model: &Model, entries: usize) -> Vec<u16> {
-    let mut path = vec![model.start];
+pub fn walk(lot: &mut Random, graph: &Graph, entries: usize) -> Vec<u16> {
+    let mut path = vec![graph.start];
     while path.len() < entries {
-        let row = &model.succs[path[path.len() - 1] as usize];
+        let row = &graph.succs[path[path.len() - 1] as usize];
         if row.is_empty() {
             break;
         }

@@ -2,7 +2,7 @@
 //! and against the edges for each candidate, then the lists by backward distances. It shares nothing with the proved
 //! algorithm but the definitions.
 
-use crate::model::Model;
+use crate::graph::Graph;
 
 const NONE: u32 = u32::MAX;
 
@@ -76,7 +76,7 @@ impl Search {
     }
 }
 
-/// A model with both adjacencies, and the distances from the start.
+/// A graph with both adjacencies, and the distances from the start.
 pub struct Textbook {
     start: u16,
     marks: Vec<bool>,
@@ -86,17 +86,17 @@ pub struct Textbook {
 }
 
 impl Textbook {
-    pub fn new(model: &Model) -> Textbook {
-        let n = model.states();
-        let rows = model.succs.iter().enumerate();
+    pub fn new(graph: &Graph) -> Textbook {
+        let n = graph.states();
+        let rows = graph.succs.iter().enumerate();
         let edges = rows.flat_map(|(s, row)| row.iter().map(move |&t| (s as u16, t)));
         let forward = Adjacency::of(n, edges.clone());
         let backward = Adjacency::of(n, edges.map(|(s, t)| (t, s)));
         let mut search = Search::new(n);
-        search.run(&forward, model.start, NONE - 1);
+        search.run(&forward, graph.start, NONE - 1);
         Textbook {
-            start: model.start,
-            marks: model.marks.clone(),
+            start: graph.start,
+            marks: graph.marks.clone(),
             forward,
             backward,
             from_start: search.distance,

@@ -18,7 +18,10 @@ MODEL = Size(1.25, 680, 680)
 
 
 class Lesson(NamedTuple):
-    """All that a page is made from. The refusal is the reason, what to do, and what this file has, in words."""
+    """All that a page is made from. The implied steps of the model are edges here, and drawn as such.
+
+    The refusal is the reason, what to do, and what this file has, in words.
+    """
 
     title: str
     sheet: object
@@ -106,10 +109,10 @@ def model_section(lesson, runs, states):
 
 def model_size(model, states):
     """How large the model is, if it is not drawn."""
-    edges = sum(len(model.rows[state]) for state in states)
+    arrows = sum(len(model.rows[state]) for state in states)
     return (
         '<section class="model"><h2>The model</h2><p>The part of the model that can be reached has '
-        f"{count_of(len(states), 'state')} and {count_of(edges, 'edge')}: too many to be read in a picture.</p></section>"
+        f"{count_of(len(states), 'state')} and {count_of(arrows, 'arrow')}: too many to be read in a picture.</p></section>"
     )
 
 
@@ -124,6 +127,10 @@ def facts(lesson, states):
         f"The model has {count_of(sheet.states, 'state')} and {count_of(sheet.edges, 'edge')} and starts at {start}. "
         f"Within reach: {count_of(len(states), 'state')}, {sheet.rounds:,} marked."
     ]
+    staying = sum(map(len, lesson.model.rows)) - sheet.edges
+    if staying:
+        ends = "stays as it is and has an arrow to itself" if staying == 1 else "stay as they are and have arrows to themselves"
+        lines.append(f"{count_of(staying, 'state')} without edges {ends}.")
     length = f"A shortest run has {count_of(sheet.length, 'transition')} before it repeats."
     if not count:
         lines.append("<b>No run comes to a marked state again and again: there is none to draw.</b>")

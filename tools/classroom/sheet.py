@@ -7,7 +7,7 @@ import subprocess
 import unicodedata
 from typing import NamedTuple, Optional
 
-from modelfile import MAX_BYTES, fail, read_input
+from modelfile import MAX_BYTES, fail, read_input, with_implied_steps
 
 ROOT = os.path.dirname(os.path.dirname(os.path.dirname(os.path.abspath(__file__))))
 PROGRAM = os.path.join(ROOT, "target/bin/desk_sheet")
@@ -100,7 +100,7 @@ def read_sheet(text):
 
 
 def check_run(model, run, length):
-    """Raises Wrong unless the run is one of the model: its start, its edges, its closing, a mark in its loop."""
+    """Raises Wrong unless the run is one of the model: its start, its steps, its closing, a mark in its loop."""
     states = run.states()
     for state in states:
         if state >= len(model.rows):
@@ -130,9 +130,10 @@ def check_sheet(sheet, model, refusal):
     size = len(model.rows), sum(map(len, model.rows))
     if size != (sheet.states, sheet.edges):
         raise Wrong(f"it is about {sheet.states} states and {sheet.edges} edges, and the model has {size}")
+    steps = with_implied_steps(model)
     for number, run in enumerate(sheet.runs, 1):
         try:
-            check_run(model, run, sheet.length)
+            check_run(steps, run, sheet.length)
         except Wrong as wrong:
             raise Wrong(f"run {number} is no run of this model: {wrong}") from None
         if run in sheet.runs[: number - 1]:

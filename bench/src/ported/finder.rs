@@ -178,7 +178,7 @@ fn is_lasso<A: Access>(file: &[u8], h: Header, list: &[u16], transitions: usize)
 
 fn has_edge<A: Access>(file: &[u8], h: Header, s: usize, t: usize) -> bool {
     let part = row_part::<A>(file, h, s);
-    (0..degree(part)).any(|k| successor::<A>(part, k) == t)
+    (0..degree(part, h)).any(|k| successor::<A>(part, s, k) == t)
 }
 
 fn is_path<A: Access>(file: &[u8], h: Header, list: &[u16]) -> bool {

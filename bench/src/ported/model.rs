@@ -2,12 +2,13 @@
 
 use super::access::Access;
 
-/// The fields of an accepted file.
+/// The fields of an accepted file. `stays`: a state without edges has an implied step to itself.
 #[derive(Clone, Copy)]
 pub struct Header {
     pub states: usize,
     pub edges: usize,
     pub start: usize,
+    pub stays: bool,
 }
 
 #[inline]
@@ -76,13 +77,15 @@ pub fn check_head<A: Access>(file: &[u8]) -> Result<Header, u16> {
     if states <= start {
         return Err(4);
     }
-    if word::<A>(file, 6) != 0 {
+    let reserved = word::<A>(file, 6);
+    if 1 < reserved {
         return Err(5);
     }
     Ok(Header {
         states,
         edges,
         start,
+        stays: reserved == 1,
     })
 }
 
@@ -168,16 +171,35 @@ pub fn row_part<A: Access>(file: &[u8], h: Header, s: usize) -> &[u8] {
     row::<A>(file, h.states, s)
 }
 
-/// The number of successors that a row's part holds.
+/// The number of edges in a row's part.
 #[inline]
-pub fn degree(part: &[u8]) -> usize {
+pub fn edge_count(part: &[u8]) -> usize {
     part.len() / 2
 }
 
-/// The successor at place k of a row's part.
+/// Where the edge at place k of a row's part leads.
 #[inline]
-pub fn successor<A: Access>(part: &[u8], k: usize) -> usize {
+pub fn edge_target<A: Access>(part: &[u8], k: usize) -> usize {
     word::<A>(part, 2 * k)
+}
+
+/// The number of successors of a state, by its row's part; a state without edges that stays has one, itself.
+#[inline]
+pub fn degree(part: &[u8], h: Header) -> usize {
+    let count = edge_count(part);
+    if 0 < count {
+        return count;
+    }
+    usize::from(h.stays)
+}
+
+/// The successor of state s at place k, by its row's part; the only one of a state without edges is itself.
+#[inline]
+pub fn successor<A: Access>(part: &[u8], s: usize, k: usize) -> usize {
+    if edge_count(part) == 0 {
+        return s;
+    }
+    edge_target::<A>(part, k)
 }
 
 /// State s is marked.

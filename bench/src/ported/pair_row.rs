@@ -2,9 +2,18 @@
 //! of s. The masks are looked at for the first block; each further block is made from the first one in the output.
 
 use super::access::Access;
-use super::model::{degree, successor, word};
+use super::model::{degree, successor, word, Header};
 use super::property::mask_holds;
 use super::writer::write_word;
+
+/// A state of the rule: its number and letter, the part that holds its row, and the header of its file.
+#[derive(Clone, Copy)]
+pub struct RuleState<'a> {
+    pub s: usize,
+    pub letter: usize,
+    pub part: &'a [u8],
+    pub h: Header,
+}
 
 /// Writes the first block: base plus each target whose mask holds the letter.
 #[inline]
@@ -43,29 +52,29 @@ fn copy_block<A: Access>(
     next
 }
 
-/// Writes the edges of (s, q), where s has the row `part` and the letter, and the property has `size` states.
+/// Writes the edges of (s, q), from the parts that hold the rows of s and of q, where the property has `size` states.
 #[inline]
 pub fn write_row<A: Access>(
     out: &mut [u8],
     at: usize,
-    part: &[u8],
+    state: RuleState,
     targets: &[u8],
     masks: &[u8],
-    letter: usize,
     size: usize,
 ) -> usize {
-    let d = degree(part);
+    let RuleState { s, letter, part, h } = state;
+    let d = degree(part, h);
     if d == 0 {
         return at;
     }
-    let base = successor::<A>(part, 0) * size;
+    let base = successor::<A>(part, s, 0) * size;
     let mut next = write_block::<A>(out, at, targets, masks, letter, base);
     let count = (next - at) / 2;
     if count == 0 {
         return next;
     }
     for k in 1..d {
-        let other = successor::<A>(part, k) * size;
+        let other = successor::<A>(part, s, k) * size;
         next = copy_block::<A>(out, next, at, count, base, other);
     }
     next

@@ -15,8 +15,8 @@ fn least_follower<A: Access>(
 ) -> Option<usize> {
     let s = list_at::<A>(h, work, place);
     let part = row_part::<A>(file, h, s);
-    for k in 0..degree(part) {
-        let t = successor::<A>(part, k);
+    for k in 0..degree(part, h) {
+        let t = successor::<A>(part, s, k);
         if bound <= t && may_follow::<A>(file, h, work, length, place, t) {
             return Some(t);
         }
@@ -34,14 +34,14 @@ fn first_follower<A: Access>(
     let s = list_at::<A>(h, work, place);
     let part = row_part::<A>(file, h, s);
     let mut tried = 0;
-    while tried + 1 < degree(part) {
-        let t = successor::<A>(part, tried);
+    while tried + 1 < degree(part, h) {
+        let t = successor::<A>(part, s, tried);
         if may_follow::<A>(file, h, work, length, place, t) {
             return t;
         }
         tried += 1;
     }
-    successor::<A>(part, tried)
+    successor::<A>(part, s, tried)
 }
 
 fn complete<A: Access>(file: &[u8], h: Header, work: &mut [u16], length: usize, from: usize) {

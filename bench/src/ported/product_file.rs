@@ -4,7 +4,7 @@
 
 use super::access::Access;
 use super::model::{degree, edges_at, mark_bytes, row_part, Header};
-use super::pair_row::write_row;
+use super::pair_row::{write_row, RuleState};
 use super::property::{count_holding, is_marked, mask_part, target_part};
 use super::writer::{write_byte, write_header, write_word};
 
@@ -30,7 +30,7 @@ fn pair_degree<A: Access>(pair: Pair, c: usize) -> usize {
     let size = pair.p.states;
     let s = c / size;
     let letter = A::get(pair.letters, s) as usize;
-    let steps = degree(row_part::<A>(pair.rule, pair.h, s));
+    let steps = degree(row_part::<A>(pair.rule, pair.h, s), pair.h);
     steps * count_holding::<A>(mask_part::<A>(pair.property, pair.p, c % size), letter)
 }
 
@@ -48,11 +48,15 @@ fn write_edges<A: Access>(out: &mut [u8], at: usize, pair: Pair, c: usize) -> us
     let size = pair.p.states;
     let s = c / size;
     let q = c % size;
-    let letter = A::get(pair.letters, s) as usize;
-    let part = row_part::<A>(pair.rule, pair.h, s);
+    let state = RuleState {
+        s,
+        letter: A::get(pair.letters, s) as usize,
+        part: row_part::<A>(pair.rule, pair.h, s),
+        h: pair.h,
+    };
     let targets = target_part::<A>(pair.property, pair.p, q);
     let masks = mask_part::<A>(pair.property, pair.p, q);
-    write_row::<A>(out, at, part, targets, masks, letter, size)
+    write_row::<A>(out, at, state, targets, masks, size)
 }
 
 fn write_tables<A: Access>(out: &mut [u8], pair: Pair) -> usize {

@@ -3,7 +3,7 @@
 //! level, 5 next source. An entry 0 stands for nothing; a level l stands as l + 1, a source s as s + 1.
 
 use super::access::Access;
-use super::model::{degree, is_marked, row_part, successor, Header};
+use super::model::{degree, edge_count, edge_target, is_marked, row_part, successor, Header};
 
 /// The entry at a place.
 #[inline]
@@ -79,9 +79,9 @@ fn search_planned<A: Access>(
         while at < end {
             let s = get::<A>(work, at);
             let part = row_part::<A>(file, h, s);
-            for k in 0..degree(part) {
+            for k in 0..edge_count(part) {
                 A::edge();
-                let t = successor::<A>(part, k);
+                let t = edge_target::<A>(part, k);
                 if t == target {
                     return Some(level + 1);
                 }
@@ -93,6 +93,30 @@ fn search_planned<A: Access>(
     None
 }
 
+/// How far a search has to look: up to the level of the target, if that is a source below the limit whose only successor
+/// is itself, else up to the limit.
+fn search_bound<A: Access>(
+    file: &[u8],
+    h: Header,
+    work: &[u16],
+    limit: usize,
+    target: usize,
+) -> usize {
+    let n = h.states;
+    if n <= target {
+        return limit;
+    }
+    let part = row_part::<A>(file, h, target);
+    if degree(part, h) != 1 || successor::<A>(part, target, 0) != target {
+        return limit;
+    }
+    let entry = get::<A>(work, 2 * n + target);
+    if entry == 0 || limit < entry {
+        return limit;
+    }
+    entry - 1
+}
+
 /// Searches from the sources whose start levels stand in region 2, below the limit.
 pub fn spread<A: Access>(
     file: &[u8],
@@ -101,8 +125,13 @@ pub fn spread<A: Access>(
     limit: usize,
     target: usize,
 ) -> Option<usize> {
-    plan::<A>(work, h.states, limit);
-    search_planned::<A>(file, h, work, limit, target)
+    let bound = search_bound::<A>(file, h, work, limit, target);
+    plan::<A>(work, h.states, bound);
+    let found = search_planned::<A>(file, h, work, bound, target);
+    if found.is_none() && bound < limit {
+        return Some(bound + 1);
+    }
+    found
 }
 
 fn start_at<A: Access>(work: &mut [u16], n: usize, x: usize, limit: usize) {

@@ -8,8 +8,8 @@ fn flag_row<A: Access>(file: &[u8], h: Header, work: &mut [u16], u: usize) {
     let n = h.states;
     let distance = get::<A>(work, u);
     let part = row_part::<A>(file, h, u);
-    for k in 0..degree(part) {
-        let t = successor::<A>(part, k);
+    for k in 0..degree(part, h) {
+        let t = successor::<A>(part, u, k);
         if get::<A>(work, t) <= distance {
             put::<A>(work, n + t, 1);
         }

@@ -59,11 +59,11 @@ combination-holds f letters p out e =
     let model = written-model f letters p (length out) e in
     let back = files-hold (combined f letters p) (model .0) in
     record {
+      reserved-zero = file-reserved (combined f letters p);
       bytes-are = ap (λ (o : Option ℕ). outcome o (length (combinedFile f letters p))) e;
       output-is = ap (λ (o : Option ℕ). written (unlessRefused o (some (combinedFile f letters p))) out) e;
       bytes-limit = omega (arith, back .file-length, model .0 .states-limit, model .0 .edges-limit);
       accepted = back .accepted;
-      reserved-zero = file-reserved (combined f letters p);
       same-graph = back .same-graph;
       combines = subst (λ (c : Graph). Combines c (graphOf f) (letterOf letters) (propertyOf p)) (sym (back .same-graph)) (model .1);
     }
@@ -119,4 +119,4 @@ combine-loses-nothing = loses-nothing combineOutcomeOf readAnswer read-back
 
 -- the worked examples
 pub examples-of-combining : ExamplesOfCombining
-examples-of-combining = record { bytes = refl; output = refl; short = refl; untouched = refl; shortest = refl; second = refl }
+examples-of-combining = record { bytes = refl; output = refl; short = refl; untouched = refl; shortest = refl; second = refl; rule-stays = refl; property-ends = refl }

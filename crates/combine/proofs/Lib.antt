@@ -2,3 +2,5 @@
 pub mod LetterLaws
 pub mod ReasonLaws
 pub mod ClaimLaws
+pub mod PropertyLaws
+pub mod ImpliedLaws

@@ -1,14 +1,16 @@
--- What a combination that is not refused has written; and that the rule's own marks do not matter.
-use Prim.Native.Nat.{ℕ, _≤_}
+-- What a combination that is not refused has written; that the rule's own marks do not matter, nor the property's bytes 6–7
+-- but to reason 5; and whose implied steps it has.
+use Prim.Native.Nat.{ℕ, _≤_, _<_}
 use mathlib.Core.Path.{_≡_}
-use mathlib.Core.List.{List, _++_}
+use mathlib.Core.List.{List, [], _++_, map}
 use mathlib.Core.Option.{none}
 use lib.ListN.{length, drop}
-use Rattle.format.specs.Layout.{states, initial, reserved}
-use Rattle.format.specs.Rules.{Accepted}
+use Rattle.format.specs.Layout.{states, initial, reserved, rowTargets}
+use Rattle.format.specs.Rules.{badReserved, Accepted}
 use Rattle.model.specs.Model.{graphOf}
+use Rattle.product.specs.Product.{pairNumber, agreeing}
 use Rattle.product.specs.Paths.{Combines}
-use Rattle.property.specs.Property.{propertyOf}
+use Rattle.property.specs.Property.{propertyOf, SameButReserved}
 use Rattle.product_file.specs.Combined.{letterOf, combined}
 use Rattle.outcomes.specs.Outcome.{answered}
 use Rattle.combine.specs.Combine.{combinedFile, combineBroken, combineOutcome, combineOutput}
@@ -43,3 +45,25 @@ abbrev pub RuleMarksUnused : Type 0
 RuleMarksUnused = (f f' letters p output : List ℕ) → Accepted f → Accepted f' → SameButMarks f f'
     → (combineOutcome f letters p (length output) ≡ combineOutcome f' letters p (length output))
     × (combineOutput f letters p output ≡ combineOutput f' letters p output)
+
+-- The property's bytes 6–7 are read by rule 5 alone: with two property files that differ in them alone, of which both or
+-- neither break rule 5, a combination answers and writes the same.
+abbrev pub PropertyReservedUnused : Type 0
+PropertyReservedUnused = (f letters p p' output : List ℕ) → SameButReserved p p' → badReserved p ≡ badReserved p'
+    → (combineOutcome f letters p (length output) ≡ combineOutcome f letters p' (length output))
+    × (combineOutput f letters p output ≡ combineOutput f letters p' output)
+
+-- The steps that are implied in a combined model: those of the rule, never of the property.
+pub record RuleStepsAlone (f letters p : List ℕ) : Type 0 where
+  -- where the rule's bytes 6–7 are 1 and the row of s is empty, (s, q) leads to (s, q') for each edge of the property from q to
+  -- q' whose mask holds the letter of s, and to no other state
+  pub rule-stays : (s q : ℕ) → s < states f → q < states p → reserved f ≡ 1 → rowTargets f s ≡ []
+      → combined f letters p .succs (pairNumber (propertyOf p) s q)
+      ≡ map (pairNumber (propertyOf p) s) (agreeing (propertyOf p) (letterOf letters s) q)
+  -- where the row of q is empty, (s, q) has no edge, whatever the property's bytes 6–7 are
+  pub property-ends : (s q : ℕ) → q < states p → rowTargets p q ≡ []
+      → combined f letters p .succs (pairNumber (propertyOf p) s q) ≡ []
+
+-- So it is for all files and letters.
+abbrev pub StepsOfRuleAlone : Type 0
+StepsOfRuleAlone = (f letters p : List ℕ) → RuleStepsAlone f letters p

@@ -75,12 +75,60 @@ secondResult =
     4 ∷ 0 ∷ 3 ∷ 0 ∷ 3 ∷ 0 ∷ 2 ∷ 0 ∷ 5 ∷ 0 ∷ 0 ∷ 0 ∷ 3 ∷ 0 ∷ 0 ∷ 0 ∷ 3 ∷ 0 ∷
     36 ∷ []
 
+-- A third, for implied steps: a rule of one state without edges, bytes 6–7 are 1,
+abbrev pub stayingRule : List ℕ
+stayingRule =
+    1 ∷ 0 ∷ 0 ∷ 0 ∷ 0 ∷ 0 ∷ 1 ∷ 0 ∷
+    24 ∷ 0 ∷ 0 ∷ 0 ∷ 28 ∷ 0 ∷ 0 ∷ 0 ∷ 28 ∷ 0 ∷ 0 ∷ 0 ∷ 29 ∷ 0 ∷ 0 ∷ 0 ∷
+    0 ∷ 0 ∷ 0 ∷ 0 ∷
+    0 ∷ []
+
+-- with the letter 3,
+abbrev pub stayingLetters : List ℕ
+stayingLetters = 3 ∷ []
+
+-- and a property of one state, 0→0 by letter 3, which is marked;
+abbrev pub loopProperty : List ℕ
+loopProperty =
+    1 ∷ 0 ∷ 1 ∷ 0 ∷ 0 ∷ 0 ∷ 0 ∷ 0 ∷
+    24 ∷ 0 ∷ 0 ∷ 0 ∷ 28 ∷ 0 ∷ 0 ∷ 0 ∷ 30 ∷ 0 ∷ 0 ∷ 0 ∷ 33 ∷ 0 ∷ 0 ∷ 0 ∷
+    0 ∷ 0 ∷ 1 ∷ 0 ∷
+    0 ∷ 0 ∷
+    1 ∷
+    8 ∷ 0 ∷ []
+
+-- their combination: 0→0, 0 marked, bytes 6–7 zero
+abbrev pub loopResult : List ℕ
+loopResult =
+    1 ∷ 0 ∷ 1 ∷ 0 ∷ 0 ∷ 0 ∷ 0 ∷ 0 ∷
+    24 ∷ 0 ∷ 0 ∷ 0 ∷ 28 ∷ 0 ∷ 0 ∷ 0 ∷ 30 ∷ 0 ∷ 0 ∷ 0 ∷ 31 ∷ 0 ∷ 0 ∷ 0 ∷
+    0 ∷ 0 ∷ 1 ∷ 0 ∷
+    0 ∷ 0 ∷
+    1 ∷ []
+
+-- the property without its edge, bytes 6–7 are 1
+abbrev pub endedProperty : List ℕ
+endedProperty =
+    1 ∷ 0 ∷ 0 ∷ 0 ∷ 0 ∷ 0 ∷ 1 ∷ 0 ∷
+    24 ∷ 0 ∷ 0 ∷ 0 ∷ 28 ∷ 0 ∷ 0 ∷ 0 ∷ 28 ∷ 0 ∷ 0 ∷ 0 ∷ 29 ∷ 0 ∷ 0 ∷ 0 ∷
+    0 ∷ 0 ∷ 0 ∷ 0 ∷
+    1 ∷ []
+
+-- its combination with the same rule: no edge, 0 marked, bytes 6–7 zero
+abbrev pub endedResult : List ℕ
+endedResult =
+    1 ∷ 0 ∷ 0 ∷ 0 ∷ 0 ∷ 0 ∷ 0 ∷ 0 ∷
+    24 ∷ 0 ∷ 0 ∷ 0 ∷ 28 ∷ 0 ∷ 0 ∷ 0 ∷ 28 ∷ 0 ∷ 0 ∷ 0 ∷ 29 ∷ 0 ∷ 0 ∷ 0 ∷
+    0 ∷ 0 ∷ 0 ∷ 0 ∷
+    1 ∷ []
+
 -- what the example's combination answers with so many bytes of output
 abbrev pub exampleAnswer : ℕ → Outcome ℕ
 exampleAnswer room = combineOutcome exampleRule exampleLetters exampleProperty room
 
 -- The examples: 43 bytes are written and a later byte does not change; with 42 bytes of output it is refused 15, and the
 -- output is untouched; the shortest accepting path of the result is 0 2 1 2, the only one. The second one's 57 bytes.
+-- In the third the rule stays, and the property never does.
 pub record ExamplesOfCombining : Type 0 where
   pub bytes : exampleAnswer 45 ≡ answered 43
   pub output : combineOutput exampleRule exampleLetters exampleProperty (replicate 45 9) ≡ exampleResult ++ 9 ∷ 9 ∷ []
@@ -88,3 +136,5 @@ pub record ExamplesOfCombining : Type 0 where
   pub untouched : combineOutput exampleRule exampleLetters exampleProperty (replicate 42 9) ≡ replicate 42 9
   pub shortest : roll (graphOf exampleResult) ≡ (0 ∷ 2 ∷ 1 ∷ 2 ∷ []) ∷ []
   pub second : combineOutput secondRule secondLetters secondProperty (replicate 57 9) ≡ secondResult
+  pub rule-stays : combineOutput stayingRule stayingLetters loopProperty (replicate 31 9) ≡ loopResult
+  pub property-ends : combineOutput stayingRule stayingLetters endedProperty (replicate 29 9) ≡ endedResult

@@ -1,5 +1,5 @@
-// The combinations that are compared: all rules of one to three states and all properties of one and two, with letters,
-// masks and faults from a generator.
+// The combinations that are compared: all rules of one to three states, without implied steps and with them, and all
+// properties of one and two, with letters, masks, faults and what bytes 6–7 of the property hold from a generator.
 ghost use Prim.Native.Nat.{_≤_, _<_};
 use exhaustive::Model;
 use exhaustive::drawn;
@@ -33,6 +33,9 @@ pub const OUTPUT_SHORT: usize = 20;
 
 const LETTERS_HIGH: usize = 21;
 
+// The bit of a draw that bytes 6–7 of the property are taken from.
+const PROPERTY_STAYS: usize = 40;
+
 // Whether a set holds a number.
 pub fn holds(set: u64, at: usize) -> bool {
     if at < 64 {
@@ -51,7 +54,7 @@ fn edges_of(states: usize, bits: u64) -> u64 {
 }
 
 // The rule with a number; its marks are drawn.
-fn rule_at(number: u64, x: u64) -> Model
+fn rule_at(number: u64, x: u64, stays: bool) -> Model
     ensures { λ r. ⌜ (0 < r .states) × (r .states ≤ 3) × (r .initial ≤ 2) ⌝ }
 {
     if number < 2 {
@@ -60,6 +63,7 @@ fn rule_at(number: u64, x: u64) -> Model
             initial: 0,
             edges: edges_of(1, number),
             marks: x % 2,
+            stays: stays,
         };
     }
     if number < 34 {
@@ -68,6 +72,7 @@ fn rule_at(number: u64, x: u64) -> Model
             initial: (number % 2) as usize,
             edges: edges_of(2, (number - 2) / 2),
             marks: x % 4,
+            stays: stays,
         };
     }
     Model {
@@ -75,11 +80,12 @@ fn rule_at(number: u64, x: u64) -> Model
         initial: (number % 3) as usize,
         edges: edges_of(3, (number - 34) / 3),
         marks: x % 8,
+        stays: stays,
     }
 }
 
 // The property with a number.
-fn property_at(number: u64) -> Model
+fn property_at(number: u64, stays: bool) -> Model
     ensures { λ r. ⌜ (0 < r .states) × (r .states ≤ 2) × (r .initial ≤ 1) × (r .marks < 4) ⌝ }
 {
     if number < 4 {
@@ -88,6 +94,7 @@ fn property_at(number: u64) -> Model
             initial: 0,
             edges: number % 2,
             marks: number / 2,
+            stays: stays,
         };
     }
     Model {
@@ -95,6 +102,7 @@ fn property_at(number: u64) -> Model
         initial: (number % 2) as usize,
         edges: edges_of(2, (number - 4) / 8),
         marks: number / 2 % 4,
+        stays: stays,
     }
 }
 
@@ -135,7 +143,8 @@ fn faults_if(number: u64, x: u64) -> u64 {
     x
 }
 
-// The combination with a number: each second one has faults, each of them about every fourth time.
+// The combination with a number: each second one has faults, each of them about every fourth time. Once all rules have
+// been gone through, they come again with implied steps.
 pub fn drawn_at(number: u64) -> Combination
     ensures { λ r. ⌜ (0 < r .rule .states) × (r .rule .states ≤ 3) × (r .rule .initial ≤ 2) × (0 < r .property .states) × (r .property .states ≤ 2) × (r .property .initial ≤ 1) × (r .property .marks < 4) ⌝ }
 {
@@ -145,9 +154,10 @@ pub fn drawn_at(number: u64) -> Combination
     let v = drawn(z);
     let faults = faults_if(number, z & v);
     let masks = masks_of(x, y, z >> 8);
+    let rule = number / 2 / PROPERTIES;
     Combination {
-        rule: rule_at(number / 2 / PROPERTIES % RULES, v),
-        property: property_at(number / 2 % PROPERTIES),
+        rule: rule_at(rule % RULES, v, rule / RULES % 2 == 1),
+        property: property_at(number / 2 % PROPERTIES, holds(v, PROPERTY_STAYS)),
         letters: letters_of(y >> 16, holds(faults, LETTERS_HIGH)),
         masks: with_zero(masks, faults % 8),
         faults: faults,

@@ -1,5 +1,6 @@
-// Compares combine with a combination written apart, on all rules of up to three states and all properties of up to two,
-// with pseudo-random letters and masks, and a search of the result with an exhaustive one; every second call has faults.
+// Compares combine with a combination written apart, on all rules of up to three states, without implied steps and with
+// them, and all properties of up to two, with pseudo-random letters and masks, and a search of the result with an exhaustive
+// one; every second call has faults.
 mod draws;
 mod files;
 mod found;
@@ -20,14 +21,15 @@ use pairs::answer_of;
 use pairs::model_of;
 use tally::EDGES;
 use tally::Tally;
-use tally::WRITTEN;
 use tally::add;
+use tally::add_written;
 use tally::differs;
 use tally::place_of_refusal;
 use tally::place_of_search;
 
-// How many combinations there are: each rule with each property, without a fault and with some.
-const END: u64 = 414480;
+// How many combinations there are: each rule, without implied steps and with them, with each property, without a fault and
+// with some.
+const END: u64 = 828960;
 
 // The bytes of the output that are lent: as many as the result has and up to seven more, or one fewer.
 fn space(faults: u64, total: usize, more: u64) -> usize
@@ -65,7 +67,6 @@ fn searched(m: Model, file: &[u8], tally: &mut Tally) -> bool
     requires { ⌜ m .states ≤ 7 ⌝ }
 {
     let given = found::search(m, file);
-    add(tally, WRITTEN, 1);
     add(tally, EDGES, wide(u64::count_ones(m.edges)));
     add(tally, place_of_search(given.code), 1);
     !given.unlike
@@ -98,13 +99,16 @@ fn compare(number: u64, tally: &mut Tally) {
     let total = exhaustive::write(&mut file, m, m.states);
     let expected = answer_of(c, total);
     let tried = call(c, &mut out, space(c.faults, total, number / 2));
+    if 24 <= tried.answer {
+        add_written(tally, c);
+    }
     if tried.answer != expected || !right(m, tried, &out, &file, tally) {
         differs(number, c, tried.answer, expected, tally);
     }
 }
 
 fn main() {
-    let mut tally = [0u64; 10];
+    let mut tally = [0u64; 12];
     let mut number = 0;
     while number < END {
         add(&mut tally, tally::COMBINATIONS, 1);

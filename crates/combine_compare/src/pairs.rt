@@ -10,8 +10,8 @@ use crate::draws::RULE_SHORT;
 use crate::draws::holds;
 use exhaustive::Model;
 
-// The edges of the rule and of the property, the letters and the masks, each in one number, and how many states the
-// property has.
+// The steps of the rule, implied ones included, and the edges of the property, the letters and the masks, each in one
+// number, and how many states the property has.
 struct Sets {
     rule: u64,
     property: u64,
@@ -102,10 +102,11 @@ pub fn model_of(c: Combination) -> Model
     ensures { λ r. ⌜ r .states ≤ 7 ⌝ }
 {
     let rule = c.rule;
+    let stepping = exhaustive::explicit(rule);
     let property = c.property;
     let size = property.states;
     let x = Sets {
-        rule: rule.edges,
+        rule: stepping.edges,
         property: property.edges,
         letters: c.letters,
         masks: c.masks,
@@ -116,6 +117,7 @@ pub fn model_of(c: Combination) -> Model
         initial: pair(size, rule.initial, property.initial),
         edges: edges(x),
         marks: marks(rule.states, size, property.marks),
+        stays: false,
     }
 }
 

@@ -5,21 +5,26 @@ use harness::SEARCH_FOUND;
 use harness::kind_of;
 use harness::say;
 
-// The counts in the order in which they are printed: combinations, those written, the edges in them, searches of them
-// that found a list and that found none, refusals with 7, 15, 16 and 17, differences.
-pub type Tally = [u64; 10];
+// The counts in the order in which they are printed: combinations, those written, those of them whose rule and whose
+// property has an implied step, the edges in them, searches of them that found a list and that found none, refusals with
+// 7, 15, 16 and 17, differences.
+pub type Tally = [u64; 12];
 
 pub const COMBINATIONS: usize = 0;
 
-pub const WRITTEN: usize = 1;
+const WRITTEN: usize = 1;
 
-pub const EDGES: usize = 2;
+const RULE_IMPLIED: usize = 2;
 
-const DIFFERENCES: usize = 9;
+const PROPERTY_IMPLIED: usize = 3;
+
+pub const EDGES: usize = 4;
+
+const DIFFERENCES: usize = 11;
 
 // Adds a small number at a place.
 pub fn add(tally: &mut Tally, at: usize, more: u64) {
-    if at < 10 {
+    if at < 12 {
         let old = tally[at];
         if old < 1000000000000 {
             if more < 1000000 {
@@ -29,30 +34,50 @@ pub fn add(tally: &mut Tally, at: usize, more: u64) {
     }
 }
 
+// Adds one at a place if a model has an implied step.
+fn add_implied(tally: &mut Tally, at: usize, m: Model) {
+    if exhaustive::has_implied(m) {
+        add(tally, at, 1);
+    }
+}
+
+// Counts a combination that is written, and the implied steps of its files.
+pub fn add_written(tally: &mut Tally, c: Combination) {
+    add(tally, WRITTEN, 1);
+    add_implied(tally, RULE_IMPLIED, c.rule);
+    add_implied(tally, PROPERTY_IMPLIED, c.property);
+}
+
 // The place of a search's answer.
 pub fn place_of_search(code: u64) -> usize {
     if kind_of(code) == SEARCH_FOUND {
-        return 3;
+        return 5;
     }
-    4
+    6
 }
 
 // The place of a refusal.
 pub fn place_of_refusal(number: usize) -> usize {
     match number {
-        7 => 5,
-        15 => 6,
-        16 => 7,
-        _ => 8,
+        7 => 7,
+        15 => 8,
+        16 => 9,
+        _ => 10,
     }
 }
 
 // Prints a rule or a property.
 fn show(m: Model) {
     say(
-        b"states #, initial state #, edges #, marks #\n",
+        b"states #, initial state #, edges #, marks #, bytes 6 and 7 #\n",
         0,
-        &[m.states as u64, m.initial as u64, m.edges, m.marks],
+        &[
+            m.states as u64,
+            m.initial as u64,
+            m.edges,
+            m.marks,
+            m.stays as u64,
+        ],
     );
 }
 
@@ -83,7 +108,7 @@ pub fn differs(number: u64, c: Combination, answer: usize, expected: usize, tall
 // Prints all counts.
 pub fn print(tally: &Tally) {
     say(
-        b"combinations #\nwritten #\nedges #\nfound #\nempty #\nrefused 7: #\nrefused 15: #\nrefused 16: #\nrefused 17: #\ndifferences #\n",
+        b"combinations #\nwritten #\n  with an implied step of the rule: #\n  with an implied step of the property, not read: #\nedges #\nfound #\nempty #\nrefused 7: #\nrefused 15: #\nrefused 16: #\nrefused 17: #\ndifferences #\n",
         0,
         tally,
     );

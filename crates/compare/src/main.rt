@@ -1,5 +1,6 @@
 // Compares step, search and next with an exhaustive search written apart, on all models of up to three states and on
-// many pseudo-random ones of four to seven, and prints how many answers of each kind were compared.
+// many pseudo-random ones of four to seven, each without implied steps and with them, and prints how many answers of each
+// kind were compared.
 mod calls;
 mod checks;
 mod report;
@@ -10,6 +11,7 @@ ghost use Prim.Native.Nat.{_<_, _≤_};
 use exhaustive::Model;
 use exhaustive::Truth;
 use tally::DIFFERENCES;
+use tally::IMPLIED;
 use tally::LENGTHS;
 use tally::MODELS;
 use tally::SEVERAL;
@@ -29,10 +31,11 @@ fn compare_file(m: Model, t: Truth, roll: &[u64], file: &[u8], tally: &mut [u64]
 }
 
 // Counts a model, and a difference if there was not room for all its lists.
-fn counted(states: usize, t: Truth, tally: &mut [u64])
+fn counted(m: Model, states: usize, t: Truth, tally: &mut [u64])
     requires { ⌜ 0 < states ⌝ }
 {
     add(tally, MODELS + (states - 1), 1);
+    add_if(tally, IMPLIED, exhaustive::has_implied(m));
     add(tally, LENGTHS + t.least % 8, 1);
     add_if(tally, SEVERAL, 1 < t.lists);
     add_if(tally, DIFFERENCES, ROLL < t.lists);
@@ -47,7 +50,7 @@ fn compare_model(m: Model, states: usize, tally: &mut [u64])
     let mut roll = [0u64; ROLL];
     let length = exhaustive::write(&mut file, m, states);
     let t = exhaustive::explore(m, &mut roll);
-    counted(states, t, tally);
+    counted(m, states, t, tally);
     compare_file(m, t, &roll, &file[..length], tally);
 }
 
@@ -74,7 +77,7 @@ fn compare_all(tally: &mut [u64]) {
 }
 
 fn main() {
-    let mut tally = [0u64; 36];
+    let mut tally = [0u64; 37];
     compare_all(&mut tally);
     report::print(&tally);
 }

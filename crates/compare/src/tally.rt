@@ -3,30 +3,32 @@ use exhaustive::Seen;
 use harness::kind_of;
 use harness::refusal_of;
 
-// Places in the tally, in the order in which they are printed: models by their number of states, models by the least
-// length, models with several lists, steps, searches and nexts with the kinds of their answers after each, refusals with
-// 12 to 15, lists and entries received, differences.
+// Places in the tally, in the order in which they are printed: models by their number of states, models with an implied
+// step, models by the least length, models with several lists, steps, searches and nexts with the kinds of their answers
+// after each, refusals with 12 to 15, lists and entries received, differences.
 pub const MODELS: usize = 0;
 
-pub const LENGTHS: usize = 7;
+pub const IMPLIED: usize = 7;
 
-pub const SEVERAL: usize = 15;
+pub const LENGTHS: usize = 8;
 
-pub const STEPS: usize = 16;
+pub const SEVERAL: usize = 16;
 
-const KINDS: usize = 17;
+pub const STEPS: usize = 17;
 
-pub const SEARCHES: usize = 20;
+const KINDS: usize = 18;
 
-pub const NEXTS: usize = 25;
+pub const SEARCHES: usize = 21;
 
-pub const REFUSED: usize = 29;
+pub const NEXTS: usize = 26;
 
-pub const LISTS: usize = 33;
+pub const REFUSED: usize = 30;
 
-pub const ENTRIES: usize = 34;
+pub const LISTS: usize = 34;
 
-pub const DIFFERENCES: usize = 35;
+pub const ENTRIES: usize = 35;
+
+pub const DIFFERENCES: usize = 36;
 
 // Adds a small number at a place.
 pub fn add(tally: &mut [u64], at: usize, more: usize) {

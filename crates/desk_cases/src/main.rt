@@ -3,6 +3,11 @@ fn main() {
     print_case(b"d");
     print_case(b"cut");
     print_case(b"none");
+    print_case(b"a_stays");
+    print_case(b"chain_stays");
+    print_case(b"fork_stays");
+    print_case(b"d_stays");
+    print_case(b"flag_two");
     print_case(b"twenty");
     print_case(b"more");
     print_case(b"ring");

@@ -1,4 +1,4 @@
-// Writes a model of up to seven states as a file.
+// Writes a model of up to seven states as a file, which holds its edges alone and says whether there are implied steps.
 ghost use Prim.Native.Nat.{_<_, _≤_};
 use crate::digits::lower;
 use crate::digits::member;
@@ -30,6 +30,9 @@ fn word(m: Model, states: usize, edges: usize, place: usize) -> usize
     requires { ⌜ edges ≤ 64 ⌝ }
     requires { ⌜ place < 100 ⌝ }
 {
+    if place == 3 {
+        return m.stays as usize;
+    }
     if place < 12 {
         return header_word(place, states, edges, m.initial);
     }

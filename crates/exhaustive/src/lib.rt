@@ -25,6 +25,8 @@ pub use lists::seed_of;
 pub use lists::tables_for;
 pub use models::Model;
 pub use models::drawn;
+pub use models::explicit;
+pub use models::has_implied;
 pub use models::how_many;
 pub use models::numbered;
 pub use search::Truth;

@@ -4,12 +4,14 @@ use crate::digits::below;
 use crate::digits::bit;
 use crate::digits::holds;
 
-// A model of up to seven states: an edge from s to t is the number 8 × s + t in the set of edges.
+// A model of up to seven states: an edge from s to t is the number 8 × s + t in the set of edges. If `stays` holds, a state
+// without edges has an implied step to itself.
 pub struct Model {
     pub states: usize,
     pub initial: usize,
     pub edges: u64,
     pub marks: u64,
+    pub stays: bool,
 }
 
 // Whether there is an edge.
@@ -31,8 +33,45 @@ pub fn successors(m: Model, from: usize) -> u64 {
     (m.edges >> (8 * from)) % 256
 }
 
+// The set that holds the implied step of a state, if it has one.
+fn implied(m: Model, s: usize) -> u64
+    requires { ⌜ s ≤ 6 ⌝ }
+{
+    if m.stays && s < m.states && successors(m, s) == 0 {
+        return bit(9 * s);
+    }
+    0
+}
+
+// The set of all implied steps.
+fn all_implied(m: Model) -> u64 {
+    implied(m, 0)
+        | implied(m, 1)
+        | implied(m, 2)
+        | implied(m, 3)
+        | implied(m, 4)
+        | implied(m, 5)
+        | implied(m, 6)
+}
+
+// Whether a state has an implied step.
+pub fn has_implied(m: Model) -> bool {
+    all_implied(m) != 0
+}
+
+// The model that has the implied steps as edges.
+pub fn explicit(m: Model) -> Model {
+    Model {
+        states: m.states,
+        initial: m.initial,
+        edges: m.edges | all_implied(m),
+        marks: m.marks,
+        stays: false,
+    }
+}
+
 // The model with a number among all models of one to three states: the initial state, the marks, then the edges.
-fn small(states: usize, number: u64) -> Model
+fn small(states: usize, number: u64, stays: bool) -> Model
     requires { ⌜ 0 < states ⌝ }
     requires { ⌜ states ≤ 3 ⌝ }
 {
@@ -47,6 +86,7 @@ fn small(states: usize, number: u64) -> Model
         initial: (number % side) as usize,
         edges: (edges & row) ^ (second << 8) ^ (third << 16),
         marks: sets & row,
+        stays: stays,
     }
 }
 
@@ -108,7 +148,7 @@ fn seed(states: usize, number: u64) -> u64 {
 }
 
 // The pseudo-random model with a number, of four to seven states.
-fn random(states: usize, number: u64) -> Model
+fn random(states: usize, number: u64, stays: bool) -> Model
     requires { ⌜ 0 < states ⌝ }
 {
     let a = seed(states, number);
@@ -122,25 +162,27 @@ fn random(states: usize, number: u64) -> Model
         initial: ((f >> 8) % (states as u64)) as usize,
         edges: thinned(a, b, c, states, number % 6) & all_edges(states),
         marks: marked(d >> 16, e >> 16, states, (number / 6) % 4) & below(states),
+        stays: stays,
     }
 }
 
-// How many models of so many states are compared: all up to three states.
+// How many models of so many states are compared: all up to three states, each without implied steps and with them.
 pub fn how_many(states: usize) -> u64 {
     match states {
-        1 => 4,
-        2 => 128,
-        3 => 12288,
-        _ => 20000,
+        1 => 8,
+        2 => 256,
+        3 => 24576,
+        _ => 40000,
     }
 }
 
-// The model with a number among those of so many states.
+// The model with a number among those of so many states: an odd number is the model before it, with implied steps.
 pub fn numbered(states: usize, number: u64) -> Model
     requires { ⌜ 0 < states ⌝ }
 {
+    let stays = number % 2 == 1;
     if states <= 3 {
-        return small(states, number);
+        return small(states, number / 2, stays);
     }
-    random(states, number)
+    random(states, number / 2, stays)
 }

@@ -1,5 +1,6 @@
 // The search written apart: it follows every path without repeated states from the initial state, depth first, and
-// closes each in every way. The graph is a set of pairs, a path a number with one digit for each state.
+// closes each in every way. The graph is a set of pairs, the implied steps among them, a path a number with one digit for
+// each state.
 use crate::digits::and;
 use crate::digits::bit;
 use crate::digits::digit;
@@ -8,6 +9,7 @@ use crate::digits::holds;
 use crate::digits::size;
 use crate::digits::with_digit;
 use crate::models::Model;
+use crate::models::explicit;
 use crate::models::has_edge;
 use crate::models::successors;
 
@@ -228,9 +230,10 @@ fn start(m: Model) -> Trail {
     }
 }
 
-// Follows all paths, in dictionary order among those of one length; the shortest accepting ones go to the roll. It has
-// far more turns than it needs; should they not be enough, it answers more lists than the roll has room for.
-pub fn explore(m: Model, roll: &mut [u64]) -> Truth {
+// Follows all paths of a model whose steps are all edges, in dictionary order among those of one length; the shortest
+// accepting ones go to the roll. It has far more turns than it needs; should they not be enough, it answers more lists than
+// the roll has room for.
+fn follow_all(m: Model, roll: &mut [u64]) -> Truth {
     let mut trail = start(m);
     let mut t = nothing(m);
     let mut turns: usize = 0;
@@ -249,4 +252,9 @@ pub fn explore(m: Model, roll: &mut [u64]) -> Truth {
         lengths: 0,
         candidates: 0,
     }
+}
+
+// Follows all paths of a model, along its edges and its implied steps; the shortest accepting ones go to the roll.
+pub fn explore(m: Model, roll: &mut [u64]) -> Truth {
+    follow_all(explicit(m), roll)
 }

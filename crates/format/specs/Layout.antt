@@ -4,6 +4,7 @@ use mathlib.Core.Path.{_≡_}
 use mathlib.Core.Bool.{Bool}
 use mathlib.Core.List.{List, map}
 use lib.ListN.{length, getD}
+use lib.Dec.{eqb}
 use Rattle.lasso.specs.Lists.{upFrom}
 use Rattle.format.specs.Bytes.{word, bitb}
 
@@ -22,6 +23,10 @@ initial f = word f 4
 -- bytes 6–7
 abbrev pub reserved : List ℕ → ℕ
 reserved f = word f 6
+
+-- a state without edges has an implied step to itself: bytes 6–7 are 1
+abbrev pub stays : List ℕ → Bool
+stays f = eqb (reserved f) 1
 
 -- the offset of the row table, which has N + 1 numbers of 16 bits
 abbrev pub rowsAt : ℕ

@@ -37,9 +37,9 @@ badEdges f = ltb 8192 (edgeCount f)
 abbrev pub badInitial : List ℕ → Bool
 badInitial f = not (ltb (initial f) (states f))
 
--- 5. bytes 6–7 are not zero
+-- 5. bytes 6–7 are above 1
 abbrev pub badReserved : List ℕ → Bool
-badReserved f = not (eqb (reserved f) 0)
+badReserved f = ltb 1 (reserved f)
 
 -- 6. an offset differs from the one that N and M give, or the total length from the one of this kind of file
 abbrev pub badOffsets : ℕ → List ℕ → Bool

@@ -62,6 +62,7 @@ pub record EndsRun (g : Graph) (s : ℕ) : Type 0 where
   -- the loop of no accepting path holds s
   pub no-loop : (xs : List ℕ) → T (acceptingb g xs) → T (memb s (loop xs)) → ⊥
 
--- a state with no edge out ends the run, and lies on no loop
+-- a state with no edge out ends the run, and lies on no loop (for which files a state with an empty row is one:
+-- `RunEndsExactly` of the crate model)
 abbrev pub NoEdgeOut : Type 0
 NoEdgeOut = (g : Graph) (s : ℕ) → g .succs s ≡ [] → EndsRun g s

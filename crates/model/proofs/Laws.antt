@@ -12,15 +12,16 @@ use borrow.Author.Tests.{lt-ltb, le-ltb, ltb-true}
 use lib.Dec.{T, ltb, ltb→lt, nltb→le}
 use Rattle.lasso.specs.Lists.{memb, upFrom}
 use Rattle.lasso.specs.Graph.{WellFormed, edgeb, ascendingb}
-use Rattle.lasso.proofs.Tests.{lt-or-ge, memb-mem, upFrom-range}
+use Rattle.lasso.proofs.Tests.{and-true, and-false, lt-or-ge, memb-mem, upFrom-range}
 use Rattle.format.specs.Bytes.{words}
-use Rattle.format.specs.Layout.{states, edgeCount, initial, markBytes, totalOf, rowEntry, target, rowTargets, markBit}
+use Rattle.format.specs.Layout.{states, edgeCount, initial, stays, markBytes, totalOf, rowEntry, target, rowTargets, markBit}
 use Rattle.format.specs.Rules.{firstBroken, rulesWith, Accepted}
-use Rattle.model.specs.Model.{rowGraph, graphIn, graphOf, stepsOf, listIf}
+use Rattle.model.specs.Model.{rowGraph, withImplied, graphIn, graphOf, stepsOf, listIf}
 use Rattle.model.specs.declared.Header.{Header}
 use Rattle.model.specs.Values.{Valid, headerOf}
 use Rattle.format.proofs.Reasons.{none-clear, not-not}
 use Rattle.format.proofs.Kept.{states-kept, length-kept, row-first-kept, rows-ascend-kept, row-last-kept, targets-kept, order-kept, spare-kept, row-end-within}
+use Rattle.model.proofs.Implied.{implied-length, staying-well-formed}
 
 -- what keeping the rules gives of a file's fields and tables, of whatever kind the file is
 pub record Facts (f : List ℕ) : Type 0 where
@@ -86,16 +87,17 @@ edge-from-state f h s t e =
       | false ↦ λ q m. absurd m
     ]) refl e
 
--- the successors of a state are its row's targets
-pub succs-row : (f : List ℕ) (h : Header) (s : ℕ) → s < h .states → graphIn f h .succs s ≡ rowTargets f s
-succs-row f h s l = rw (lt-ltb s (h .states) l)
+-- the successors of a state are its row's targets, or its implied step
+pub succs-row : (f : List ℕ) (h : Header) (s : ℕ) → s < h .states
+    → graphIn f h .succs s ≡ withImplied (h .stays) s (rowTargets f s)
+succs-row f h s l = rw (lt-ltb s (h .states) l, and-true (h .stays))
 
--- the successors of a state are the numbers of the part that holds its row's targets
+-- the successors of a state are those that the part stands for which holds its row's targets
 pub steps-succs :
     (f : List ℕ) (h : Header) (s : ℕ) (part : List ℕ) → s < h .states → words part ≡ rowTargets f s
     → stepsOf h s part ≡ graphIn f h .succs s
 unfolding stepsOf
-steps-succs f h s part l e = e ∙ sym (succs-row f h s l)
+steps-succs f h s part l e = ap (withImplied (h .stays) s) e ∙ sym (succs-row f h s l)
 
 -- the mark of a state is its bit
 pub marked-bit : (f : List ℕ) (h : Header) (s : ℕ) → s < h .states → graphIn f h .marked s ≡ markBit f s
@@ -103,7 +105,7 @@ marked-bit f h s l = rw (lt-ltb s (h .states) l)
 
 -- a number from the number of states on has no successors
 pub succs-none : (f : List ℕ) (h : Header) (s : ℕ) → h .states ≤ s → graphIn f h .succs s ≡ []
-succs-none f h s l = rw (le-ltb s (h .states) l)
+succs-none f h s l = rw (le-ltb s (h .states) l, and-false (h .stays))
 
 -- the targets of every number's row ascend strictly
 succs-ascend : {f : List ℕ} → Facts f → (s : ℕ) → T (ascendingb (rowGraph f (headerOf f) .succs s))
@@ -126,7 +128,7 @@ facts-well-formed {f} F =
 
 -- the graph of an accepted file is well formed
 pub accepted-well-formed : (f : List ℕ) → Accepted f → WellFormed (graphOf f)
-accepted-well-formed f a = facts-well-formed (accepted-facts f a)
+accepted-well-formed f a = staying-well-formed (stays f) (facts-well-formed (accepted-facts f a))
 
 -- the graph read by a valid header is the file's own
 pub valid-graph : {f : List ℕ} {h : Header} → Valid f h → graphIn f h ≡ graphOf f
@@ -169,7 +171,8 @@ pub succs-length-le : {f : List ℕ} → Facts f → (s : ℕ) → length (graph
 succs-length-le {f} F s =
     elim (lt-or-ge s (states f)) [
       | inl l ↦
-          rw (lt-ltb s (states f) l, length-map, upFrom-length)
-          (omega (arith, row-end-le F s l, F .edges-range))
-      | inr g ↦ rw (le-ltb s (states f) g) (omega arith)
+          let edges : length (rowTargets f s) ≤ 8192 =
+          rw (length-map, upFrom-length) (omega (arith, row-end-le F s l, F .edges-range)) in
+          rw (succs-row f (headerOf f) s l) (implied-length (stays f) s (rowTargets f s) 8192 (omega arith) edges)
+      | inr g ↦ rw (succs-none f (headerOf f) s g) (omega arith)
     ]

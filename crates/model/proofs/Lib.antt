@@ -1,6 +1,8 @@
 -- The laws of the model file.
+pub mod Implied
 pub mod Steps
 pub mod Member
 pub mod Answers
 pub mod HeadLaws
 pub mod Laws
+pub mod StaysLaws

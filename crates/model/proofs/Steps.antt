@@ -1,21 +1,23 @@
--- The successors that a row's part stands for: their number, and each by its place.
-use Prim.Native.Nat.{ℕ, _*_, _/_, _<_}
-use mathlib.Core.Path.{_≡_}
-use mathlib.Core.List.{List}
-use lib.ListN.{length, getD}
-use Rattle.format.specs.Bytes.{word}
-use Rattle.format.proofs.Words.{words-length, words-at}
+-- The successors that a row's part stands for: its numbers, or the implied step.
+use Prim.Native.Nat.{ℕ, _≤_}
+use mathlib.Core.Path.{_≡_, refl, _∙_}
+use mathlib.Core.List.{List, [], _∷_}
+use lib.ListN.{length}
+use Rattle.format.specs.Bytes.{words}
 use Rattle.model.specs.declared.Header.{Header}
-use Rattle.model.specs.Model.{stepsOf}
+use Rattle.model.specs.Model.{listIf, withImplied, stepsOf}
+use Rattle.model.proofs.Implied.{implied-some, implied-none}
 
--- the steps of a state are half as many as the bytes of its row's part
-pub steps-length : (h : Header) (s : ℕ) (part : List ℕ) → length (stepsOf h s part) ≡ length part / 2
-unfolding stepsOf
-steps-length h s part = words-length part
+module _ (h : Header) (s : ℕ) (part : List ℕ) where
+  -- the successors are the numbers of the part, with the implied step
+  pub steps-are : stepsOf h s part ≡ withImplied (h .stays) s (words part)
+  unfolding stepsOf
+  steps-are = refl
 
--- the step at a place is the number at twice that byte place
-pub steps-at :
-    (h : Header) (s : ℕ) (part : List ℕ) (k : ℕ) → k < length (stepsOf h s part)
-    → getD (stepsOf h s part) k 0 ≡ word part (2 * k)
-unfolding stepsOf
-steps-at h s part k l = words-at part k l
+  -- a part that holds a number stands for its numbers
+  pub steps-edges : 1 ≤ length (words part) → stepsOf h s part ≡ words part
+  steps-edges l = steps-are ∙ implied-some (h .stays) s (words part) l
+
+  -- a part that holds none stands for the implied step, if there is one
+  pub steps-none : length (words part) ≡ 0 → stepsOf h s part ≡ listIf (h .stays) (s ∷ [])
+  steps-none e = steps-are ∙ implied-none (h .stays) s (words part) e

@@ -1,7 +1,7 @@
 -- The graph that an accepted file holds, read by its header, and the successors that a row's part stands for.
 use Prim.Native.Nat.{ℕ}
 use mathlib.Core.Bool.{Bool, true, false, _&&_}
-use mathlib.Core.List.{List, []}
+use mathlib.Core.List.{List, [], _∷_}
 use lib.Dec.{ltb}
 use Rattle.lasso.specs.Graph.{Graph}
 use Rattle.model.specs.declared.Header.{Header}
@@ -25,9 +25,24 @@ rowGraph f h =
       marked = λ s. ltb s (h .states) && markBit f s;
     }
 
--- the model of a file, read by a header: the graph of its rows and marks
+-- the successors of state s, by its edges and whether one without edges has an implied step to itself
+abbrev pub withImplied : Bool → ℕ → List ℕ → List ℕ
+withImplied b s [] = listIf b (s ∷ [])
+withImplied b s (t ∷ ts) = t ∷ ts
+
+-- the graph in which every state has its implied step, if those without edges stay
+abbrev pub staying : Bool → Graph → Graph
+staying b g =
+    record {
+      size = g .size;
+      start = g .start;
+      succs = λ s. withImplied (b && ltb s (g .size)) s (g .succs s);
+      marked = g .marked;
+    }
+
+-- the model of a file, read by a header: the graph of its rows and marks, with the implied steps if the header says so
 abbrev pub graphIn : List ℕ → Header → Graph
-graphIn f h = rowGraph f h
+graphIn f h = staying (h .stays) (rowGraph f h)
 
 -- the model of a file, read by its own header
 abbrev pub graphOf : List ℕ → Graph
@@ -35,4 +50,4 @@ graphOf f = graphIn f (headerOf f)
 
 -- the successors of state s, from the part of the file that holds its row's targets
 unfoldable pub stepsOf : Header → ℕ → List ℕ → List ℕ
-stepsOf h s part = words part
+stepsOf h s part = withImplied (h .stays) s (words part)

@@ -6,12 +6,12 @@ use mathlib.Core.Option.{Option, some, none}
 use Rattle.model.specs.declared.Header.{Header}
 use Rattle.model.specs.declared.Checked.{Checked}
 use Rattle.model.specs.declared.Checked.the-variants.{Refused, Accept}
-use Rattle.format.specs.Layout.{states, edgeCount, initial, totalOf}
+use Rattle.format.specs.Layout.{states, edgeCount, initial, stays, totalOf}
 use Rattle.format.specs.Rules.{firstBroken, headRules, rulesWith, Accepted}
 
 -- the header fields that the code keeps
 abbrev pub headerOf : List ℕ → Header
-headerOf f = record { states = states f; edges = edgeCount f; start = initial f }
+headerOf f = record { states = states f; edges = edgeCount f; start = initial f; stays = stays f }
 
 -- refused with the number of the first reason that holds, or accepted with the header
 abbrev pub answerOf : Option ℕ → List ℕ → Checked

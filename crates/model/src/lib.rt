@@ -4,6 +4,7 @@ ghost use mathlib.Core.Path.{_≡_};
 ghost use Prim.Native.Nat.{_≤_, _<_};
 ghost use lib.ListN.{length, getD};
 ghost use Rattle.lasso.specs.Graph.{edgeb};
+ghost use Rattle.format.specs.Bytes.{words};
 ghost use Rattle.model.specs.Model.{graphIn, stepsOf};
 ghost use Rattle.format.specs.Layout.{totalOf};
 ghost use Rattle.model.specs.Values.{Valid, headOf, checkWith, checkOf};
@@ -20,11 +21,12 @@ use rules::rows_broken;
 use rules::spare_set;
 use rules::targets_broken;
 
-// The fields of an accepted file that its readers need.
+// The fields of an accepted file that its readers need. `stays`: a state without edges has an implied step to itself.
 pub struct Header {
     pub states: usize,
     pub edges: usize,
     pub start: usize,
+    pub stays: bool,
 }
 
 // The answer of the check: the number of the first broken rule, or the header.
@@ -69,13 +71,16 @@ pub fn check_head(file: &[u8]) -> Checked
     if states <= start {
         return Checked::Refused(4);
     }
-    if word(file, 6) != 0 {
+    let reserved = word(file, 6);
+    if 1 < reserved {
         return Checked::Refused(5);
     }
+    let stays = reserved == 1;
     Checked::Accept(Header {
         states,
         edges,
         start,
+        stays,
     })
 }
 
@@ -118,19 +123,44 @@ pub fn row_part(file: &[u8], h: Header, s: usize) -> &[u8]
     row(file, states, s)
 }
 
-// The number of successors of state s, by its row's part.
-pub fn degree(part: &[u8], h: Header, s: usize) -> usize
-    ensures { λ r. ⌜ r ≡ length (stepsOf h s (now (part .entry))) ⌝ }
+// The number of edges in a row's part.
+pub fn edge_count(part: &[u8]) -> usize
+    ensures { λ r. ⌜ r ≡ length (words (now (part .entry))) ⌝ }
 {
     part.len() / 2
 }
 
-// The successor of state s at place k, by its row's part.
+// Where the edge at place k of a row's part leads.
+pub fn edge_target(part: &[u8], k: usize) -> usize
+    requires { ⌜ k < length (words (now part)) ⌝ }
+    ensures { λ r. ⌜ r ≡ getD (words (now (part .entry))) k 0 ⌝ }
+{
+    word(part, 2 * k)
+}
+
+// The number of successors of state s, by its row's part; a state without edges that stays has one, itself.
+pub fn degree(part: &[u8], h: Header, s: usize) -> usize
+    ensures { λ r. ⌜ r ≡ length (stepsOf h s (now (part .entry))) ⌝ }
+{
+    let count = edge_count(part);
+    if 0 < count {
+        return count;
+    }
+    if h.stays {
+        return 1;
+    }
+    count
+}
+
+// The successor of state s at place k, by its row's part; the only one of a state without edges is itself.
 pub fn successor(part: &[u8], h: Header, s: usize, k: usize) -> usize
     requires { ⌜ k < length (stepsOf h s (now part)) ⌝ }
     ensures { λ r. ⌜ r ≡ getD (stepsOf h s (now (part .entry))) k 0 ⌝ }
 {
-    word(part, 2 * k)
+    if edge_count(part) == 0 {
+        return s;
+    }
+    edge_target(part, k)
 }
 
 // There is an edge from s to t.

@@ -149,6 +149,15 @@ fn broken_file() {
     show_part(50, &[0, 65535, 1, 0]);
 }
 
+// Lists that end in implied steps: 0→1, 0→2, both marked, with 1 in bytes 6 and 7.
+fn implied_steps() {
+    title(b"0 to 1 and 2, which stay: a wrong list between");
+    show_roomy(
+        b"\x03\x00\x02\x00\x00\x00\x01\x00\x18\x00\x00\x00\x20\x00\x00\x00\x24\x00\x00\x00\x25\x00\x00\x00\x00\x00\x02\x00\x02\x00\x02\x00\x01\x00\x02\x00\x06",
+        &[0, 65535, 2, 3, 0, 1, 2, 1, 0, 1, 0],
+    );
+}
+
 // The scripts on the examples D and H.
 fn show_examples() {
     search_then_next();
@@ -156,10 +165,11 @@ fn show_examples() {
     stopped_between();
 }
 
-// The scripts on the file with many lists.
+// The scripts on the file with many lists, and on the one with implied steps.
 fn show_many() {
     wrong_lists_between();
     search_again();
+    implied_steps();
 }
 
 // The scripts that end early, and the one on a file that is refused.

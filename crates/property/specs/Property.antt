@@ -1,9 +1,11 @@
 -- The property file: a model file that has, after its marks, one 16-bit mask per edge, and the property that it holds.
-use Prim.Native.Nat.{ℕ, _+_, _*_, _-_}
+use Prim.Native.Nat.{ℕ, _+_, _*_, _-_, _≤_, _<_}
 use mathlib.Core.Path.{_≡_}
 use mathlib.Core.Bool.{Bool, _&&_, _||_}
+use mathlib.Core.Logic.{_⊎_}
 use mathlib.Core.List.{List, [], _∷_}
 use mathlib.Core.Option.{none}
+use lib.ListN.{length, getD}
 use lib.Dec.{eqb}
 use Rattle.lasso.specs.Lists.{anyb, consIf, isSome, upFrom, below}
 use Rattle.lasso.specs.Graph.{Graph}
@@ -71,3 +73,8 @@ chosen letter (m ∷ ms) (t ∷ ts) = consIf (bitb m letter) t (chosen letter ms
 pub record ValidProperty (p : List ℕ) (h : Header) : Type 0 where
   pub kept : firstBroken (propertyRules p) ≡ none
   pub header : h ≡ headerOf p
+
+-- two files of one length whose bytes differ at 6–7 alone
+pub record SameButReserved (p p' : List ℕ) : Type 0 where
+  pub same-length : length p ≡ length p'
+  pub same-bytes : (i : ℕ) → (i < 6) ⊎ (8 ≤ i) → getD p i 0 ≡ getD p' i 0

@@ -99,7 +99,7 @@ module _ (k : ℕ) (f : List ℕ) where
       let b3 : badEdges (take k f) ≡ badEdges f = ap (λ (x : ℕ). ltb 8192 x) m in
       let b4 : badInitial (take k f) ≡ badInitial f =
       ap (λ (x : ℕ). not (ltb x (states (take k f)))) (word-take 4 (omega arith)) ∙ ap (λ (x : ℕ). not (ltb (initial f) x)) n in
-      let b5 : badReserved (take k f) ≡ badReserved f = ap (λ (x : ℕ). not (eqb x 0)) (word-take 6 (omega arith)) in
+      let b5 : badReserved (take k f) ≡ badReserved f = ap (λ (x : ℕ). ltb 1 x) (word-take 6 (omega arith)) in
       let b6 : badOwn (take k f) ≡ badOwn f =
       ap (λ (x : ℕ). offsetsBad x (edgeCount (take k f)) (long (take k f) 8) (long (take k f) 12) (long (take k f) 16) (long (take k f) 20)) n
       ∙ ap (λ (x : ℕ). offsetsBad (states f) x (long (take k f) 8) (long (take k f) 12) (long (take k f) 16) (long (take k f) 20)) m

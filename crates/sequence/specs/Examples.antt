@@ -3,11 +3,11 @@ use Prim.Native.Nat.{ℕ, _*_, _-_, _≤_}
 use mathlib.Core.Path.{_≡_}
 use mathlib.Core.List.{List, [], _∷_, _++_, map}
 use mathlib.Core.Option.{some, none}
-use lib.ListN.{length, getD, replicate}
+use lib.ListN.{length, getD, take, drop, replicate}
 use Rattle.lasso.specs.Lists.{memb}
 use Rattle.lasso.specs.Graph.{Graph}
 use Rattle.format.specs.Layout.{states}
-use Rattle.writer.specs.File.{fileOf}
+use Rattle.writer.specs.File.{word16, fileOf}
 use Rattle.gate.specs.Gate.{asking}
 use Rattle.outcomes.specs.Outcome.{Outcome, refused, answered}
 use Rattle.search.specs.Search.{Searched, stopped, empty}
@@ -22,6 +22,14 @@ graphWith start rows marks =
 -- A: N = 1, no edge, 0 marked
 abbrev pub fileA : List ℕ
 fileA = fileOf (graphWith 0 ([] ∷ []) (0 ∷ []))
+
+-- the file with bytes 6–7 set to 1
+abbrev pub withStays : List ℕ → List ℕ
+withStays f = take 6 f ++ word16 1 ++ drop 8 f
+
+-- A with 1 in bytes 6–7
+abbrev pub fileA1 : List ℕ
+fileA1 = withStays fileA
 
 -- B: 0→0, 0 marked
 abbrev pub fileB : List ℕ
@@ -98,6 +106,9 @@ abbrev pub examples : List Row
 examples =
     -- A
     searchRow fileA 65535 (empty 1) [] ∷
+    -- A with 1, and next after its list
+    searchRow fileA1 65535 (Searched.found 1 0 1) (0 ∷ 0 ∷ []) ∷
+    nextRow fileA1 (0 ∷ 0 ∷ []) (answered noMore) [] ∷
     -- B
     searchRow fileB 65535 (Searched.found 1 0 1) (0 ∷ 0 ∷ []) ∷
     -- C

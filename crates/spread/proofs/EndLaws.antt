@@ -87,6 +87,24 @@ module _ {n limit target v at end count : ℕ} {succs : ℕ → List ℕ} {w₀ 
       let x : (i : ℕ) × (i < at) × (entry 3 n w i ≡ u) = looked-at (complete H (omega arith)) l in
       S .missed (x .0) (x .1) (rw (x .2) e)
 
+-- a target that is no source is not hit at the level that is being looked at: an edge would have led into it before
+pub not-hit :
+    {n limit target at end count : ℕ} {succs : ℕ → List ℕ} {w₀ w : List ℕ} (level : ℕ)
+    → State n succs limit target w₀ (level + 1) at end count w → sources n limit w₀ target ≡ none
+    → Hit n succs (sources n limit w₀) level target → ⊥
+not-hit {n} {limit} {target} {at} {end} {count} {succs} {w₀} {w} level S none' H = go H
+  where
+    looked : (i : ℕ) → i < count → entry 2 n w (entry 3 n w i) < level + 1 → i < at
+    looked i h k =
+        elim (lt-or-ge i at) [
+          | inl p ↦ p
+          | inr p ↦ elim (lt-or-ge i end) [ inl q ↦ absurd (omega (arith, S .present i p q)) | inr q ↦ absurd (omega (arith, S .later i q h)) ]
+        ]
+
+    go : Hit n succs (sources n limit w₀) level target → ⊥
+    go (start l e) = let z : _≡_ {A = ℕ} 0 1 = cc (none', e) in absurd (omega arith)
+    go (step H e q) = no-edge S (level + 1) looked (λ s a p r. r) H (omega arith) e
+
 -- the number that stands for the least of some numbers, from an entry that tells one of them and is not above any
 pub entry-least : (P : ℕ → Type 0) (a : Option ℕ) (e : ℕ) → IsLeast P a → ((k : ℕ) → e ≡ suc k → P k) → ((k : ℕ) → P k → (1 ≤ e) × (e ≤ suc k)) → e ≡ entryOf a
 entry-least P none zero least tells above = refl

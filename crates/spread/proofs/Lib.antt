@@ -3,3 +3,4 @@ pub mod HitLaws
 pub mod RowLaws
 pub mod EndLaws
 pub mod SearchLaws
+pub mod BoundLaws

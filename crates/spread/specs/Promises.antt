@@ -1,7 +1,7 @@
 -- What the search leaves in the working table, by its answer.
 use Prim.Native.Nat.{ℕ, suc, _*_, _≤_, _<_}
 use mathlib.Core.Path.{_≡_}
-use mathlib.Core.List.{List}
+use mathlib.Core.List.{List, [], _∷_}
 use mathlib.Core.Option.{Option, some, none}
 use Rattle.lasso.specs.Graph.{Graph}
 use Rattle.table.specs.Changes.{SameOutside}
@@ -31,6 +31,21 @@ pub record ExhaustedFrom (g : Graph) (source : ℕ → Option ℕ) (limit target
 abbrev pub SpreadFrom : Graph → (ℕ → Option ℕ) → ℕ → ℕ → List ℕ → List ℕ → SpreadAnswer → Type 0
 SpreadFrom g source limit target w w' (Length l) = FoundFrom g source limit target w w' l
 SpreadFrom g source limit target w w' (Nothing count) = ExhaustedFrom g source limit target w w' count
+
+-- a target whose only successor is itself is no source below the limit
+abbrev pub Apart : Graph → ℕ → ℕ → List ℕ → Type 0
+Apart g limit target w = g .succs target ≡ target ∷ [] → sources (g .size) limit w target ≡ none
+
+-- so it is whatever table the plan was made from
+abbrev pub ApartInPlan : Graph → ℕ → ℕ → List ℕ → Type 0
+ApartInPlan g limit target w = (origin : List ℕ) → Planned (g .size) limit origin w → Apart g limit target origin
+
+-- how far a search has to look: up to the target's own level, if it is a source below the limit whose only successor is
+-- itself, else up to the limit
+pub record Bounds (g : Graph) (limit target : ℕ) (w : List ℕ) (bound : ℕ) : Type 0 where
+  pub within : bound ≤ limit
+  pub apart : Apart g bound target w
+  pub level : bound < limit → (target < g .size) × (g .succs target ≡ target ∷ []) × (entry 2 (g .size) w target ≡ suc bound)
 
 -- what the search from the start levels in region 2 leaves, by its answer
 abbrev pub Spread : Graph → ℕ → ℕ → List ℕ → List ℕ → SpreadAnswer → Type 0

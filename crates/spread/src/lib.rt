@@ -5,12 +5,14 @@ ghost use lib.ListN.{length};
 ghost use Rattle.model.specs.Values.{Valid};
 ghost use Rattle.model.specs.Model.{graphIn};
 ghost use Rattle.frontier.specs.Buckets.{HasPlan};
-ghost use Rattle.spread.specs.Promises.{Spread, SearchedFromPlan};
+ghost use Rattle.spread.specs.Promises.{ApartInPlan, Bounds, Spread, SearchedFromPlan};
 use frontier::admit;
 use frontier::plan;
 use frontier::reach;
 use model::Header;
 use model::degree;
+use model::edge_count;
+use model::edge_target;
 use model::row_part;
 use model::successor;
 use table::get;
@@ -24,7 +26,8 @@ pub enum SpreadAnswer {
 
 // The search proper, from listed sources: level by level below the limit, and out of all loops at the first edge into
 // the target. `at`, `end` and `tail` are places of the table, in region 3: a new state is put at `tail` with no sum to
-// compute.
+// compute. The loop over the edges does not know of implied steps: such a step leads to a state that is reached already,
+// so it matters only as one into the target, and that is settled before the search.
 pub fn search_planned(
     file: &[u8],
     h: Header,
@@ -36,6 +39,7 @@ pub fn search_planned(
     requires { ⌜ limit ≤ h .states ⌝ }
     requires { ⌜ 6 * h .states ≤ length (now work) ⌝ }
     requires { ⌜ HasPlan (h .states) limit (now work) ⌝ }
+    requires { ⌜ ApartInPlan (graphIn (now file) h) limit target (now work) ⌝ }
     ensures { λ r. ⌜ SearchedFromPlan (graphIn (now (file .entry)) h) limit target
         (now (work .entry)) (now (work .exit)) r ⌝ }
 {
@@ -54,10 +58,10 @@ pub fn search_planned(
         while at < end {
             let s = get(work, at);
             let part = row_part(file, h, s);
-            let d = degree(part, h, s);
+            let d = edge_count(part);
             let mut k = 0;
             while k < d {
-                let t = successor(part, h, s, k);
+                let t = edge_target(part, k);
                 if t == target {
                     break 'levels;
                 }
@@ -72,8 +76,37 @@ pub fn search_planned(
     SpreadAnswer::Length(length)
 }
 
+// How far a search has to look: up to the level of the target, if that is a source below the limit whose only successor
+// is itself, else up to the limit.
+fn search_bound(file: &[u8], h: Header, work: &[u16], limit: usize, target: usize) -> usize
+    requires { ⌜ Valid (now file) h ⌝ }
+    requires { ⌜ 6 * h .states ≤ length (now work) ⌝ }
+    ensures { λ r. ⌜ Bounds (graphIn (now (file .entry)) h) limit target (now (work .entry)) r ⌝ }
+{
+    let n = h.states;
+    if n <= target {
+        return limit;
+    }
+    let part = row_part(file, h, target);
+    if degree(part, h, target) != 1 {
+        return limit;
+    }
+    if successor(part, h, target, 0) != target {
+        return limit;
+    }
+    let entry = get(work, 2 * n + target);
+    if entry == 0 {
+        return limit;
+    }
+    if limit < entry {
+        return limit;
+    }
+    entry - 1
+}
+
 // Searches from the sources whose start levels stand in region 2, level by level below the limit, until the first edge
-// into the target.
+// into the target. A target whose only successor is itself is reached from itself one step after its own level, unless
+// an edge leads into it before.
 pub fn spread(file: &[u8], h: Header, work: &mut [u16], limit: usize, target: usize) -> SpreadAnswer
     requires { ⌜ Valid (now file) h ⌝ }
     requires { ⌜ limit ≤ h .states ⌝ }
@@ -81,6 +114,17 @@ pub fn spread(file: &[u8], h: Header, work: &mut [u16], limit: usize, target: us
     ensures { λ r. ⌜ Spread (graphIn (now (file .entry)) h) limit target (now (work .entry)) (now (work .exit)) r ⌝ }
 {
     let n = h.states;
-    plan(work, n, limit);
-    search_planned(file, h, work, limit, target)
+    let bound = search_bound(file, h, work, limit, target);
+    plan(work, n, bound);
+    let answer = search_planned(file, h, work, bound, target);
+    if limit <= bound {
+        return answer;
+    }
+    match answer {
+        SpreadAnswer::Length(_) => answer,
+        SpreadAnswer::Nothing(_) => {
+            let length = bound + 1;
+            SpreadAnswer::Length(length)
+        }
+    }
 }

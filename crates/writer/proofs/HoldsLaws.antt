@@ -16,6 +16,7 @@ use Rattle.format.specs.Layout.{states, edgeCount, rowEntry}
 use Rattle.model.specs.Model.{graphIn, graphOf}
 use Rattle.model.specs.declared.Header.{Header}
 use Rattle.model.specs.Values.{headerOf}
+use Rattle.model.proofs.Implied.{implied-not}
 use Rattle.model.proofs.Laws.{Facts, succs-row, succs-none, marked-bit}
 use Rattle.writer.specs.File.{edgesBelow, edgeTotal, fileOf}
 use Rattle.writer.specs.Holds.{Writable, FilesHold}
@@ -80,7 +81,7 @@ module _ (g : Graph) (w : Writable g) where
   same-succs s =
       let f : List ℕ = fileOf g in
       elim (lt-or-ge s (g .size)) [
-        | inl l ↦ succs-row f (headerOf f) s (omega (arith, file-states g)) ∙ file-row-targets g s l
+        | inl l ↦ succs-row f (headerOf f) s (omega (arith, file-states g)) ∙ implied-not s _ ∙ file-row-targets g s l
         | inr m ↦ succs-none f (headerOf f) s (omega (arith, file-states g))
             ∙ sym (none-found (g .succs s) (λ t h. omega (arith, w .well-formed .edge-states s t h)))
       ]

@@ -86,9 +86,9 @@ module _ (f : List ℕ) (F : Facts f) (L : LaidOut f) where
   keeps-initial : T (not (badInitial f))
   keeps-initial = lt-passes (initial f) (states f) (F .initial-below)
 
-  -- rule 5 is kept: bytes 6–7 are zero
+  -- rule 5 is kept: bytes 6–7 are zero, so not above 1
   keeps-reserved : T (not (badReserved f))
-  keeps-reserved = same-passes (reserved f) 0 (L .reserved-zero)
+  keeps-reserved = le-fails 1 (reserved f) (omega (arith, L .reserved-zero))
 
   -- rule 6 is kept: the offsets and the total length are those that N and M give
   keeps-offsets : T (not (badOffsets (totalOf (states f) (edgeCount f)) f))

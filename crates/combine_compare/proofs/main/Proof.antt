@@ -5,10 +5,10 @@ use Rattle.combine_compare.proofs.main.Statement.{statement}
 use Rattle.combine_compare.proofs.main.Tie as tie
 
 abbrev Inv-loop : tie.InvT-loop
-Inv-loop tally₀ number₀ tally number = number ≤ 414480
+Inv-loop tally₀ number₀ tally number = number ≤ 828960
 
 abbrev μ-loop : tie.MeasureT-loop
-μ-loop tally₀ number₀ tally number = 414480 - number
+μ-loop tally₀ number₀ tally number = 828960 - number
 
 loop-holds : tie.Need-loop-holds Inv-loop μ-loop
 loop-holds c = omega arith

@@ -8,9 +8,11 @@ use mathlib.Core.List.{List}
 use borrow.Author.Tests.{lt-ltb, le-ltb, eq-eqb, ne-eqb}
 use denote.Ref.{now}
 use lib.ListN.{length}
+use lib.Dec.{eqb}
 use Rattle.format.specs.Layout.{states, edgeCount, initial, reserved}
 use Rattle.format.specs.Rules.{shortFile, badStates, badEdges, badInitial, badReserved, headRules}
 use Rattle.format.proofs.Reasons.{KeptTo, unheld-skipped}
+use Rattle.model.specs.Values.{headerOf}
 use Rattle.model.proofs.Answers.{held-refuses, none-accepts}
 use borrow.Author.Needs.{needs}
 use Rattle.model.proofs.check_head.Statement.{statement}
@@ -59,7 +61,12 @@ kept-4 c =
 kept-5 : (c : tie.Else6) → KeptTo 5 (headRules (checked (from5 c)))
 kept-5 c =
     let file = checked (from5 c) in
-    unheld-skipped _ (badReserved file) 5 _ (kept-4 (c .before .before)) (rw (eq-eqb (reserved file) 0 (omega arith)))
+    unheld-skipped _ (badReserved file) 5 _ (kept-4 (c .before .before)) (le-ltb 1 (reserved file) (omega arith))
+
+-- the header that is made of the numbers read is the file's own
+header-told : (file : List ℕ) {n m i r : ℕ} → n ≡ states file → m ≡ edgeCount file → i ≡ initial file → r ≡ reserved file
+    → record { states = n; edges = m; start = i; stays = eqb r 1 } ≡ headerOf file
+header-told file en em ei er = λ i. record { states = en i; edges = em i; start = ei i; stays = eqb (er i) 1 }
 
 returns : tie.Need-returns
 returns c =
@@ -109,14 +116,15 @@ returns-6 : tie.Need-returns-6
 returns-6 c =
     let start = from4 (c .before .before) in
     let file = checked start in
-    held-refuses (headRules file) file (badReserved file) 5 _ (kept-4 (c .before .before)) (rw (ne-eqb (reserved file) 0 (omega arith)))
+    held-refuses (headRules file) file (badReserved file) 5 _ (kept-4 (c .before .before)) (lt-ltb 1 (reserved file) (omega arith))
 
 returns-7 : tie.Need-returns-7
 returns-7 c =
     let file = checked (from5 c) in
     let read = c .before .before .before .before .before .before in
     none-accepts (headRules file) file _
-    (rw (read .before .before .word .ensures .0, read .before .word2 .ensures .0, read .word3 .ensures .0)) (kept-5 c)
+    (header-told file (read .before .before .word .ensures .0) (read .before .word2 .ensures .0) (read .word3 .ensures .0) (c .before .word4 .ensures .0))
+    (kept-5 c)
 
 pub check-head-spec : {M : Type 1} → statement M
 check-head-spec =

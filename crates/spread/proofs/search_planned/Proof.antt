@@ -2,21 +2,24 @@
 -- `at`, the queue's loop within a level, the successors' loop within a row. The measures are the levels, queue entries and
 -- successors left.
 use Prim.Native.Nat.{ℕ, _+_, _*_, _-_, _≤_, _<_}
-use mathlib.Core.Path.{_≡_, _∙_, ap, subst}
-use mathlib.Core.List.{List}
+use mathlib.Core.Path.{_≡_, sym, _∙_, ap, subst}
+use mathlib.Core.List.{List, [], _∷_}
 use native.Mathlib.Omega.{arith}
 use lib.ListN.{length, getD}
 use lib.Dec.{T}
 use Rattle.lasso.specs.Graph.{Graph, edgeb}
 use Rattle.lasso.proofs.Tests.{at-memb}
+use Rattle.format.specs.Bytes.{words}
 use Rattle.model.specs.Model.{graphIn}
+use Rattle.model.proofs.Steps.{steps-are, steps-edges}
 use Rattle.model.proofs.Laws.{Sizes, valid-sizes, valid-well-formed}
 use Rattle.frontier.specs.Regions.{entry, queued}
-use Rattle.frontier.specs.Buckets.{Planned, HasPlan}
-use Rattle.frontier.specs.Search.{State}
+use Rattle.frontier.specs.Buckets.{sources, Planned, HasPlan}
+use Rattle.frontier.specs.Search.{Hit, State}
 use Rattle.frontier.proofs.PushLaws.{queue-room}
-use Rattle.spread.proofs.RowLaws.{InRow, queued-entry, planned-state, row-start, row-inside, row-hit, row-step, row-done, level-done}
-use Rattle.spread.proofs.EndLaws.{edge-found, nothing-found}
+use Rattle.spread.specs.Promises.{Apart}
+use Rattle.spread.proofs.RowLaws.{InRow, queued-entry, planned-state, row-start, row-inside, row-hit, row-step, row-end, level-done}
+use Rattle.spread.proofs.EndLaws.{edge-found, nothing-found, not-hit}
 use Rattle.spread.proofs.search_planned.Statement.{statement}
 use Rattle.spread.proofs.search_planned.Tie as tie
 
@@ -32,7 +35,7 @@ abbrev μ-loop2 : tie.MeasureT-loop2
 abbrev Inv-loop : tie.InvT-loop
 Inv-loop file h work₀ limit target n queue level at₀ tail₀ end work at tail =
     (at₀ ≤ at) × (tail₀ ≤ tail) ×
-    ((w : List ℕ) → State n (graphIn file h .succs) limit target w (level + 1) (queued n at₀) (queued n end) (queued n tail₀) work₀ →
+    ((w : List ℕ) → Apart (graphIn file h) limit target w → State n (graphIn file h .succs) limit target w (level + 1) (queued n at₀) (queued n end) (queued n tail₀) work₀ →
     State n (graphIn file h .succs) limit target w (level + 1) (queued n at) (queued n end) (queued n tail) work)
 
 abbrev μ-loop : tie.MeasureT-loop
@@ -41,13 +44,13 @@ abbrev μ-loop : tie.MeasureT-loop
 abbrev Inv-levels : tie.InvT-levels
 Inv-levels file h work₀ limit target n queue level₀ at₀ tail₀ work level at tail =
     (level ≤ limit) × (at₀ ≤ at) × (tail₀ ≤ tail) ×
-    ((w : List ℕ) → State n (graphIn file h .succs) limit target w level₀ (queued n at₀) (queued n at₀) (queued n tail₀) work₀ →
+    ((w : List ℕ) → Apart (graphIn file h) limit target w → State n (graphIn file h .succs) limit target w level₀ (queued n at₀) (queued n at₀) (queued n tail₀) work₀ →
     State n (graphIn file h .succs) limit target w level (queued n at) (queued n at) (queued n tail) work)
 
 abbrev μ-levels : tie.MeasureT-levels
 μ-levels file h work₀ limit target n queue level₀ at₀ tail₀ work level at tail = limit - level
 
--- the places that the answers speak of: entry, a level's turn, a queue entry's turn, a successor's turn, a successor read
+-- the places that the answers speak of: entry, a level's turn, a queue entry's turn, an edge's turn, an edge read
 abbrev Start : Type 0
 Start = tie.Start Inv-loop2 μ-loop2 Inv-loop μ-loop Inv-levels μ-levels
 
@@ -63,8 +66,11 @@ After-get = tie.After-get Inv-loop2 μ-loop2 Inv-loop μ-loop Inv-levels μ-leve
 abbrev At-loop2 : Type 0
 At-loop2 = tie.At-loop2 Inv-loop2 μ-loop2 Inv-loop μ-loop Inv-levels μ-levels
 
-abbrev After-successor : Type 0
-After-successor = tie.After-successor Inv-loop2 μ-loop2 Inv-loop μ-loop Inv-levels μ-levels
+abbrev In-loop2 : Type 0
+In-loop2 = tie.In-loop2 Inv-loop2 μ-loop2 Inv-loop μ-loop Inv-levels μ-levels
+
+abbrev After-edge-target : Type 0
+After-edge-target = tie.After-edge-target Inv-loop2 μ-loop2 Inv-loop μ-loop Inv-levels μ-levels
 
 -- the entry, from a level's turn
 abbrev start : At-levels → Start
@@ -86,6 +92,10 @@ row-entry c = start (level-of (queue-of c))
 abbrev row-s : At-loop2 → ℕ
 row-s c = c .before .before .before .get .result
 
+-- the part of the file that holds its row's targets
+abbrev row-part : At-loop2 → List ℕ
+row-part c = c .before .before .row-part .result .now
+
 -- the level's last queue entry, plus one
 abbrev end-of : At-loop → ℕ
 end-of c = c .before .before .before .admit .result
@@ -100,7 +110,11 @@ sizes c = valid-sizes (c .pre .0)
 
 -- the plan that is there
 plan : (c : Start) → HasPlan (c .args .h .states) (c .args .limit) (c .args .work .now)
-plan c = c .pre .1 .1 .1
+plan c = c .pre .1 .1 .1 .0
+
+-- a target whose only successor is itself is no source
+apart : (c : Start) (w : List ℕ) → Planned (c .args .h .states) (c .args .limit) w (c .args .work .now) → Apart (graph c) (c .args .limit) (c .args .target) w
+apart c = c .pre .1 .1 .1 .1
 
 -- the search at a level's turn, from whatever table the plan was made
 level-from : (c : At-levels) (w : List ℕ) →
@@ -111,7 +125,7 @@ level-from : (c : At-levels) (w : List ℕ) →
 level-from c w P =
     let a = start c .args in
     let z : 0 ≡ queued (a .h .states) (3 * a .h .states) = omega arith in
-    c .levels .inv .3 w
+    c .levels .inv .3 w (apart (start c) w P)
     (subst (λ (i : ℕ). State (a .h .states) (graph (start c) .succs) (a .limit) (a .target) w 0 i i i (a .work .now)) z (planned-state (start c .pre .1 .0) (start c .pre .1 .1 .0) P))
 
 -- and for the plan that is there
@@ -137,7 +151,7 @@ queue-from : (c : At-loop) (w : List ℕ) →
     State (a .h .states) (graph (start (level-of c)) .succs) (a .limit) (a .target) w (level-of c .levels .level + 1) (queued (a .h .states) (l .at)) (queued (a .h .states) (end-of c)) (queued (a .h .states) (l .tail)) (l .work)
 queue-from c w P =
     let a = start (level-of c) .args in
-    c .loop .inv .2 w
+    c .loop .inv .2 w (apart (start (level-of c)) w P)
     (c .before .before .before .admit .ensures .0 (graph (start (level-of c)) .succs) (a .limit) (a .target) w (queued (a .h .states) (level-of c .levels .at)) (level-below c) (level-from (level-of c) w P))
 
 queue-state : (c : At-loop) →
@@ -189,39 +203,57 @@ row-state c = row-from c (plan (row-entry c) .origin) (plan (row-entry c) .plann
 row-tail : (c : At-loop2) → 3 * row-entry c .args .h .states ≤ c .loop2 .tail
 row-tail c = omega (arith, queue-places (queue-of c) .1, c .loop2 .inv .0)
 
--- the row's number of successors
-degree-told : (c : At-loop2) → c .before .degree .result ≡ length (graph (row-entry c) .succs (row-s c))
-degree-told c = c .before .degree .ensures ∙ ap length (c .before .before .row-part .ensures)
+-- a place of the row is below its number of edges
+place-below : (c : In-loop2) → c .before .loop2 .k < length (words (row-part (c .before)))
+place-below c = omega (arith, c .before .before .edge-count .ensures, c .loop2-test .taken)
+
+-- the edges of a row that has some are the successors
+edges-told : (c : In-loop2) → graph (row-entry (c .before)) .succs (row-s (c .before)) ≡ words (row-part (c .before))
+edges-told c =
+    let r = c .before in
+    sym (r .before .before .row-part .ensures)
+    ∙ steps-edges (row-entry r .args .h) (row-s r) (row-part r) (omega (arith, place-below c))
+
+-- so a place of the row is one among the successors
+place-inside : (c : In-loop2) → c .before .loop2 .k < length (graph (row-entry (c .before)) .succs (row-s (c .before)))
+place-inside c = omega (arith, place-below c, ap length (edges-told c))
 
 -- the successor that is looked at
-successor-told : (c : After-successor) →
+successor-told : (c : After-edge-target) →
     let r = c .before .before in
-    c .successor .result ≡ getD (graph (row-entry r) .succs (row-s r)) (r .loop2 .k) 0
+    c .edge-target .result ≡ getD (graph (row-entry r) .succs (row-s r)) (r .loop2 .k) 0
 successor-told c =
-    c .successor .ensures ∙ ap (λ (ws : List ℕ). getD ws (c .before .before .loop2 .k) 0) (c .before .before .before .before .row-part .ensures)
+    c .edge-target .ensures ∙ sym (ap (λ (ws : List ℕ). getD ws (c .before .before .loop2 .k) 0) (edges-told (c .before)))
 
 -- there is an edge to it
-successor-edge : (c : After-successor) →
+successor-edge : (c : After-edge-target) →
     let r = c .before .before in
-    T (edgeb (graph (row-entry r)) (row-s r) (c .successor .result))
+    T (edgeb (graph (row-entry r)) (row-s r) (c .edge-target .result))
 successor-edge c =
     let r = c .before .before in
     let us = graph (row-entry r) .succs (row-s r) in
-    rw (successor-told c) (at-memb us (r .loop2 .k) (omega (arith, degree-told r)))
+    rw (successor-told c) (at-memb us (r .loop2 .k) (place-inside (c .before)))
 
 -- it is a state
-successor-inside : (c : After-successor) →
-    c .successor .result < start (level-of (queue-of (c .before .before))) .args .h .states
+successor-inside : (c : After-edge-target) →
+    c .edge-target .result < start (level-of (queue-of (c .before .before))) .args .h .states
 successor-inside c =
     let r = c .before .before in
     let s = row-entry r in
-    omega (arith, valid-well-formed (s .pre .0) .edge-states (row-s r) (c .successor .result) (successor-edge c) .1, sizes s .states-are)
+    omega (arith, valid-well-formed (s .pre .0) .edge-states (row-s r) (c .edge-target .result) (successor-edge c) .1, sizes s .states-are)
+
+-- a state whose only successor is itself is not the target, where such a target is no source
+itself-apart : (g : Graph) {limit target at end count s k : ℕ} {w₀ w : List ℕ} (level : ℕ) → Apart g limit target w₀
+    → InRow (g .size) (g .succs) limit target w₀ (level + 1) at end count s k w → g .succs s ≡ s ∷ [] → s ≡ target → ⊥
+itself-apart g {limit} {w₀ = w₀} level A R e same =
+    not-hit level (R .state) (A (subst (λ (x : ℕ). g .succs x ≡ x ∷ []) same e))
+    (subst (Hit (g .size) (g .succs) (sources (g .size) limit w₀) level) same (row-hit level R))
 
 mul-queue : tie.Need-mul-queue Inv-loop2 μ-loop2 Inv-loop μ-loop Inv-levels μ-levels
 mul-queue c = omega (arith, sizes (c .before .before) .states-range .1)
 
 levels-holds : tie.Need-levels-holds Inv-loop2 μ-loop2 Inv-loop μ-loop Inv-levels μ-levels
-levels-holds c = (omega arith, omega arith, omega arith, λ w S. S)
+levels-holds c = (omega arith, omega arith, omega arith, λ w A S. S)
 
 sub-count : tie.Need-sub-count Inv-loop2 μ-loop2 Inv-loop μ-loop Inv-levels μ-levels
 sub-count c = level-places (c .before) .1
@@ -255,7 +287,7 @@ admit-requires c κs =
     )
 
 loop-holds : tie.Need-loop-holds Inv-loop2 μ-loop2 Inv-loop μ-loop Inv-levels μ-levels
-loop-holds c = (omega arith, omega arith, λ w S. S)
+loop-holds c = (omega arith, omega arith, λ w A S. S)
 
 get-requires : tie.Need-get-requires Inv-loop2 μ-loop2 Inv-loop μ-loop Inv-levels μ-levels
 get-requires c κs = let S = queue-state (c .before .before) in omega (arith, queue-places (c .before .before) .0, S .fits, S .end-count, S .queue .within)
@@ -266,15 +298,15 @@ row-part-requires c κs =
     let q = c .before .before .before in
     (start (level-of q) .pre .0, row-inside (level-of q .levels .level) (row-first c (plan (start (level-of q)) .origin) (queue-state q)))
 
-degree-requires : tie.Need-degree-requires Inv-loop2 μ-loop2 Inv-loop μ-loop Inv-levels μ-levels
-degree-requires c κs = tt
+edge-count-requires : tie.Need-edge-count-requires Inv-loop2 μ-loop2 Inv-loop μ-loop Inv-levels μ-levels
+edge-count-requires c κs = tt
 
 loop2-holds : tie.Need-loop2-holds Inv-loop2 μ-loop2 Inv-loop μ-loop Inv-levels μ-levels
 loop2-holds c = (omega arith, λ w R. R)
 
-successor-requires :
-    tie.Need-successor-requires Inv-loop2 μ-loop2 Inv-loop μ-loop Inv-levels μ-levels
-successor-requires c κs = omega (arith, c .before .before .degree .ensures)
+edge-target-requires :
+    tie.Need-edge-target-requires Inv-loop2 μ-loop2 Inv-loop μ-loop Inv-levels μ-levels
+edge-target-requires c κs = place-below c
 
 add-reach : tie.Need-add-reach Inv-loop2 μ-loop2 Inv-loop μ-loop Inv-levels μ-levels
 add-reach c = omega (arith, start (level-of (queue-of (c .before .before .before .before))) .pre .1 .0, sizes (start (level-of (queue-of (c .before .before .before .before)))) .states-range .1)
@@ -285,7 +317,7 @@ reach-requires c κs =
     let r = t .before .before in
     let s = row-entry r in
     let R = row-state r in
-    (sizes s .states-range .1, (successor-inside t, (omega (arith, level-below (queue-of r), s .pre .1 .0), (R .state .fits, (row-tail r, queue-room (t .successor .result) (R .state .fits) (R .state .queue) (successor-inside t))))))
+    (sizes s .states-range .1, (successor-inside t, (omega (arith, level-below (queue-of r), s .pre .1 .0), (R .state .fits, (row-tail r, queue-room (t .edge-target .result) (R .state .fits) (R .state .queue) (successor-inside t))))))
 
 add-k : tie.Need-add-k Inv-loop2 μ-loop2 Inv-loop μ-loop Inv-levels μ-levels
 add-k c = omega arith
@@ -298,7 +330,7 @@ loop2-again c =
     let e = c .before .before .before .before in
     let t = e .before in
     let r = t .before .before in
-    (omega (arith, c .before .before .reach .ensures .1), λ w R. row-step (level-of (queue-of r) .levels .level) (r .loop2 .inv .1 w R) (t .successor .result) (successor-told t) (omega (arith, degree-told r)) (successor-inside t) (e .if2 .left) (c .before .before .reach .ensures .0))
+    (omega (arith, c .before .before .reach .ensures .1), λ w R. row-step (level-of (queue-of r) .levels .level) (r .loop2 .inv .1 w R) (t .edge-target .result) (successor-told t) (place-inside (t .before)) (successor-inside t) (e .if2 .left) (c .before .before .reach .ensures .0))
 
 add-at : tie.Need-add-at Inv-loop2 μ-loop2 Inv-loop μ-loop Inv-levels μ-levels
 add-at c = omega arith
@@ -308,14 +340,19 @@ loop-less c = omega arith
 
 loop-again : tie.Need-loop-again Inv-loop2 μ-loop2 Inv-loop μ-loop Inv-levels μ-levels
 loop-again c =
-    let q = queue-of (c .before) in (
+    let r = c .before in
+    let q = queue-of r in
+    let level = level-of q .levels .level in
+    let h = row-entry r .args .h in (
       omega arith,
-      omega (arith, q .loop .inv .1, c .before .loop2 .inv .0),
-      λ w S.
-          row-done (level-of q .levels .level)
-          (c .before .loop2 .inv .1 w (row-first (c .before .before .before .before) w (q .loop .inv .2 w S)))
-          (omega (arith, queue-places q .0))
-          (omega (arith, degree-told (c .before))),
+      omega (arith, q .loop .inv .1, r .loop2 .inv .0),
+      λ w A S.
+          let R = r .loop2 .inv .1 w (row-first (r .before .before .before) w (q .loop .inv .2 w A S)) in
+          row-end level R (h .stays) (words (row-part r))
+          (sym (r .before .before .row-part .ensures) ∙ steps-are h (row-s r) (row-part r))
+          (omega (arith, r .before .edge-count .ensures, c .loop2-test .left))
+          (itself-apart (graph (row-entry r)) level A R)
+          (omega (arith, queue-places q .0)),
     )
 
 add-level : tie.Need-add-level Inv-loop2 μ-loop2 Inv-loop μ-loop Inv-levels μ-levels
@@ -331,9 +368,9 @@ levels-again c =
       omega (arith, level-below (c .before)),
       omega (arith, l .levels .inv .1, c .before .loop .inv .0),
       omega (arith, l .levels .inv .2, c .before .before .before .before .admit .ensures .1, c .before .loop .inv .1),
-      λ w S.
+      λ w A S.
           level-done (omega arith)
-          (c .before .loop .inv .2 w (c .before .before .before .before .admit .ensures .0 (graph (start l) .succs) (start l .args .limit) (start l .args .target) w (queued n (l .levels .at)) (level-below (c .before)) (l .levels .inv .3 w S))),
+          (c .before .loop .inv .2 w A (c .before .before .before .before .admit .ensures .0 (graph (start l) .succs) (start l .args .limit) (start l .args .target) w (queued n (l .levels .at)) (level-below (c .before)) (l .levels .inv .3 w A S))),
     )
 
 add-length : tie.Need-add-length Inv-loop2 μ-loop2 Inv-loop μ-loop Inv-levels μ-levels
@@ -374,9 +411,9 @@ search-planned-spec =
     loop-holds
     get-requires
     row-part-requires
-    degree-requires
+    edge-count-requires
     loop2-holds
-    successor-requires
+    edge-target-requires
     add-reach
     reach-requires
     add-k

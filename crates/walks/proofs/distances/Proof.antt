@@ -1,8 +1,12 @@
 -- `distances` meets its contract: the search from one source leaves the distances up to the limit.
 use borrow.Author.Needs.{needs}
+use mathlib.Core.Path.{ap}
 use native.Mathlib.Omega.{arith}
+use native.Mathlib.Nat.{le-refl}
+use denote.Ref.{now}
+use lib.ListN.{length}
 use Rattle.model.specs.Model.{graphIn}
-use Rattle.model.proofs.Laws.{valid-sizes, valid-well-formed}
+use Rattle.model.proofs.Laws.{succs-none, valid-sizes, valid-well-formed}
 use Rattle.walks.proofs.ThroughSteps.{started-distances}
 use Rattle.walks.proofs.distances.Statement.{statement}
 use Rattle.walks.proofs.distances.Tie as tie
@@ -16,8 +20,21 @@ search-planned-requires : tie.Need-search-planned-requires
 search-planned-requires c κs =
     let p = c .before .before .before in
     let s = p .before .before .before .before in
-    let made = p .start-at .ensures in
-    (s .pre .0, (s .pre .1 .1 .1 .0, (omega (arith, made .started .outside .same-length, made .planned .outside .same-length), record { origin = made .origin; planned = made .planned })))
+    let a = s .args in
+    let made = p .start-at .ensures in (
+      s .pre .0,
+      (
+        s .pre .1 .1 .1 .0,
+        (
+          omega (arith, made .started .outside .same-length, made .planned .outside .same-length),
+          (
+            record { origin = made .origin; planned = made .planned },
+            λ origin planned e.
+                absurd (omega (arith, ap length e, ap length (succs-none (now (a .file)) (a .h) (a .h .states) (le-refl (a .h .states))))),
+          ),
+        ),
+      ),
+    )
 
 same-length : tie.Need-same-length
 same-length c = search needs

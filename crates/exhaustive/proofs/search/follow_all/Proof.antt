@@ -1,10 +1,10 @@
--- `exhaustive::search::explore` meets its contract. The loop has at most 100,000 turns.
+-- `exhaustive::search::follow_all` meets its contract. The loop has at most 100,000 turns.
 use borrow.Author.Needs.{needs}
 use Prim.Native.Nat.{_-_, _≤_}
 use mathlib.Core.Path.{_≡_}
 use lib.ListN.{length}
-use Rattle.exhaustive.proofs.search.explore.Statement.{statement}
-use Rattle.exhaustive.proofs.search.explore.Tie as tie
+use Rattle.exhaustive.proofs.search.follow_all.Statement.{statement}
+use Rattle.exhaustive.proofs.search.follow_all.Tie as tie
 
 abbrev Inv-loop : tie.InvT-loop
 Inv-loop m roll₀ trail₀ t₀ turns₀ roll trail t turns = (turns ≤ 100000) × (length roll ≡ length roll₀)
@@ -48,8 +48,8 @@ same-length-2 c = search needs
 returns-2 : tie.Need-returns-2 Inv-loop μ-loop
 returns-2 c = search needs
 
-pub explore-spec : {M : Type 1} → statement M
-explore-spec =
+pub follow-all-spec : {M : Type 1} → statement M
+follow-all-spec =
     tie.close
     (tie.spec
     Inv-loop
