@@ -18,7 +18,7 @@ use Rattle.format.specs.Rules.{rules, Accepted}
 use Rattle.format.proofs.Reasons.{none-clear}
 use Rattle.model.specs.Model.{listIf, rowGraph, withImplied, staying, graphOf}
 use Rattle.model.specs.Values.{headerOf}
-use Rattle.model.specs.Stays.{ImpliedSteps, StepsAreImplied, RunEndsExactly}
+use Rattle.model.specs.Stays.{StepsAreImplied, RunEndsExactly}
 use Rattle.model.proofs.Implied.{implied-some, staying-not, implied-memb, edge-implied, stays-implied}
 use Rattle.model.proofs.Laws.{succs-row, succs-none}
 

@@ -30,7 +30,7 @@ abbrev pub withImplied : Bool → ℕ → List ℕ → List ℕ
 withImplied b s [] = listIf b (s ∷ [])
 withImplied b s (t ∷ ts) = t ∷ ts
 
--- the graph in which every state has its implied step, if those without edges stay
+-- the graph in which each state without edges has an implied step to itself, if such states stay
 abbrev pub staying : Bool → Graph → Graph
 staying b g =
     record {

@@ -1,5 +1,5 @@
 // The model file: its check by the numbered rules, and the leaves by which the layers above read it.
-// The leaves speak of the graph that the file holds, never of its bytes.
+// The leaves speak of the graph that the file holds; those that are given the part of a row alone, of its numbers.
 ghost use mathlib.Core.Path.{_≡_};
 ghost use Prim.Native.Nat.{_≤_, _<_};
 ghost use lib.ListN.{length, getD};

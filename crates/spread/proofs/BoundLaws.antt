@@ -29,6 +29,10 @@ only-one [] t l e = absurd (omega arith)
 only-one (x ∷ []) t l e = ap (λ (y : ℕ). y ∷ []) e
 only-one (x ∷ y ∷ ys) t l e = absurd (omega arith)
 
+-- a target whose only successor is itself has an edge to itself
+own-edge : (g : Graph) (target : ℕ) → g .succs target ≡ target ∷ [] → T (edgeb g target target)
+own-edge g target e = subst (λ (ts : List ℕ). T (memb target ts)) (sym e) (or-l (eqb target target) false (eqb-refl target))
+
 -- an entry of 0 is no source
 pub zero-none : (limit e : ℕ) → e ≡ 0 → under limit (valueOf e) ≡ none
 zero-none limit e q = ap (λ (x : ℕ). under limit (valueOf x)) q
@@ -64,14 +68,11 @@ pub apart-in-plan : {limit : ℕ} {w u : List ℕ} (g : Graph) (target : ℕ) �
     → Apart g limit target w → ApartInPlan g limit target u
 apart-in-plan {limit} {w} g target wf P a origin P' e = go (sources (g .size) limit origin target) refl
   where
-    edge : T (edgeb g target target)
-    edge = subst (λ (ts : List ℕ). T (memb target ts)) (sym e) (or-l (eqb target target) false (eqb-refl target))
-
     go : (o : Option ℕ) → sources (g .size) limit origin target ≡ o → sources (g .size) limit origin target ≡ none
     go none q = q
     go (some k) q =
         let below : k < limit = under-some limit (valueOf (entry 2 (g .size) origin target)) k q .1 in
-        let same : sources (g .size) limit w target ≡ some k = same-listed (P' .lists) (P .lists) target k (wf .edge-states target target edge .0) below q in
+        let same : sources (g .size) limit w target ≡ some k = same-listed (P' .lists) (P .lists) target k (wf .edge-states target target (own-edge g target e) .0) below q in
         let z : _≡_ {A = ℕ} 0 1 = cc (same, a e) in absurd (omega arith)
 
 module _ (g : Graph) (limit target : ℕ) (w : List ℕ) where
@@ -104,9 +105,8 @@ module _ {g : Graph} {limit target : ℕ} {w : List ℕ} {b : ℕ} (w' : List �
       let source : ℕ → Option ℕ = sources (g .size) limit w in
       let whole : Option ℕ = hitLength g source target in
       let own : source target ≡ some b = ap (λ (e : ℕ). under limit (valueOf e)) (level .2) ∙ under-lt limit b less in
-      let edge : T (edgeb g target target) = subst (λ (ts : List ℕ). T (memb target ts)) (sym (level .1)) (or-l (eqb target target) false (eqb-refl target)) in
       let P : ℕ → Type 0 = Timed (g .size) source (λ s m. (1 ≤ m) × Walk g s target m) in
-      let step : P (b + 1) = (target, b, 1, level .0, own, (omega arith, walk-edge edge), omega arith) in
+      let step : P (b + 1) = (target, b, 1, level .0, own, (omega arith, walk-edge (own-edge g target (level .1))), omega arith) in
       let (m, is, most) = isLeast-le P whole (hitLength-least wf source target) (b + 1) step in
       let not-less : suc b ≤ m =
       elim (lt-or-ge m (suc b)) [
