@@ -2,7 +2,7 @@
 //! of s. The masks are looked at for the first block; each further block is made from the first one in the output.
 
 use super::access::Access;
-use super::model::{degree, successor, word, Header};
+use super::model::{edge_count, edge_target, successor, word, Header};
 use super::property::mask_holds;
 use super::writer::write_word;
 
@@ -63,11 +63,16 @@ pub fn write_row<A: Access>(
     size: usize,
 ) -> usize {
     let RuleState { s, letter, part, h } = state;
-    let d = degree(part, h);
+    let d = edge_count(part);
+    let mut first = s;
     if d == 0 {
-        return at;
+        if !h.stays {
+            return at;
+        }
+    } else {
+        first = edge_target::<A>(part, 0);
     }
-    let base = successor::<A>(part, s, 0) * size;
+    let base = first * size;
     let mut next = write_block::<A>(out, at, targets, masks, letter, base);
     let count = (next - at) / 2;
     if count == 0 {
