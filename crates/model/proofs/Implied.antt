@@ -8,7 +8,7 @@ use native.Mathlib.Omega.{arith}
 use lib.ListN.{length}
 use lib.Dec.{T, eqb, ltb, ltb→lt, eqb→eq, eqb-refl}
 use Rattle.lasso.specs.Lists.{memb}
-use Rattle.lasso.specs.Graph.{Graph, WellFormed, edgeb, ascendingb}
+use Rattle.lasso.specs.Graph.{Graph, WellFormed, ascendingb}
 use Rattle.lasso.proofs.Tests.{either, or-l, snd}
 use Rattle.model.specs.Model.{listIf, withImplied, staying}
 

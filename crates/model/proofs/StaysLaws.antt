@@ -3,7 +3,7 @@ use Prim.Native.Nat.{ℕ, _≤_, _<_}
 use mathlib.Core.Path.{_≡_, refl, sym, ap, subst, _∙_}
 use mathlib.Core.Bool.{Bool, true, false}
 use mathlib.Core.List.{List, [], _∷_}
-use mathlib.Core.Logic.{_⊎_, inl, inr}
+use mathlib.Core.Logic.{inl, inr}
 use native.Mathlib.Omega.{arith}
 use lib.ListN.{length}
 use lib.Dec.{T, eqb, eqb→eq, nltb→le, eqb-refl}
@@ -14,7 +14,7 @@ use Rattle.lasso.specs.Shown.{EndsRun}
 use Rattle.lasso.proofs.Tests.{both, eq→eqb, or-l, lt-or-ge}
 use Rattle.lasso.proofs.ShownLaws.{no-edge-out}
 use Rattle.format.specs.Layout.{states, reserved, stays, rowTargets}
-use Rattle.format.specs.Rules.{rules, Accepted}
+use Rattle.format.specs.Rules.{rules}
 use Rattle.format.proofs.Reasons.{none-clear}
 use Rattle.model.specs.Model.{listIf, rowGraph, withImplied, staying, graphOf}
 use Rattle.model.specs.Values.{headerOf}

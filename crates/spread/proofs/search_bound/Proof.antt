@@ -2,14 +2,14 @@
 -- limit, leaves the limit; any other its own level.
 use Prim.Native.Nat.{ℕ, _-_}
 use mathlib.Core.Path.{_≡_, sym, ap, _∙_}
-use mathlib.Core.List.{List, [], _∷_}
+use mathlib.Core.List.{List}
 use native.Mathlib.Omega.{arith}
 use denote.Ref.{now}
 use borrow.Author.Needs.{needs}
 use lib.ListN.{length, getD}
 use Rattle.lasso.specs.Graph.{Graph}
 use Rattle.model.specs.Model.{graphIn}
-use Rattle.model.proofs.Laws.{succs-none, valid-sizes}
+use Rattle.model.proofs.Laws.{succs-none}
 use Rattle.frontier.specs.Regions.{entry}
 use Rattle.spread.proofs.BoundLaws.{only-one, zero-none, above-none, limit-bounds}
 use Rattle.spread.proofs.search_bound.Statement.{statement}

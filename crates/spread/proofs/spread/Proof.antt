@@ -10,7 +10,6 @@ use Rattle.lasso.specs.Graph.{Graph}
 use Rattle.model.specs.Model.{graphIn}
 use Rattle.model.proofs.Laws.{valid-sizes, valid-well-formed}
 use Rattle.spread.specs.Promises.{Spread}
-use Rattle.spread.specs.declared.SpreadAnswer.{SpreadAnswer}
 use Rattle.spread.proofs.BoundLaws.{apart-in-plan, found-before, found-itself}
 use Rattle.spread.proofs.spread.Statement.{statement}
 use Rattle.spread.proofs.spread.Tie as tie
