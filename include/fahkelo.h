@@ -110,7 +110,8 @@ uint16_t fahkelo_next(const uint8_t *file, size_t file_len,
  * letter l (docs/FORMAT.md), at most FAHKELO_PROPERTY_MOST bytes.
  * State (s, q) of the result has the number s * Q + q, where the property has Q states. It has an edge to (s', q') exactly
  * if s has one to s' and q has one to q' whose mask holds the letter of s. It is marked if q is; the marks of the rule are
- * not used.
+ * not used. Where bytes 6 and 7 of the rule are 1, the implied step of a state without edges counts as an edge; one of the
+ * property never does. Bytes 6 and 7 of the result are 0.
  * Returns a refusal (the rule's 1 to 11; 16 for the letters, 17 for the property, 18 for a result that is too large, last
  * 15 for an output that is too short), FAHKELO_WRITTEN with the file in output, or FAHKELO_OUT_TOO_SHORT.
  */

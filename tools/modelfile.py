@@ -57,11 +57,17 @@ def edges_of(model):
     return [(source, target) for source, row in enumerate(model.rows) for target in row]
 
 
+def staying_states(model):
+    """The states that have an implied step: those without edges, if bytes 6 and 7 are 1."""
+    return [state for state, row in enumerate(model.rows) if model.stays and not row]
+
+
 def with_implied_steps(model):
     """The model in which the implied steps are edges, so that each row holds all successors of its state."""
-    if not model.stays:
-        return model
-    return model._replace(rows=[row or [state] for state, row in enumerate(model.rows)])
+    rows = list(model.rows)
+    for state in staying_states(model):
+        rows[state] = [state]
+    return model._replace(rows=rows)
 
 
 def encode_up_to_masks(model, masked):

@@ -22,6 +22,11 @@ D_SHEET = "model 5 7\nrounds 1\nshortest 3\n0 | 1 3\n0 | 2 3\nend 2\n"
 H_BYTES = encode(Model(0, [[1, 5], [2], [3], [4], [1], [6], [6]], {1, 6}))
 H_SHEET = "model 7 8\nrounds 2\nshortest 3\n0 5 | 6\nend 1\n"
 STAYS_SHEET = "model 2 1\nrounds 1\nshortest 2\n0 | 1\nend 1\n"
+# 0 -> 1, and 2 and 3 that nothing reaches; 50 ways out of 0. None of 1 and up has edges, and all stay.
+APART_BYTES = encode(Model(0, [[1], [], [], []], {1}, True))
+APART_SHEET = "model 4 1\nrounds 1\nshortest 2\n0 | 1\nend 1\n"
+WAYS_BYTES = encode(Model(0, [range(1, 51)] + [[]] * 50, {50}, True))
+WAYS_SHEET = "model 51 50\nrounds 1\nshortest 2\n0 | 50\nend 1\n"
 # 0 -> 1..5 -> 6..10 -> 11 <-> 12: 25 runs.
 MANY_BYTES = encode(Model(0, [range(1, 6)] + [range(6, 11)] * 5 + [[11]] * 5 + [[12], [11]], {12}))
 MANY_RUNS = [f"0 {one} {two} | 11 12\n" for one in range(1, 6) for two in range(6, 11)][:20]
@@ -57,6 +62,8 @@ SHEETS = {
     "D": (D_BYTES, D_SHEET),
     "H": (H_BYTES, H_SHEET),
     "stays": (STAYS_BYTES, STAYS_SHEET),
+    "stays apart": (APART_BYTES, APART_SHEET),
+    "stays in many ways": (WAYS_BYTES, WAYS_SHEET),
     "many": (MANY_BYTES, MANY_SHEET),
     "long": (LONG_BYTES, long_sheet()),
     "cuts": (CUTS_BYTES, CUTS_SHEET),
@@ -220,13 +227,18 @@ def test_page_pictures(desk):
     expect("what a click shows", places == ["show-1", "show-2"], places)
 
 
+ARROW = "A state that stays as it is has an arrow to itself."
+
+
 @with_desk
 def test_page_words(desk):
     """What the page says about the sheet as a whole."""
     for case, parts in {
         "D": ["5 states and 7 edges", "Within reach: 4 states, 1 marked", "There are 2", "1 state cannot be reached"],
         "H": ["It is the only one", "Drawn strong: run 1."],
-        "stays": ["2 states and 1 edge and", "1 state without edges stays as it is and has an arrow to itself."],
+        "stays": ["2 states and 1 edge and", "1 state within reach has no edges and stays as it is for ever.", ARROW],
+        "stays apart": ["1 state within reach has no edges and stays", ARROW, "2 states cannot be reached"],
+        "stays in many ways": ["50 states within reach have no edges and stay", "has 51 states and 100 arrows: too many"],
         "many": ["These are the first 20 such runs; there are more", "Run 20", "Drawn strong: run 20."],
         "ring 4096": ["has 4,096 states and 4,096 arrows: too many to be read in a picture"],
         "none": ["No run comes to a marked state again and again"],
@@ -235,6 +247,9 @@ def test_page_words(desk):
         text = text_of(tree_of(case, desk.draw()))
         for part in parts:
             expect(f"the page of {case} says: {part}", part in text, text[:600])
+    for case in ["D", "stays in many ways"]:
+        desk.lay(*SHEETS[case])
+        expect(f"the page of {case} speaks of no arrow to itself", ARROW not in text_of(tree_of(case, desk.draw())))
     desk.lay(*SHEETS["D"])
     text = desk.draw("--title", 'A & B <i>"x"</i>')
     expect("a title", text_of(tree_of("title", text).find(f".//{HTML}h1")) == 'A & B <i>"x"</i>')

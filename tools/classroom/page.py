@@ -20,13 +20,14 @@ MODEL = Size(1.25, 680, 680)
 class Lesson(NamedTuple):
     """All that a page is made from. The implied steps of the model are edges here, and drawn as such.
 
-    The refusal is the reason, what to do, and what this file has, in words.
+    staying: the states that have one. The refusal is the reason, what to do, and what this file has, in words.
     """
 
     title: str
     sheet: object
-    model: Optional[object]
-    names: dict
+    model: Optional[object] = None
+    staying: list = []
+    names: dict = {}
     refusal: Optional[tuple] = None
 
 
@@ -97,6 +98,8 @@ def model_section(lesson, runs, states):
         f'<p class="choice run-{number}"><b>Drawn strong: run {number}.</b><span class="screen">{run.text}</span></p>'
         for number, run in zip(numbers, runs)
     )
+    if set(lesson.staying) & set(states):
+        said += "<p>A state that stays as it is has an arrow to itself.</p>"
     outside = len(lesson.model.rows) - len(states)
     if outside:
         said += f"<p>{count_of(outside, 'state')} cannot be reached and {'is' if outside == 1 else 'are'} not drawn.</p>"
@@ -127,10 +130,10 @@ def facts(lesson, states):
         f"The model has {count_of(sheet.states, 'state')} and {count_of(sheet.edges, 'edge')} and starts at {start}. "
         f"Within reach: {count_of(len(states), 'state')}, {sheet.rounds:,} marked."
     ]
-    staying = sum(map(len, lesson.model.rows)) - sheet.edges
+    staying = len(set(lesson.staying) & set(states))
     if staying:
-        ends = "stays as it is and has an arrow to itself" if staying == 1 else "stay as they are and have arrows to themselves"
-        lines.append(f"{count_of(staying, 'state')} without edges {ends}.")
+        ends = "has no edges and stays as it is" if staying == 1 else "have no edges and stay as they are"
+        lines.append(f"{count_of(staying, 'state')} within reach {ends} for ever.")
     length = f"A shortest run has {count_of(sheet.length, 'transition')} before it repeats."
     if not count:
         lines.append("<b>No run comes to a marked state again and again: there is none to draw.</b>")

@@ -2,7 +2,7 @@
 //! of s. The masks are looked at for the first block; each further block is made from the first one in the output.
 
 use super::access::Access;
-use super::model::{edge_count, edge_target, successor, word, Header};
+use super::model::{degree, edge_count, edge_target, successor, word, Header};
 use super::property::mask_holds;
 use super::writer::write_word;
 
@@ -53,6 +53,7 @@ fn copy_block<A: Access>(
 }
 
 /// Writes the edges of (s, q), from the parts that hold the rows of s and of q, where the property has `size` states.
+/// Behind the first successor of a state there are only edges.
 #[inline]
 pub fn write_row<A: Access>(
     out: &mut [u8],
@@ -63,23 +64,17 @@ pub fn write_row<A: Access>(
     size: usize,
 ) -> usize {
     let RuleState { s, letter, part, h } = state;
-    let d = edge_count(part);
-    let mut first = s;
-    if d == 0 {
-        if !h.stays {
-            return at;
-        }
-    } else {
-        first = edge_target::<A>(part, 0);
+    if degree(part, h) == 0 {
+        return at;
     }
-    let base = first * size;
+    let base = successor::<A>(part, s, 0) * size;
     let mut next = write_block::<A>(out, at, targets, masks, letter, base);
     let count = (next - at) / 2;
     if count == 0 {
         return next;
     }
-    for k in 1..d {
-        let other = successor::<A>(part, s, k) * size;
+    for k in 1..edge_count(part) {
+        let other = edge_target::<A>(part, k) * size;
         next = copy_block::<A>(out, next, at, count, base, other);
     }
     next

@@ -3,7 +3,7 @@
 //! states.
 
 use super::access::Access;
-use super::model::{edge_count, edges_at, mark_bytes, row_part, Header};
+use super::model::{degree, edges_at, mark_bytes, row_part, Header};
 use super::pair_row::{write_row, RuleState};
 use super::property::{count_holding, is_marked, mask_part, target_part};
 use super::writer::{write_byte, write_header, write_word};
@@ -30,12 +30,8 @@ fn pair_degree<A: Access>(pair: Pair, c: usize) -> usize {
     let size = pair.p.states;
     let s = c / size;
     let letter = A::get(pair.letters, s) as usize;
-    let held = count_holding::<A>(mask_part::<A>(pair.property, pair.p, c % size), letter);
-    let edges = edge_count(row_part::<A>(pair.rule, pair.h, s));
-    if edges == 0 && pair.h.stays {
-        return held;
-    }
-    edges * held
+    let steps = degree(row_part::<A>(pair.rule, pair.h, s), pair.h);
+    steps * count_holding::<A>(mask_part::<A>(pair.property, pair.p, c % size), letter)
 }
 
 /// The number of edges of the combination.

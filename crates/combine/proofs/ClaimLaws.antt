@@ -8,7 +8,7 @@ use native.Mathlib.Omega.{arith}
 use lib.ListN.{length, drop}
 use lib.Dec.{ltb, nltb→le}
 use Rattle.lasso.specs.Graph.{Graph}
-use Rattle.format.specs.Layout.{states, initial}
+use Rattle.format.specs.Layout.{states, initial, reserved}
 use Rattle.format.specs.Rules.{rules, Accepted}
 use Rattle.format.proofs.Reasons.{none-clear, append-clear, clear-append, neither-l, neither-r}
 use Rattle.model.specs.Model.{graphOf}
@@ -53,17 +53,21 @@ written-model f letters p out e =
       product-combines (graphOf f) (letterOf letters) (propertyOf p) rule-formed property-formed,
     )
 
+-- bytes 6–7 of the file that a combination writes are zero
+zero-written : (f letters p : List ℕ) → reserved (combinedFile f letters p) ≡ 0
+zero-written f letters p = file-reserved (combined f letters p)
+
 -- a combination that is not refused has written the file of the combined model
 pub combination-holds : CombinationHolds
 combination-holds f letters p out e =
     let model = written-model f letters p (length out) e in
     let back = files-hold (combined f letters p) (model .0) in
     record {
-      reserved-zero = file-reserved (combined f letters p);
       bytes-are = ap (λ (o : Option ℕ). outcome o (length (combinedFile f letters p))) e;
       output-is = ap (λ (o : Option ℕ). written (unlessRefused o (some (combinedFile f letters p))) out) e;
       bytes-limit = omega (arith, back .file-length, model .0 .states-limit, model .0 .edges-limit);
       accepted = back .accepted;
+      reserved-zero = zero-written f letters p;
       same-graph = back .same-graph;
       combines = subst (λ (c : Graph). Combines c (graphOf f) (letterOf letters) (propertyOf p)) (sym (back .same-graph)) (model .1);
     }
@@ -119,4 +123,4 @@ combine-loses-nothing = loses-nothing combineOutcomeOf readAnswer read-back
 
 -- the worked examples
 pub examples-of-combining : ExamplesOfCombining
-examples-of-combining = record { bytes = refl; output = refl; short = refl; untouched = refl; shortest = refl; second = refl; rule-stays = refl; property-ends = refl }
+examples-of-combining = record { bytes = refl; output = refl; short = refl; untouched = refl; shortest = refl; second = refl; staying-rule = refl; ended-property = refl }

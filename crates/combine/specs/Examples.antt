@@ -136,5 +136,5 @@ pub record ExamplesOfCombining : Type 0 where
   pub untouched : combineOutput exampleRule exampleLetters exampleProperty (replicate 42 9) ≡ replicate 42 9
   pub shortest : roll (graphOf exampleResult) ≡ (0 ∷ 2 ∷ 1 ∷ 2 ∷ []) ∷ []
   pub second : combineOutput secondRule secondLetters secondProperty (replicate 57 9) ≡ secondResult
-  pub rule-stays : combineOutput stayingRule stayingLetters loopProperty (replicate 31 9) ≡ loopResult
-  pub property-ends : combineOutput stayingRule stayingLetters endedProperty (replicate 29 9) ≡ endedResult
+  pub staying-rule : combineOutput stayingRule stayingLetters loopProperty (replicate 31 9) ≡ loopResult
+  pub ended-property : combineOutput stayingRule stayingLetters endedProperty (replicate 29 9) ≡ endedResult

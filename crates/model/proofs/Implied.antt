@@ -5,7 +5,7 @@ use mathlib.Core.Bool.{Bool, true, false, _&&_}
 use mathlib.Core.List.{List, [], _∷_}
 use mathlib.Core.Logic.{_⊎_, inl, inr}
 use native.Mathlib.Omega.{arith}
-use lib.ListN.{length}
+use lib.ListN.{length, getD, drop}
 use lib.Dec.{T, eqb, ltb, ltb→lt, eqb→eq, eqb-refl}
 use Rattle.lasso.specs.Lists.{memb}
 use Rattle.lasso.specs.Graph.{Graph, WellFormed, ascendingb}
@@ -21,6 +21,13 @@ implied-some b s (t ∷ ts) l = refl
 pub implied-none : (b : Bool) (s : ℕ) (ts : List ℕ) → length ts ≡ 0 → withImplied b s ts ≡ listIf b (s ∷ [])
 implied-none b s [] l = refl
 implied-none b s (t ∷ ts) l = absurd (omega arith)
+
+-- behind the first successor there are only edges
+pub implied-first : (b : Bool) (s : ℕ) (ts : List ℕ) → 0 < length (withImplied b s ts)
+    → withImplied b s ts ≡ getD (withImplied b s ts) 0 0 ∷ drop 1 ts
+implied-first true s [] l = refl
+implied-first false s [] l = absurd (omega arith)
+implied-first b s (t ∷ ts) l = refl
 
 -- where nothing stays there is no implied step
 pub implied-not : (s : ℕ) (ts : List ℕ) → withImplied false s ts ≡ ts

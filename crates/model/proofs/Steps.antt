@@ -1,12 +1,12 @@
 -- The successors that a row's part stands for: its numbers, or the implied step.
-use Prim.Native.Nat.{ℕ, _≤_}
+use Prim.Native.Nat.{ℕ, _≤_, _<_}
 use mathlib.Core.Path.{_≡_, refl, _∙_}
 use mathlib.Core.List.{List, [], _∷_}
-use lib.ListN.{length}
+use lib.ListN.{length, getD, drop}
 use Rattle.format.specs.Bytes.{words}
 use Rattle.model.specs.declared.Header.{Header}
 use Rattle.model.specs.Model.{listIf, withImplied, stepsOf}
-use Rattle.model.proofs.Implied.{implied-some, implied-none}
+use Rattle.model.proofs.Implied.{implied-some, implied-none, implied-first}
 
 module _ (h : Header) (s : ℕ) (part : List ℕ) where
   -- the successors are the numbers of the part, with the implied step
@@ -21,3 +21,8 @@ module _ (h : Header) (s : ℕ) (part : List ℕ) where
   -- a part that holds none stands for the implied step, if there is one
   pub steps-none : length (words part) ≡ 0 → stepsOf h s part ≡ listIf (h .stays) (s ∷ [])
   steps-none e = steps-are ∙ implied-none (h .stays) s (words part) e
+
+  -- behind the first successor there are only edges
+  pub steps-first : 0 < length (stepsOf h s part) → stepsOf h s part ≡ getD (stepsOf h s part) 0 0 ∷ drop 1 (words part)
+  unfolding stepsOf
+  steps-first l = implied-first (h .stays) s (words part) l

@@ -21,7 +21,7 @@ pub record ImpliedSteps (f : List ℕ) : Type 0 where
   pub to-another : (s t : ℕ) → s < states f → (s ≡ t → ⊥) → edgeb (graphOf f) s t ≡ memb t (rowTargets f s)
   -- with 0 the model is the graph of the rows and marks
   pub zero-rows-alone : reserved f ≡ 0 → graphOf f ≡ rowGraph f (headerOf f)
-  -- so it is with 1, if no row is empty
+  -- so it is whatever bytes 6–7 are, if no row is empty
   pub full-rows-alone : ((s : ℕ) → s < states f → rowTargets f s ≡ [] → ⊥) → graphOf f ≡ rowGraph f (headerOf f)
 
 -- So it is for every file, accepted or not.

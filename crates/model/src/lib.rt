@@ -149,7 +149,7 @@ pub fn degree(part: &[u8], h: Header, s: usize) -> usize
     if h.stays {
         return 1;
     }
-    count
+    0
 }
 
 // The successor of state s at place k, by its row's part; the only one of a state without edges is itself.

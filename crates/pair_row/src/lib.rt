@@ -12,6 +12,7 @@ ghost use Rattle.property.specs.Property.{chosen};
 ghost use Rattle.pair_row.specs.Row.{block, copied, rowOf, TargetsFit, BlockFits, RowFits};
 use format::word;
 use model::Header;
+use model::degree;
 use model::edge_count;
 use model::edge_target;
 use model::successor;
@@ -70,7 +71,7 @@ fn copy_block(
 }
 
 // Writes the edges of (s, q): a block for each successor of s, from the parts that hold the rows of s and of q, where s
-// has the letter and the property has `size` states. Without edges s is its own first successor, if it stays.
+// has the letter and the property has `size` states. Behind the first successor of a state there are only edges.
 pub fn write_row(
     out: &mut [u8],
     at: usize,
@@ -90,24 +91,20 @@ pub fn write_row(
     ensures { λ r. ⌜ Wrote (now (out .entry)) at (words16 (rowOf size (stepsOf h s (now (part .entry)))
         (chosen letter (words (now (masks .entry))) (words (now (targets .entry)))))) (now (out .exit)) r ⌝ }
 {
-    let d = edge_count(part);
-    let mut first = s;
-    if d == 0 {
-        if !h.stays {
-            return at;
-        }
-    } else {
-        first = edge_target(part, 0);
+    if degree(part, h, s) == 0 {
+        return at;
     }
+    let first = successor(part, h, s, 0);
     let base = first * size;
     let mut next = write_block(out, at, targets, masks, letter, base);
     let count = (next - at) / 2;
     if count == 0 {
         return next;
     }
+    let edges = edge_count(part);
     let mut k = 1;
-    while k < d {
-        let other = successor(part, h, s, k) * size;
+    while k < edges {
+        let other = edge_target(part, k) * size;
         next = copy_block(out, next, at, count, base, other);
         k += 1;
     }

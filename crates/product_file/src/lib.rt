@@ -15,7 +15,7 @@ ghost use Rattle.product_file.specs.Combined.{combined, Combinable, pair
 use format::edges_at;
 use format::mark_bytes;
 use model::Header;
-use model::edge_count;
+use model::degree;
 use model::row_part;
 use pair_row::write_row;
 use property::count_holding;
@@ -43,14 +43,8 @@ fn pair_degree(
     let size = k.states;
     let s = c / size;
     let letter = letters[s] as usize;
-    let held = count_holding(mask_part(property, k, c % size), letter);
-    let edges = edge_count(row_part(rule, h, s));
-    if edges == 0 {
-        if h.stays {
-            return held;
-        }
-    }
-    edges * held
+    let steps = degree(row_part(rule, h, s), h, s);
+    steps * count_holding(mask_part(property, k, c % size), letter)
 }
 
 // The number of edges of the combination.

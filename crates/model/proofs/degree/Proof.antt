@@ -33,7 +33,7 @@ returns-2 : tie.Need-returns-2
 returns-2 c = omega (arith, no-edges (c .before) _ (c .if2 .taken))
 
 returns-3 : tie.Need-returns-3
-returns-3 c = omega (arith, no-edges (c .before) _ (c .if2 .left), c .before .if1 .left)
+returns-3 c = omega (arith, no-edges (c .before) _ (c .if2 .left))
 
 pub degree-spec : {M : Type 1} → statement M
 degree-spec = tie.close (tie.spec edge-count-requires returns returns-2 returns-3)
