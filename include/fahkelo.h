@@ -10,7 +10,8 @@
  * that it only reads may overlap. The library keeps nothing between two calls and allocates nothing; calls on tables of
  * their own may run at the same time.
  *
- *   file     the bytes of a model file, at most FAHKELO_FILE_MOST (docs/FORMAT.md)
+ *   file     the bytes of a model file, at most FAHKELO_FILE_MOST (docs/FORMAT.md). Where bytes 6 and 7 are 1, a state
+ *            without edges stays where it is: it has an implied step to itself
  *   work     working table: 6 entries for each state of the model, FAHKELO_WORK_MOST for every model. Untouched after
  *            the refusals 1 to 12 and after FAHKELO_OUT_TOO_SHORT; after every other value all its entries are zero
  *   answer   the run that is found: entries 0 to L, a run of L transitions having L + 1 states. The run starts at entry 0;
@@ -110,8 +111,8 @@ uint16_t fahkelo_next(const uint8_t *file, size_t file_len,
  * letter l (docs/FORMAT.md), at most FAHKELO_PROPERTY_MOST bytes.
  * State (s, q) of the result has the number s * Q + q, where the property has Q states. It has an edge to (s', q') exactly
  * if s has one to s' and q has one to q' whose mask holds the letter of s. It is marked if q is; the marks of the rule are
- * not used. Where bytes 6 and 7 of the rule are 1, the implied step of a state without edges counts as an edge; one of the
- * property never does. Bytes 6 and 7 of the result are 0.
+ * not used. An implied step of the rule counts as an edge, one of the property never does. Bytes 6 and 7 of the result
+ * are 0.
  * Returns a refusal (the rule's 1 to 11; 16 for the letters, 17 for the property, 18 for a result that is too large, last
  * 15 for an output that is too short), FAHKELO_WRITTEN with the file in output, or FAHKELO_OUT_TOO_SHORT.
  */

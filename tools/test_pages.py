@@ -22,10 +22,13 @@ D_SHEET = "model 5 7\nrounds 1\nshortest 3\n0 | 1 3\n0 | 2 3\nend 2\n"
 H_BYTES = encode(Model(0, [[1, 5], [2], [3], [4], [1], [6], [6]], {1, 6}))
 H_SHEET = "model 7 8\nrounds 2\nshortest 3\n0 5 | 6\nend 1\n"
 STAYS_SHEET = "model 2 1\nrounds 1\nshortest 2\n0 | 1\nend 1\n"
-# 0 -> 1, and 2 and 3 that nothing reaches; 50 ways out of 0. None of 1 and up has edges, and all stay.
+# 0 -> 1, and 2 and 3 that nothing reaches; 0 -> 0, and 1 that nothing reaches; 50 ways out of 0. None of 1 and up has
+# edges, and all stay.
 APART_BYTES = encode(Model(0, [[1], [], [], []], {1}, True))
 APART_SHEET = "model 4 1\nrounds 1\nshortest 2\n0 | 1\nend 1\n"
 WAYS_BYTES = encode(Model(0, [range(1, 51)] + [[]] * 50, {50}, True))
+BEYOND_BYTES = encode(Model(0, [[0], []], {0}, True))
+BEYOND_SHEET = "model 2 1\nrounds 1\nshortest 1\n| 0\nend 1\n"
 WAYS_SHEET = "model 51 50\nrounds 1\nshortest 2\n0 | 50\nend 1\n"
 # 0 -> 1..5 -> 6..10 -> 11 <-> 12: 25 runs.
 MANY_BYTES = encode(Model(0, [range(1, 6)] + [range(6, 11)] * 5 + [[11]] * 5 + [[12], [11]], {12}))
@@ -63,6 +66,7 @@ SHEETS = {
     "H": (H_BYTES, H_SHEET),
     "stays": (STAYS_BYTES, STAYS_SHEET),
     "stays apart": (APART_BYTES, APART_SHEET),
+    "stays beyond reach": (BEYOND_BYTES, BEYOND_SHEET),
     "stays in many ways": (WAYS_BYTES, WAYS_SHEET),
     "many": (MANY_BYTES, MANY_SHEET),
     "long": (LONG_BYTES, long_sheet()),
@@ -247,9 +251,11 @@ def test_page_words(desk):
         text = text_of(tree_of(case, desk.draw()))
         for part in parts:
             expect(f"the page of {case} says: {part}", part in text, text[:600])
-    for case in ["D", "stays in many ways"]:
+    for case, part in [
+        ("D", ARROW), ("stays in many ways", ARROW), ("D", "no edges"), ("stays beyond reach", ARROW), ("stays beyond reach", "no edges"),
+    ]:
         desk.lay(*SHEETS[case])
-        expect(f"the page of {case} speaks of no arrow to itself", ARROW not in text_of(tree_of(case, desk.draw())))
+        expect(f"the page of {case} does not say: {part}", part not in text_of(tree_of(case, desk.draw())))
     desk.lay(*SHEETS["D"])
     text = desk.draw("--title", 'A & B <i>"x"</i>')
     expect("a title", text_of(tree_of("title", text).find(f".//{HTML}h1")) == 'A & B <i>"x"</i>')

@@ -83,6 +83,11 @@ def other_runs(runs, linked):
 # The model.
 
 
+def staying_within(lesson, states):
+    """How many of these states stay as they are."""
+    return len(set(lesson.staying) & set(states))
+
+
 def model_picture(lesson):
     """The part of the model that can be reached."""
     return graph.draw_model(lesson.model, labels_of(lesson), lesson.sheet.runs, "The model", MODEL)
@@ -98,7 +103,7 @@ def model_section(lesson, runs, states):
         f'<p class="choice run-{number}"><b>Drawn strong: run {number}.</b><span class="screen">{run.text}</span></p>'
         for number, run in zip(numbers, runs)
     )
-    if set(lesson.staying) & set(states):
+    if staying_within(lesson, states):
         said += "<p>A state that stays as it is has an arrow to itself.</p>"
     outside = len(lesson.model.rows) - len(states)
     if outside:
@@ -130,7 +135,7 @@ def facts(lesson, states):
         f"The model has {count_of(sheet.states, 'state')} and {count_of(sheet.edges, 'edge')} and starts at {start}. "
         f"Within reach: {count_of(len(states), 'state')}, {sheet.rounds:,} marked."
     ]
-    staying = len(set(lesson.staying) & set(states))
+    staying = staying_within(lesson, states)
     if staying:
         ends = "has no edges and stays as it is" if staying == 1 else "have no edges and stay as they are"
         lines.append(f"{count_of(staying, 'state')} within reach {ends} for ever.")

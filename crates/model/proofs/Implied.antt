@@ -22,12 +22,18 @@ pub implied-none : (b : Bool) (s : ℕ) (ts : List ℕ) → length ts ≡ 0 → 
 implied-none b s [] l = refl
 implied-none b s (t ∷ ts) l = absurd (omega arith)
 
+-- the steps are the edges, or one step to the state itself
+pub implied-or-itself : (b : Bool) (s : ℕ) (ts : List ℕ) → (withImplied b s ts ≡ ts) ⊎ (withImplied b s ts ≡ s ∷ [])
+implied-or-itself true s [] = inr refl
+implied-or-itself false s [] = inl refl
+implied-or-itself b s (t ∷ ts) = inl refl
+
 -- behind the first successor there are only edges
-pub implied-first : (b : Bool) (s : ℕ) (ts : List ℕ) → 0 < length (withImplied b s ts)
+pub implied-behind-first : (b : Bool) (s : ℕ) (ts : List ℕ) → 0 < length (withImplied b s ts)
     → withImplied b s ts ≡ getD (withImplied b s ts) 0 0 ∷ drop 1 ts
-implied-first true s [] l = refl
-implied-first false s [] l = absurd (omega arith)
-implied-first b s (t ∷ ts) l = refl
+implied-behind-first true s [] l = refl
+implied-behind-first false s [] l = absurd (omega arith)
+implied-behind-first b s (t ∷ ts) l = refl
 
 -- where nothing stays there is no implied step
 pub implied-not : (s : ℕ) (ts : List ℕ) → withImplied false s ts ≡ ts

@@ -1,13 +1,11 @@
 -- Laws of the search's loops: the state after the plan, while one state's successors are looked at, and after a level.
 use Prim.Native.Nat.{ℕ, suc, _+_, _*_, _≤_, _<_}
 use mathlib.Core.Path.{_≡_, sym, _∙_, ap, ap₂}
-use mathlib.Core.Bool.{Bool, true, false}
-use mathlib.Core.Logic.{inl, inr}
+use mathlib.Core.Logic.{_⊎_, inl, inr}
 use mathlib.Core.List.{List, [], _∷_}
 use native.Mathlib.Omega.{arith}
 use lib.ListN.{length, getD}
 use Rattle.lasso.proofs.Tests.{lt-or-ge, memb-at, at-memb}
-use Rattle.model.specs.Model.{withImplied}
 use Rattle.frontier.specs.Regions.{entry, queued}
 use Rattle.frontier.specs.Buckets.{sources, Planned}
 use Rattle.frontier.specs.Search.{Hit, step, ReachedBy, State, Reached}
@@ -157,16 +155,15 @@ module _ {n limit target at end count s k : ℕ} {succs : ℕ → List ℕ} {w�
         later = S .later;
       }
 
--- all edges have been looked at, and a step that is implied does not lead into the target
+-- all edges es have been looked at, and if there is one step to the state itself instead, it does not lead into the target
 pub row-end :
     {n limit target at end count s k next : ℕ} {succs : ℕ → List ℕ} {w₀ w : List ℕ} (level : ℕ)
     → InRow n succs limit target w₀ (level + 1) at end count s k w
-    → (stays : Bool) (es : List ℕ) → succs s ≡ withImplied stays s es → length es ≤ k
+    → (es : List ℕ) → (succs s ≡ es) ⊎ (succs s ≡ s ∷ []) → length es ≤ k
     → (succs s ≡ s ∷ [] → s ≡ target → ⊥) → next ≡ at + 1
     → State n succs limit target w₀ (level + 1) next end count w
-row-end level R stays (t ∷ ts) e l apart q = row-done level R q (omega (arith, ap length e))
-row-end level R false [] e l apart q = row-done level R q (omega (arith, ap length e))
-row-end level R true [] e l apart q = row-done level (row-alone level R e (apart e)) q (omega (arith, ap length e))
+row-end level R es (inl e) l apart q = row-done level R q (omega (arith, ap length e))
+row-end level R es (inr e) l apart q = row-done level (row-alone level R e (apart e)) q (omega (arith, ap length e))
 
 -- all states of the level have been looked at: those behind them are the next level's
 pub level-done : {n limit target v at end count : ℕ} {succs : ℕ → List ℕ} {w₀ w : List ℕ} → end ≤ at → State n succs limit target w₀ v at end count w → State n succs limit target w₀ v at at count w

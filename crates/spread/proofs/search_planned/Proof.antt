@@ -4,6 +4,7 @@
 use Prim.Native.Nat.{ℕ, _+_, _*_, _-_, _≤_, _<_}
 use mathlib.Core.Path.{_≡_, sym, _∙_, ap, subst}
 use mathlib.Core.List.{List, [], _∷_}
+use mathlib.Core.Logic.{_⊎_}
 use native.Mathlib.Omega.{arith}
 use lib.ListN.{length, getD}
 use lib.Dec.{T}
@@ -11,7 +12,7 @@ use Rattle.lasso.specs.Graph.{Graph, edgeb}
 use Rattle.lasso.proofs.Tests.{at-memb}
 use Rattle.format.specs.Bytes.{words}
 use Rattle.model.specs.Model.{graphIn}
-use Rattle.model.proofs.Steps.{steps-are, steps-edges}
+use Rattle.model.proofs.Steps.{steps-edges, steps-or-itself}
 use Rattle.model.proofs.Laws.{Sizes, valid-sizes, valid-well-formed}
 use Rattle.frontier.specs.Regions.{entry, queued}
 use Rattle.frontier.specs.Buckets.{sources, Planned, HasPlan}
@@ -348,8 +349,8 @@ loop-again c =
       omega (arith, q .loop .inv .1, r .loop2 .inv .0),
       λ w A S.
           let R = r .loop2 .inv .1 w (row-first (r .before .before .before) w (q .loop .inv .2 w A S)) in
-          row-end level R (h .stays) (words (row-part r))
-          (sym (r .before .before .row-part .ensures) ∙ steps-are h (row-s r) (row-part r))
+          row-end level R (words (row-part r))
+          (subst (λ (ts : List ℕ). (ts ≡ words (row-part r)) ⊎ (ts ≡ row-s r ∷ [])) (r .before .before .row-part .ensures) (steps-or-itself h (row-s r) (row-part r)))
           (omega (arith, r .before .edge-count .ensures, c .loop2-test .left))
           (itself-apart (graph (row-entry r)) level A R)
           (omega (arith, queue-places q .0)),
