@@ -61,8 +61,9 @@ fn admit<A: Access>(work: &mut [u16], n: usize, level: usize, tail: usize) -> us
     end
 }
 
-/// The search proper, from listed sources; the length at which an edge into the target was found, if there is one.
-fn search_planned<A: Access>(
+/// The search by the edges of the file, from listed sources; the length at which an edge into the target was found, if
+/// there is one.
+fn search_edges<A: Access>(
     file: &[u8],
     h: Header,
     work: &mut [u16],
@@ -93,6 +94,15 @@ fn search_planned<A: Access>(
     None
 }
 
+/// State s is in the list of a level.
+fn is_listed<A: Access>(work: &[u16], n: usize, level: usize, s: usize) -> bool {
+    let mut cursor = get::<A>(work, 4 * n + level);
+    while s + 1 < cursor {
+        cursor = get::<A>(work, 5 * n + (cursor - 1));
+    }
+    cursor == s + 1
+}
+
 /// How far a search has to look: up to the level of the target, if that is a source below the limit whose only successor
 /// is itself, else up to the limit.
 fn search_bound<A: Access>(
@@ -110,11 +120,25 @@ fn search_bound<A: Access>(
     if degree(part, h) != 1 || successor::<A>(part, target, 0) != target {
         return limit;
     }
-    let entry = get::<A>(work, 2 * n + target);
-    if entry == 0 || limit < entry {
-        return limit;
+    (0..limit)
+        .find(|&level| is_listed::<A>(work, n, level, target))
+        .unwrap_or(limit)
+}
+
+/// The search from listed sources. A target whose only successor is itself is reached from itself one step after its own
+/// level, unless an edge leads into it before.
+fn search_planned<A: Access>(
+    file: &[u8],
+    h: Header,
+    work: &mut [u16],
+    limit: usize,
+    target: usize,
+) -> Option<usize> {
+    let bound = search_bound::<A>(file, h, work, limit, target);
+    if limit <= bound {
+        return search_edges::<A>(file, h, work, limit, target);
     }
-    entry - 1
+    search_edges::<A>(file, h, work, bound, target).or(Some(bound + 1))
 }
 
 /// Searches from the sources whose start levels stand in region 2, below the limit.
@@ -125,13 +149,8 @@ pub fn spread<A: Access>(
     limit: usize,
     target: usize,
 ) -> Option<usize> {
-    let bound = search_bound::<A>(file, h, work, limit, target);
-    plan::<A>(work, h.states, bound);
-    let found = search_planned::<A>(file, h, work, bound, target);
-    if found.is_none() && bound < limit {
-        return Some(bound + 1);
-    }
-    found
+    plan::<A>(work, h.states, limit);
+    search_planned::<A>(file, h, work, limit, target)
 }
 
 fn start_at<A: Access>(work: &mut [u16], n: usize, x: usize, limit: usize) {
@@ -153,7 +172,7 @@ fn keep_marked<A: Access>(file: &[u8], h: Header, work: &mut [u16]) {
 pub fn distances<A: Access>(file: &[u8], h: Header, work: &mut [u16], x: usize, limit: usize) {
     let n = h.states;
     start_at::<A>(work, n, x, limit);
-    search_planned::<A>(file, h, work, limit, n);
+    search_edges::<A>(file, h, work, limit, n);
 }
 
 /// Searches on from the marked states, at the levels that region 2 holds for them.

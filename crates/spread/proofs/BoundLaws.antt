@@ -14,12 +14,12 @@ use Rattle.lasso.specs.Limit.{under}
 use Rattle.lasso.specs.Graph.{Graph, WellFormed, edgeb}
 use Rattle.lasso.proofs.Tests.{or-l, lt-or-ge, eq-or-apart}
 use Rattle.lasso.proofs.Least.{isLeast-le}
-use Rattle.lasso.proofs.UnderLaws.{under-lt, under-ge, under-some, some-under, under-under}
+use Rattle.lasso.proofs.UnderLaws.{under-some, some-under, under-under}
 use Rattle.lasso.proofs.Walk.{Walk, walk-edge}
 use Rattle.frontier.specs.Regions.{entry, valueOf}
 use Rattle.frontier.specs.Buckets.{sources, Greatest, SourcesListed, Planned}
 use Rattle.spread.specs.Hit.{hitLength}
-use Rattle.spread.specs.Promises.{Apart, ApartInPlan, Bounds, Spread}
+use Rattle.spread.specs.Promises.{Apart, ApartInPlan, LevelListed, Bounds, BoundsInPlan, Spread}
 use Rattle.spread.specs.declared.SpreadAnswer.the-variants.{Length, Nothing}
 use Rattle.spread.proofs.HitLaws.{Timed, hitLength-least, hitLength-under}
 
@@ -32,15 +32,6 @@ only-one (x ∷ y ∷ ys) t l e = absurd (omega arith)
 -- a target whose only successor is itself has an edge to itself
 own-edge : (g : Graph) (target : ℕ) → g .succs target ≡ target ∷ [] → T (edgeb g target target)
 own-edge g target e = subst (λ (ts : List ℕ). T (memb target ts)) (sym e) (or-l (eqb target target) false (eqb-refl target))
-
--- an entry of 0 is no source
-pub zero-none : (limit e : ℕ) → e ≡ 0 → under limit (valueOf e) ≡ none
-zero-none limit e q = ap (λ (x : ℕ). under limit (valueOf x)) q
-
--- nor is an entry above the limit
-pub above-none : (limit e : ℕ) → limit < e → under limit (valueOf e) ≡ none
-above-none limit zero l = absurd (omega arith)
-above-none limit (suc v) l = under-ge limit v (omega arith)
 
 -- a table that lists the sources of two origins lists the same ones
 same-listed :
@@ -75,10 +66,57 @@ apart-in-plan {limit} {w} g target wf P a origin P' e = go (sources (g .size) li
         let same : sources (g .size) limit w target ≡ some k = same-listed (P' .lists) (P .lists) target k (wf .edge-states target target (own-edge g target e) .0) below q in
         let z : _≡_ {A = ℕ} 0 1 = cc (same, a e) in absurd (omega arith)
 
+module _ (n limit b : ℕ) (origin : List ℕ) (less : b ≤ limit) where
+  -- below a smaller limit the sources are the same
+  source-down : (s a : ℕ) → a < b → sources n limit origin s ≡ some a → sources n b origin s ≡ some a
+  source-down s a l e = some-under b (valueOf (entry 2 n origin s)) a (under-some limit (valueOf (entry 2 n origin s)) a e .0) l
+
+  -- and back
+  source-up : (s a : ℕ) → sources n b origin s ≡ some a → (sources n limit origin s ≡ some a) × (a < b)
+  source-up s a e =
+      let told = under-some b (valueOf (entry 2 n origin s)) a e in
+      (some-under limit (valueOf (entry 2 n origin s)) a (told .0) (omega (arith, told .1)), told .1)
+
+  -- the greatest source of a level below the smaller limit is the same
+  greatest-down : {a c v : ℕ} → a < b → Greatest (sources n limit origin) a c v → Greatest (sources n b origin) a c v
+  greatest-down {a} l G =
+      record {
+        within = G .within;
+        names = λ s e. source-down s a l (G .names s e);
+        none-above = λ s m k e. G .none-above s m k (source-up s a e .0);
+      }
+
+  -- a plan is one for every smaller limit
+  pub planned-down : {w : List ℕ} → Planned n limit origin w → Planned n b origin w
+  planned-down P =
+      record {
+        outside = P .outside;
+        clear = P .clear;
+        lists = record {
+          firsts = λ a l. greatest-down l (P .lists .firsts a (omega arith));
+          nexts = λ s a l e. let up = source-up s a e in greatest-down (up .1) (P .lists .nexts s a l (up .0));
+        };
+      }
+
 module _ (g : Graph) (limit target : ℕ) (w : List ℕ) where
-  -- where the target is apart the limit bounds the search
-  pub limit-bounds : Apart g limit target w → Bounds g limit target w limit
-  limit-bounds a = record { within = le-refl limit; apart = a; level = λ l. absurd (omega arith) }
+  -- where the target has not itself as its only successor the limit bounds the search
+  pub limit-bounds : (g .succs target ≡ target ∷ [] → ⊥) → BoundsInPlan g limit target w limit
+  limit-bounds other origin P = record { within = le-refl limit; apart = λ e. absurd (other e); level = λ l. absurd (omega arith) }
+
+  -- the level of a target whose only successor is itself bounds the search
+  pub level-bounds : (level : ℕ) → target < g .size → g .succs target ≡ target ∷ [] → LevelListed (g .size) limit target w level
+      → BoundsInPlan g limit target w level
+  level-bounds level inside alone L origin P =
+      record {
+        within = L .within;
+        apart = λ e. none-below (sources (g .size) level origin target) refl;
+        level = λ l. (inside, alone, L .listed l origin P);
+      }
+    where
+      none-below : (o : Option ℕ) → sources (g .size) level origin target ≡ o → sources (g .size) level origin target ≡ none
+      none-below none q = q
+      none-below (some a) q =
+          let up = source-up (g .size) limit level origin (L .within) target a q in absurd (L .none-before a (up .1) origin P (up .0))
 
 module _ {g : Graph} {limit target : ℕ} {w : List ℕ} {b : ℕ} (w' : List ℕ) (B : Bounds g limit target w b) where
   -- lengths up to the bound are those that sources below it give
@@ -104,7 +142,7 @@ module _ {g : Graph} {limit target : ℕ} {w : List ℕ} {b : ℕ} (w' : List �
       let level = B .level less in
       let source : ℕ → Option ℕ = sources (g .size) limit w in
       let whole : Option ℕ = hitLength g source target in
-      let own : source target ≡ some b = ap (λ (e : ℕ). under limit (valueOf e)) (level .2) ∙ under-lt limit b less in
+      let own : source target ≡ some b = level .2 in
       let P : ℕ → Type 0 = Timed (g .size) source (λ s m. (1 ≤ m) × Walk g s target m) in
       let step : P (b + 1) = (target, b, 1, level .0, own, (omega arith, walk-edge (own-edge g target (level .1))), omega arith) in
       let (m, is, most) = isLeast-le P whole (hitLength-least wf source target) (b + 1) step in

@@ -4,3 +4,4 @@ pub mod RowLaws
 pub mod EndLaws
 pub mod SearchLaws
 pub mod BoundLaws
+pub mod ListLaws

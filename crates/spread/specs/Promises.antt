@@ -1,6 +1,7 @@
 -- What the search leaves in the working table, by its answer.
 use Prim.Native.Nat.{ℕ, suc, _*_, _≤_, _<_}
 use mathlib.Core.Path.{_≡_}
+use mathlib.Core.Bool.{Bool, true, false}
 use mathlib.Core.List.{List, [], _∷_}
 use mathlib.Core.Option.{Option, some, none}
 use Rattle.lasso.specs.Graph.{Graph}
@@ -40,12 +41,27 @@ Apart g limit target w = g .succs target ≡ target ∷ [] → sources (g .size)
 abbrev pub ApartInPlan : Graph → ℕ → ℕ → List ℕ → Type 0
 ApartInPlan g limit target w = (origin : List ℕ) → Planned (g .size) limit origin w → Apart g limit target origin
 
+-- whether state s is a source of a level, whatever table the plan was made from
+abbrev pub ListedAt : (n limit level s : ℕ) → List ℕ → Bool → Type 0
+ListedAt n limit level s w true = (origin : List ℕ) → Planned n limit origin w → sources n limit origin s ≡ some level
+ListedAt n limit level s w false = (origin : List ℕ) → Planned n limit origin w → sources n limit origin s ≡ some level → ⊥
+
+-- the level of state s if it is a source below the limit, else the limit, whatever table the plan was made from
+pub record LevelListed (n limit s : ℕ) (w : List ℕ) (level : ℕ) : Type 0 where
+  pub within : level ≤ limit
+  pub listed : level < limit → ListedAt n limit level s w true
+  pub none-before : (a : ℕ) → a < level → ListedAt n limit a s w false
+
 -- how far a search has to look: up to the target's own level, if it is a source below the limit whose only successor is
 -- itself, else up to the limit
 pub record Bounds (g : Graph) (limit target : ℕ) (w : List ℕ) (bound : ℕ) : Type 0 where
   pub within : bound ≤ limit
   pub apart : Apart g bound target w
-  pub level : bound < limit → (target < g .size) × (g .succs target ≡ target ∷ []) × (entry 2 (g .size) w target ≡ suc bound)
+  pub level : bound < limit → (target < g .size) × (g .succs target ≡ target ∷ []) × (sources (g .size) limit w target ≡ some bound)
+
+-- so it is whatever table the plan was made from
+abbrev pub BoundsInPlan : Graph → ℕ → ℕ → List ℕ → ℕ → Type 0
+BoundsInPlan g limit target w bound = (origin : List ℕ) → Planned (g .size) limit origin w → Bounds g limit target origin bound
 
 -- what the search from the start levels in region 2 leaves, by its answer
 abbrev pub Spread : Graph → ℕ → ℕ → List ℕ → List ℕ → SpreadAnswer → Type 0

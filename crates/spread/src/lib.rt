@@ -1,11 +1,11 @@
 // The one search there is: breadth-first by levels, from sources that start at levels of their own. The working table
 // has the regions of the frontier.
-ghost use Prim.Native.Nat.{_*_, _≤_};
+ghost use Prim.Native.Nat.{_*_, _≤_, _<_};
 ghost use lib.ListN.{length};
 ghost use Rattle.model.specs.Values.{Valid};
 ghost use Rattle.model.specs.Model.{graphIn};
 ghost use Rattle.frontier.specs.Buckets.{HasPlan};
-ghost use Rattle.spread.specs.Promises.{ApartInPlan, Bounds, Spread, SearchedFromPlan};
+ghost use Rattle.spread.specs.Promises.{ApartInPlan, ListedAt, LevelListed, BoundsInPlan, Spread, SearchedFromPlan};
 use frontier::admit;
 use frontier::plan;
 use frontier::reach;
@@ -24,11 +24,11 @@ pub enum SpreadAnswer {
     Nothing(usize),
 }
 
-// The search proper, from listed sources: level by level below the limit, and out of all loops at the first edge into
-// the target. `at`, `end` and `tail` are places of the table, in region 3: a new state is put at `tail` with no sum to
-// compute. The loop over the edges does not know of implied steps: such a step leads to a state that is reached already,
-// so it matters only as one into the target, and that is settled before the search.
-pub fn search_planned(
+// The search by the edges of the file, from listed sources: level by level below the limit, and out of all loops at the
+// first edge into the target. `at`, `end` and `tail` are places of the table, in region 3: a new state is put at `tail`
+// with no sum to compute. It does not know of implied steps: such a step leads to a state that is reached already, so it
+// matters only as one into the target, and a target whose only successor is itself is no source here.
+pub fn search_edges(
     file: &[u8],
     h: Header,
     work: &mut [u16],
@@ -76,12 +76,50 @@ pub fn search_planned(
     SpreadAnswer::Length(length)
 }
 
+// State s is in the list of a level, in a plan up to the limit, which the contract alone needs. Lists descend.
+fn is_listed(work: &[u16], n: usize, limit: usize, level: usize, s: usize) -> bool
+    requires { ⌜ n ≤ 4096 ⌝ }
+    requires { ⌜ level < limit ⌝ }
+    requires { ⌜ limit ≤ n ⌝ }
+    requires { ⌜ s < n ⌝ }
+    requires { ⌜ 6 * n ≤ length (now work) ⌝ }
+    requires { ⌜ HasPlan n limit (now work) ⌝ }
+    ensures { λ r. ⌜ ListedAt n limit level s (now (work .entry)) r ⌝ }
+{
+    let mut cursor = get(work, 4 * n + level);
+    while s + 1 < cursor {
+        cursor = get(work, 5 * n + (cursor - 1));
+    }
+    cursor == s + 1
+}
+
+// The level in whose list state s is, or the limit if it is in none.
+fn listed_level(work: &[u16], n: usize, limit: usize, s: usize) -> usize
+    requires { ⌜ n ≤ 4096 ⌝ }
+    requires { ⌜ limit ≤ n ⌝ }
+    requires { ⌜ s < n ⌝ }
+    requires { ⌜ 6 * n ≤ length (now work) ⌝ }
+    requires { ⌜ HasPlan n limit (now work) ⌝ }
+    ensures { λ r. ⌜ LevelListed n limit s (now (work .entry)) r ⌝ }
+{
+    let mut level = 0;
+    while level < limit {
+        if is_listed(work, n, limit, level, s) {
+            return level;
+        }
+        level += 1;
+    }
+    limit
+}
+
 // How far a search has to look: up to the level of the target, if that is a source below the limit whose only successor
 // is itself, else up to the limit.
 fn search_bound(file: &[u8], h: Header, work: &[u16], limit: usize, target: usize) -> usize
     requires { ⌜ Valid (now file) h ⌝ }
+    requires { ⌜ limit ≤ h .states ⌝ }
     requires { ⌜ 6 * h .states ≤ length (now work) ⌝ }
-    ensures { λ r. ⌜ Bounds (graphIn (now (file .entry)) h) limit target (now (work .entry)) r ⌝ }
+    requires { ⌜ HasPlan (h .states) limit (now work) ⌝ }
+    ensures { λ r. ⌜ BoundsInPlan (graphIn (now (file .entry)) h) limit target (now (work .entry)) r ⌝ }
 {
     let n = h.states;
     if n <= target {
@@ -94,32 +132,30 @@ fn search_bound(file: &[u8], h: Header, work: &[u16], limit: usize, target: usiz
     if successor(part, h, target, 0) != target {
         return limit;
     }
-    let entry = get(work, 2 * n + target);
-    if entry == 0 {
-        return limit;
-    }
-    if limit < entry {
-        return limit;
-    }
-    entry - 1
+    listed_level(work, n, limit, target)
 }
 
-// Searches from the sources whose start levels stand in region 2, level by level below the limit, until the first edge
-// into the target. A target whose only successor is itself is reached from itself one step after its own level, unless
-// an edge leads into it before.
-pub fn spread(file: &[u8], h: Header, work: &mut [u16], limit: usize, target: usize) -> SpreadAnswer
+// The search from listed sources, level by level below the limit, until the first step into the target. A target whose
+// only successor is itself is reached from itself one step after its own level, unless an edge leads into it before.
+pub fn search_planned(
+    file: &[u8],
+    h: Header,
+    work: &mut [u16],
+    limit: usize,
+    target: usize,
+) -> SpreadAnswer
     requires { ⌜ Valid (now file) h ⌝ }
     requires { ⌜ limit ≤ h .states ⌝ }
     requires { ⌜ 6 * h .states ≤ length (now work) ⌝ }
-    ensures { λ r. ⌜ Spread (graphIn (now (file .entry)) h) limit target (now (work .entry)) (now (work .exit)) r ⌝ }
+    requires { ⌜ HasPlan (h .states) limit (now work) ⌝ }
+    ensures { λ r. ⌜ SearchedFromPlan (graphIn (now (file .entry)) h) limit target
+        (now (work .entry)) (now (work .exit)) r ⌝ }
 {
-    let n = h.states;
     let bound = search_bound(file, h, work, limit, target);
-    plan(work, n, bound);
-    let answer = search_planned(file, h, work, bound, target);
     if limit <= bound {
-        return answer;
+        return search_edges(file, h, work, limit, target);
     }
+    let answer = search_edges(file, h, work, bound, target);
     match answer {
         SpreadAnswer::Length(_) => answer,
         SpreadAnswer::Nothing(_) => {
@@ -127,4 +163,17 @@ pub fn spread(file: &[u8], h: Header, work: &mut [u16], limit: usize, target: us
             SpreadAnswer::Length(length)
         }
     }
+}
+
+// Searches from the sources whose start levels stand in region 2, level by level below the limit, until the first edge
+// into the target.
+pub fn spread(file: &[u8], h: Header, work: &mut [u16], limit: usize, target: usize) -> SpreadAnswer
+    requires { ⌜ Valid (now file) h ⌝ }
+    requires { ⌜ limit ≤ h .states ⌝ }
+    requires { ⌜ 6 * h .states ≤ length (now work) ⌝ }
+    ensures { λ r. ⌜ Spread (graphIn (now (file .entry)) h) limit target (now (work .entry)) (now (work .exit)) r ⌝ }
+{
+    let n = h.states;
+    plan(work, n, limit);
+    search_planned(file, h, work, limit, target)
 }

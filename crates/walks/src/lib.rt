@@ -10,7 +10,7 @@ use frontier::list_source;
 use model::Header;
 use model::is_marked;
 use spread::SpreadAnswer;
-use spread::search_planned;
+use spread::search_edges;
 use spread::spread;
 use table::clear;
 use table::put;
@@ -57,7 +57,7 @@ pub fn distances(file: &[u8], h: Header, work: &mut [u16], x: usize, limit: usiz
 {
     let n = h.states;
     start_at(work, n, x, limit);
-    search_planned(file, h, work, limit, n);
+    search_edges(file, h, work, limit, n);
 }
 
 // Searches on from the marked states, at the levels that region 2 holds for them.

@@ -1,6 +1,6 @@
--- `search_bound` meets its contract: a target that is no state, or has another successor than itself, or is no source below the
--- limit, leaves the limit; any other its own level.
-use Prim.Native.Nat.{ℕ, _-_}
+-- `search_bound` meets its contract: a target that is no state, or has not itself as its only successor, leaves the limit;
+-- any other the level in whose list it is.
+use Prim.Native.Nat.{ℕ}
 use mathlib.Core.Path.{_≡_, sym, ap, _∙_}
 use mathlib.Core.List.{List}
 use native.Mathlib.Omega.{arith}
@@ -9,9 +9,8 @@ use borrow.Author.Needs.{needs}
 use lib.ListN.{length, getD}
 use Rattle.lasso.specs.Graph.{Graph}
 use Rattle.model.specs.Model.{graphIn}
-use Rattle.model.proofs.Laws.{succs-none}
-use Rattle.frontier.specs.Regions.{entry}
-use Rattle.spread.proofs.BoundLaws.{only-one, zero-none, above-none, limit-bounds}
+use Rattle.model.proofs.Laws.{succs-none, valid-sizes}
+use Rattle.spread.proofs.BoundLaws.{only-one, limit-bounds, level-bounds}
 use Rattle.spread.proofs.search_bound.Statement.{statement}
 use Rattle.spread.proofs.search_bound.Tie as tie
 
@@ -65,65 +64,21 @@ returns-3 c =
     limit-bounds (graph s) (a .limit) (a .target) (now (a .work)) (λ e.
     absurd (omega (arith, ap (λ (ts : List ℕ). getD ts 0 0) e, first-told (c .before), c .if3 .taken)))
 
-mul-get : tie.Need-mul-get
-mul-get c = search needs
-
-add-get : tie.Need-add-get
-add-get c = search needs
-
-get-requires : tie.Need-get-requires
-get-requires c κs = search needs
+listed-level-requires : tie.Need-listed-level-requires
+listed-level-requires c κs =
+    let p = start (c .before .before .before .before) .pre in
+    (valid-sizes (p .0) .states-range .1, (p .1 .0, (omega (arith, c .before .before .before .before .before .if1 .left), (p .1 .1 .0, p .1 .1 .1))))
 
 returns-4 : tie.Need-returns-4
 returns-4 c =
-    let s = start (c .before .before .before .before .before .before) in
-    let a = s .args in
-    limit-bounds (graph s) (a .limit) (a .target) (now (a .work)) (λ e.
-    zero-none (a .limit) _ (sym (c .before .get .ensures .0) ∙ c .if4 .taken))
-
-returns-5 : tie.Need-returns-5
-returns-5 c =
-    let s = start (c .before .before .before .before .before .before .before) in
-    let a = s .args in
-    limit-bounds (graph s) (a .limit) (a .target) (now (a .work)) (λ e.
-    above-none (a .limit) (entry 2 (a .h .states) (now (a .work)) (a .target)) (omega (arith, c .before .before .get .ensures .0, c .if5 .taken)))
-
-sub-result : tie.Need-sub-result
-sub-result c = search needs
-
-returns-6 : tie.Need-returns-6
-returns-6 c =
-    let read = c .before .before in
-    let row = read .before .before .before .before .before in
-    let s = start row in
-    let a = s .args in
-    let told = read .get .ensures .0 in
-    record {
-      within = omega (arith, c .if5 .left);
-      apart = λ e. above-none (read .get .result - 1) (entry 2 (a .h .states) (now (a .work)) (a .target)) (omega (arith, told, c .before .if4 .left));
-      level = λ l. (
-        omega (arith, row .before .if1 .left),
-        only-one (steps row) (a .target)
-            (sym (degree-told (read .before .before .before .before)) ∙ read .before .before .before .if2 .left)
-            (sym (first-told (read .before .before)) ∙ read .before .if3 .left),
-        omega (arith, told, c .before .if4 .left),
-      );
-    }
+    let first = c .before .before in
+    let row = first .before .before .before in
+    let a = start row .args in
+    level-bounds (graph (start row)) (a .limit) (a .target) (now (a .work)) _ (omega (arith, row .before .if1 .left))
+    (only-one (steps row) (a .target)
+    (sym (degree-told (first .before .before)) ∙ first .before .if2 .left)
+    (sym (first-told first) ∙ c .before .if3 .left))
+    (c .listed-level .ensures)
 
 pub search-bound-spec : {M : Type 1} → statement M
-search-bound-spec =
-    tie.close
-    (tie.spec
-    returns
-    row-part-requires
-    degree-requires
-    returns-2
-    successor-requires
-    returns-3
-    mul-get
-    add-get
-    get-requires
-    returns-4
-    returns-5
-    sub-result
-    returns-6)
+search-bound-spec = tie.close (tie.spec returns row-part-requires degree-requires returns-2 successor-requires returns-3 listed-level-requires returns-4)

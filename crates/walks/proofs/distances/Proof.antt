@@ -16,8 +16,8 @@ start-at-requires c κs =
     let s = c .before .before .before in
     (valid-sizes (s .pre .0) .states-range .1, s .pre .1)
 
-search-planned-requires : tie.Need-search-planned-requires
-search-planned-requires c κs =
+search-edges-requires : tie.Need-search-edges-requires
+search-edges-requires c κs =
     let p = c .before .before .before in
     let s = p .before .before .before .before in
     let a = s .args in
@@ -45,8 +45,8 @@ returns c =
     let s = p .before .before .before .before in
     let valid = s .pre .0 in
     let made = p .start-at .ensures in
-    let search = c .before .before .search-planned in
+    let search = c .before .before .search-edges in
     started-distances {g = graphIn (s .args .file .now) (s .args .h)} _ (valid-well-formed valid) (s .pre .1 .0) (s .pre .1 .1 .0) (search .result) (made .started) (search .ensures (made .origin) (made .planned))
 
 pub distances-spec : {M : Type 1} → statement M
-distances-spec = tie.close (tie.spec start-at-requires search-planned-requires same-length returns)
+distances-spec = tie.close (tie.spec start-at-requires search-edges-requires same-length returns)
