@@ -1,5 +1,4 @@
--- Condition 1 holds: a step, a search and a next are refused with the first reason that holds, and leave the tables as the
--- contract says.
+-- Condition 1 holds: every call is refused with the first reason that holds, and leaves the tables as the contract says.
 use Prim.Native.Nat.{ℕ}
 use mathlib.Core.Path.{_≡_, refl, sym, _∙_, ap}
 use mathlib.Core.List.{List, [], _++_}
@@ -17,10 +16,11 @@ use Rattle.outcomes.specs.Tables.{written, listReasons, unlessRefused}
 use Rattle.step.specs.Step.{stepped}
 use Rattle.search.specs.Search.{searched, firstDue, searchReasons}
 use Rattle.next.specs.Next.{followed, dueReasons, nextReasons}
+use Rattle.grader.specs.Grade.{gradeOf}
 use Rattle.combine.specs.Combine.{combinedFile, combineReasons}
 use Rattle.gate.specs.Gate.{commonRules, workAfter, workOf}
 use Rattle.conditions.specs.Reasons.{numbersOf}
-use Rattle.conditions.specs.Condition1.{stepNumbers, searchNumbers, nextNumbers, combineNumbers, Refuses, AnswerKept, WorkLeft, Condition1Holds}
+use Rattle.conditions.specs.Condition1.{stepNumbers, searchNumbers, nextNumbers, gradeNumbers, combineNumbers, Refuses, AnswerKept, WorkLeft, Condition1Holds}
 use Rattle.conditions.proofs.FirstLaws.{noneHolds-firstBroken, clear-none, broken-first, first-broken, betweenb, broken-between, refused-some, answered-none}
 use Rattle.format.proofs.Reasons.{clear-append, broken-append}
 
@@ -107,6 +107,10 @@ condition-1 = record {
         answer = answer-kept (firstBroken reasons) (followed due) due a;
         work = work-left-behind f w (dueReasons f earlier due (length a)) (followed due) tt;
       };
+  grade = λ f xs k w. record {
+    refuses = refuses (commonRules f (length w)) gradeNumbers (gradeOf (graphOf f) xs k) refl tt;
+    work = work-left-behind f w [] (gradeOf (graphOf f) xs k) tt;
+  };
   combine = λ f letters p output.
       let file = combinedFile f letters p in
       let reasons = combineReasons f letters p (length output) in

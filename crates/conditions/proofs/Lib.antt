@@ -2,3 +2,4 @@
 pub mod FirstLaws
 pub mod Condition1
 pub mod Condition2
+pub mod Graded

@@ -13,11 +13,12 @@ use Rattle.outcomes.specs.Outcome.{Outcome, refused, answered}
 use Rattle.step.specs.Step.{stepOutcome}
 use Rattle.search.specs.Search.{searchReasons, searchOutcome, searchAnswer}
 use Rattle.next.specs.Next.{nextReasons, nextOutcome, nextAnswer}
+use Rattle.grader.specs.Grade.{gradeOutcome}
 use Rattle.combine.specs.Combine.{combineReasons, combineOutcome, combineOutput}
 use Rattle.gate.specs.Gate.{commonRules, workOf}
 use Rattle.conditions.specs.Reasons.{numbersOf, NoneHolds, FirstHolds}
 
--- the numbers of the reasons that each call applies: a step goes no further than 12, a search skips 13
+-- the numbers of the reasons that each call applies: a step and the grader go no further than 12, a search skips 13
 abbrev pub stepNumbers : List ℕ
 stepNumbers = upFrom 1 12
 
@@ -26,6 +27,9 @@ searchNumbers = upFrom 1 12 ++ 14 ∷ 15 ∷ []
 
 abbrev pub nextNumbers : List ℕ
 nextNumbers = upFrom 1 15
+
+abbrev pub gradeNumbers : List ℕ
+gradeNumbers = upFrom 1 12
 
 -- a combination applies 1 to 11 to its rule, then 16, 17 and 18, last 15
 abbrev pub combineNumbers : List ℕ
@@ -70,6 +74,11 @@ pub record NextCondition1 (f earlier a w : List ℕ) : Type 0 where
   pub answer : AnswerKept (nextOutcome f earlier (length a) (length w)) a (nextAnswer f earlier a (length w))
   pub work : WorkLeft (nextOutcome f earlier (length a) (length w)) w (workOf f w)
 
+-- a grade, of any list with any k; it is lent no answer table
+pub record GradeCondition1 (f xs : List ℕ) (k : ℕ) (w : List ℕ) : Type 0 where
+  pub refuses : Refuses (commonRules f (length w)) gradeNumbers (gradeOutcome f xs k (length w))
+  pub work : WorkLeft (gradeOutcome f xs k (length w)) w (workOf f w)
+
 -- a combination, which is lent an output and no tables
 pub record CombineCondition1 (f letters p output : List ℕ) : Type 0 where
   pub refuses : Refuses (combineReasons f letters p (length output)) combineNumbers
@@ -81,4 +90,5 @@ pub record Condition1Holds : Type 0 where
   pub step : (f : List ℕ) (rec : Record) (w : List ℕ) → StepCondition1 f rec w
   pub search : (f : List ℕ) (ask : Ask) (a w : List ℕ) → SearchCondition1 f ask a w
   pub next : (f earlier a w : List ℕ) → NextCondition1 f earlier a w
+  pub grade : (f xs : List ℕ) (k : ℕ) (w : List ℕ) → GradeCondition1 f xs k w
   pub combine : (f letters p output : List ℕ) → CombineCondition1 f letters p output

@@ -1,16 +1,16 @@
 -- The successors of a list's last state, tried in their order: the first that may stand there is the least, and if the
 -- list begins a lasso, then the last one may stand there if none before it may.
-use Prim.Native.Nat.{ℕ, zero, suc, _+_, _*_, _≤_, _<_}
+use Prim.Native.Nat.{ℕ, _+_, _*_, _≤_, _<_}
 use native.Mathlib.Omega.{arith}
-use native.Mathlib.Nat.{le-of-eq}
 use borrow.Author.Count.{below-more}
 use mathlib.Core.Path.{_≡_, sym, _∙_, ap, subst}
 use mathlib.Core.Logic.{inl, inr}
 use mathlib.Core.List.{List, [], _∷_, _++_}
 use lib.ListN.{length, getD, take}
-use lib.Dec.{T, ltb, ltb→lt}
-use Rattle.lasso.specs.Graph.{Graph, ascendingb, edgeb}
-use Rattle.lasso.proofs.Tests.{fst, snd, lt-or-ge, memb-at}
+use lib.Dec.{T}
+use Rattle.lasso.specs.Graph.{Graph, edgeb}
+use Rattle.lasso.proofs.Tests.{lt-or-ge, memb-at}
+use Rattle.lasso.proofs.Ascending.{ascending-le}
 use Rattle.lasso.specs.Extends.{Extends}
 use Rattle.model.specs.declared.Header.{Header}
 use Rattle.model.specs.Model.{graphIn}
@@ -22,36 +22,9 @@ use Rattle.listing.specs.Places.{LeastFollower}
 use Rattle.listing.proofs.PlacesExtend.{extends-edge, extends-step}
 use Rattle.listing.proofs.PlacesRow.{StateRead, successor-state}
 
--- the rest of an ascending list ascends
-ascending-tail : (x : ℕ) (xs : List ℕ) → T (ascendingb (x ∷ xs)) → T (ascendingb xs)
-ascending-tail x [] h = tt
-ascending-tail x (y ∷ ys) h = snd (ltb x y) (ascendingb (y ∷ ys)) h
-
--- the first entry of an ascending list is less than each later one
-ascending-first : (x : ℕ) (xs : List ℕ) → T (ascendingb (x ∷ xs)) → (j : ℕ) → j < length xs → x < getD xs j 0
-ascending-first x [] h j q = absurd (omega arith)
-ascending-first x (y ∷ ys) h zero q = ltb→lt x y (fst (ltb x y) (ascendingb (y ∷ ys)) h)
-ascending-first x (y ∷ ys) h (suc j) q =
-    omega (arith, ltb→lt x y (fst (ltb x y) (ascendingb (y ∷ ys)) h), ascending-first y ys (ascending-tail x (y ∷ ys) h) j (omega arith))
-
--- the entries of an ascending list ascend from place to place
-ascending-places : (xs : List ℕ) → T (ascendingb xs) → (i j : ℕ) → i < j → j < length xs → getD xs i 0 < getD xs j 0
-ascending-places [] h i j p q = absurd (omega arith)
-ascending-places (x ∷ xs) h i zero p q = absurd (omega arith)
-ascending-places (x ∷ xs) h zero (suc j) p q = ascending-first x xs h j (omega arith)
-ascending-places (x ∷ xs) h (suc i) (suc j) p q = ascending-places xs (ascending-tail x xs h) i j (omega arith) (omega arith)
-
 -- numbers that are each at most the other are equal
 equal : (i j : ℕ) → j ≤ i → i ≤ j → i ≡ j
 equal i j p q = omega arith
-
--- the entries of an ascending list do not fall from place to place
-ascending-le : (xs : List ℕ) → T (ascendingb xs) → (i j : ℕ) → i ≤ j → j < length xs → getD xs i 0 ≤ getD xs j 0
-ascending-le xs h i j p q =
-    elim (lt-or-ge i j) [
-      | inl l ↦ omega (arith, ascending-places xs h i j l q)
-      | inr l ↦ le-of-eq (ap (λ (k : ℕ). getD xs k 0) (equal i j l p))
-    ]
 
 -- The first k successors ts were tried after q: none of them from the bound on may stand there, and the table changed in
 -- the regions 2 to 5 alone.

@@ -1,7 +1,7 @@
 -- The laws of the model file.
 pub mod Implied
 pub mod Steps
-pub mod Member
+pub mod Halving
 pub mod Answers
 pub mod HeadLaws
 pub mod Laws

@@ -163,7 +163,8 @@ pub fn successor(part: &[u8], h: Header, s: usize, k: usize) -> usize
     edge_target(part, k)
 }
 
-// There is an edge from s to t.
+// There is an edge from s to t. Successors ascend, so t is looked for in the middle of the places where it can stand, which
+// halves them: it stands at none after place t.
 pub fn has_edge(file: &[u8], h: Header, s: usize, t: usize) -> bool
     requires { ⌜ Valid (now file) h ⌝ }
     requires { ⌜ s < h .states ⌝ }
@@ -171,12 +172,19 @@ pub fn has_edge(file: &[u8], h: Header, s: usize, t: usize) -> bool
 {
     let part = row_part(file, h, s);
     let d = degree(part, h, s);
-    let mut k = 0;
-    while k < d {
-        if successor(part, h, s, k) == t {
+    let mut low = 0;
+    let mut high = if t < d { t + 1 } else { d };
+    while low < high {
+        let middle = low + (high - low) / 2;
+        let u = successor(part, h, s, middle);
+        if u == t {
             return true;
         }
-        k += 1;
+        if u < t {
+            low = middle + 1;
+        } else {
+            high = middle;
+        }
     }
     false
 }

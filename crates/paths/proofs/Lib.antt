@@ -1,3 +1,3 @@
 -- The laws of the tests, place by place.
-pub mod PathTests
+pub mod BreakLaws
 pub mod LoopTests

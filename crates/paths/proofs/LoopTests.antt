@@ -1,6 +1,7 @@
--- The test of a loop with a mark, which goes down from the last place of a list, and the test of a lasso of a length.
+-- The tests of a list that loops make place by place: a closed walk with a mark from a place on, or from some place on; and
+-- the test of a lasso of a length.
 use Prim.Native.Nat.{ℕ, suc, _+_, _-_, _≤_, _<_}
-use mathlib.Core.Path.{_≡_, sym, _∙_}
+use mathlib.Core.Path.{_≡_, refl, _∙_, ap}
 use mathlib.Core.Bool.{Bool, true, false, _&&_, _||_}
 use mathlib.Core.List.{List, List·Memᴰ}
 use native.Mathlib.Omega.{arith}
@@ -9,75 +10,88 @@ use lib.ListN.{length, getD}
 use lib.Dec.{T, eqb, leb, eqb→eq, le→leb, not-T}
 use Rattle.lasso.specs.Lists.{anyb, upFrom, below}
 use Rattle.lasso.specs.Graph.{Graph, edges, pathb, loopsb, lassob}
-use Rattle.lasso.proofs.Tests.{parts, join, same-tests, and-false, T-true, T-false, eq→eqb, anyb-some, some-anyb, below-lt, lt-below}
+use Rattle.lasso.proofs.Tests.{parts, join, same-tests, T-false, eq→eqb, anyb-some, some-anyb, upFrom-range, range-upFrom, below-lt}
 use Rattle.lasso.proofs.RollLaws.{lasso-edges}
 
--- the numbers from k - 1 up to n: k - 1 in front of those from k on
-anyb-down :
-    (p : ℕ → Bool) (n k : ℕ) → 0 < k → k ≤ n → anyb p (upFrom (k - 1) (n - (k - 1))) ≡ (p (k - 1) || anyb p (upFrom k (n - k)))
-anyb-down p n k low high =
-    let e : n - (k - 1) ≡ suc (n - k) = omega arith in
-    let q : suc (k - 1) ≡ k = omega arith in
+-- the numbers from j up to n: j in front of those from j + 1 on
+anyb-up : (p : ℕ → Bool) (n j : ℕ) → j < n → anyb p (upFrom j (n - j)) ≡ (p j || anyb p (upFrom (j + 1) (n - (j + 1))))
+anyb-up p n j h =
+    let e : n - j ≡ suc (n - (j + 1)) = omega arith in
+    let q : j + 1 ≡ suc j = omega arith in
     rw (e, q)
+
+-- from n on there is none
+anyb-past : (p : ℕ → Bool) (n j : ℕ) → n ≤ j → anyb p (upFrom j (n - j)) ≡ false
+anyb-past p n j h = let e : n - j ≡ 0 = omega arith in rw e
+
+-- What is left decides: some place from a to before n passes the test exactly if one from j on does.
+pub record Left (p : ℕ → Bool) (n a j : ℕ) : Type 0 where
+  pub from : a ≤ j
+  pub within : j ≤ n
+  pub decides : anyb p (upFrom a (n - a)) ≡ anyb p (upFrom j (n - j))
+
+-- at first all is left
+pub left-start : (p : ℕ → Bool) (n a : ℕ) → a ≤ n → Left p n a a
+left-start p n a h = record { from = omega arith; within = h; decides = refl }
+
+module _ {p : ℕ → Bool} {n a j : ℕ} (L : Left p n a j) where
+  -- a place that fails is left behind
+  pub left-next : j < n → p j ≡ false → Left p n a (j + 1)
+  left-next h e = record {
+    from = omega (arith, L .from);
+    within = omega arith;
+    decides = L .decides ∙ anyb-up p n j h ∙ rw e;
+  }
+
+  -- one that passes decides
+  pub left-found : j < n → p j ≡ true → anyb p (upFrom a (n - a)) ≡ true
+  left-found h e = L .decides ∙ anyb-up p n j h ∙ rw e
+
+  -- at the end none has passed
+  pub left-none : n ≤ j → anyb p (upFrom a (n - a)) ≡ false
+  left-none h = L .decides ∙ anyb-past p n j h
+
+-- from 0 on it is all places below n
+pub left-below : (p : ℕ → Bool) (n : ℕ) → anyb p (below n) ≡ anyb p (upFrom 0 (n - 0))
+left-below p n = let e : n ≡ n - 0 = omega arith in ap (λ (m : ℕ). anyb p (upFrom 0 m)) e
 
 -- the state at a place of the list is marked
 abbrev pub markAt : Graph → List ℕ → ℕ → Bool
 markAt g xs r = g .marked (getD xs r 0)
 
--- Going down, at place k: whether there is a mark from there to before the last, and no place from there on starts a loop.
-pub record Unclosed (g : Graph) (xs : List ℕ) (marked : Bool) (k : ℕ) : Type 0 where
-  pub within : k ≤ edges xs
-  pub marks : marked ≡ anyb (markAt g xs) (upFrom k (edges xs - k))
-  pub loopless : anyb (loopsb g xs) (upFrom k (edges xs - k)) ≡ false
+module _ (g : Graph) (xs : List ℕ) (k : ℕ) where
+  -- a list whose last entry is not the one at k is no closed walk from k on
+  pub open-at : (getD xs (edges xs) 0 ≡ getD xs k 0 → ⊥) → loopsb g xs k ≡ false
+  open-at apart = rw (ne-eqb (getD xs (edges xs) 0) (getD xs k 0) apart)
 
--- at the last place nothing was tested
-pub unclosed-start : (g : Graph) (xs : List ℕ) → Unclosed g xs false (edges xs)
-unclosed-start g xs =
-    let e : edges xs - edges xs ≡ 0 = omega arith in
-    record { within = omega arith; marks = rw e; loopless = rw e }
+  -- one whose last entry is the one at k is one if there is a mark
+  pub closed-at : getD xs (edges xs) 0 ≡ getD xs k 0 → (b : Bool) → anyb (markAt g xs) (upFrom k (edges xs - k)) ≡ b → loopsb g xs k ≡ b
+  closed-at same b e = rw (eq-eqb (getD xs (edges xs) 0) (getD xs k 0) same) e
 
-module _ {g : Graph} {xs : List ℕ} {marked : Bool} {k : ℕ} (U : Unclosed g xs marked k) (more : 0 < k) where
-  -- a mark at the next place down counts from there on
-  pub marks-down : (m : Bool) → m ≡ (markAt g xs (k - 1) || marked) → m ≡ anyb (markAt g xs) (upFrom (k - 1) (edges xs - (k - 1)))
-  marks-down m e = e ∙ rw (U .marks) (sym (anyb-down (markAt g xs) (edges xs) k more (U .within)))
+  -- a closed walk with a mark from a later place on is one from k on
+  pub closed-earlier : (j : ℕ) → k ≤ j → getD xs (edges xs) 0 ≡ getD xs k 0 → T (loopsb g xs j) → T (loopsb g xs k)
+  closed-earlier j l same h =
+      let marks : T (anyb (markAt g xs) (upFrom j (edges xs - j))) = search parts in
+      let (r, in-r, marked) = anyb-some (markAt g xs) (upFrom j (edges xs - j)) marks in
+      let range = upFrom-range j (edges xs - j) {x = r} in-r in
+      let in-k : List·Memᴰ r (upFrom k (edges xs - k)) = range-upFrom k (edges xs - k) r (omega (arith, range)) (omega (arith, range)) in
+      let marks-k : T (anyb (markAt g xs) (upFrom k (edges xs - k))) = some-anyb (markAt g xs) in-k marked in
+      let closed : T (eqb (getD xs (edges xs) 0) (getD xs k 0)) = eq→eqb _ _ same in
+      search join
 
-  -- a place that starts no loop is left behind
-  unclosed-next : (m : Bool) → m ≡ (markAt g xs (k - 1) || marked) → loopsb g xs (k - 1) ≡ false → Unclosed g xs m (k - 1)
-  unclosed-next m e none =
-      record {
-        within = omega (arith, U .within);
-        marks = marks-down m e;
-        loopless = anyb-down (loopsb g xs) (edges xs) k more (U .within) ∙ rw (none, U .loopless);
-      }
+  -- from the first place that holds the last entry on, the closed walk from there decides
+  pub first-decides : k < edges xs → getD xs (edges xs) 0 ≡ getD xs k 0
+      → anyb (loopsb g xs) (upFrom k (edges xs - k)) ≡ loopsb g xs k
+  first-decides low same = same-tests (anyb (loopsb g xs) (upFrom k (edges xs - k))) (loopsb g xs k) to back
+    where
+      to : T (anyb (loopsb g xs) (upFrom k (edges xs - k))) → T (loopsb g xs k)
+      to h =
+          let (j, in-j, at-j) = anyb-some (loopsb g xs) (upFrom k (edges xs - k)) h in
+          let range = upFrom-range k (edges xs - k) {x = j} in-j in
+          closed-earlier j (range .0) same at-j
 
-  -- without a mark from there on no loop starts there
-  pub unclosed-unmarked : (m : Bool) → m ≡ (markAt g xs (k - 1) || marked) → m ≡ false → Unclosed g xs m (k - 1)
-  unclosed-unmarked m e unmarked =
-      let none : anyb (markAt g xs) (upFrom (k - 1) (edges xs - (k - 1))) ≡ false = sym (marks-down m e) ∙ unmarked in
-      unclosed-next m e (rw none (and-false (eqb (getD xs (edges xs) 0) (getD xs (k - 1) 0))))
-
-  -- nor if the state there is not the last one
-  pub unclosed-apart : (m : Bool) → m ≡ (markAt g xs (k - 1) || marked) → (getD xs (k - 1) 0 ≡ getD xs (edges xs) 0 → ⊥)
-      → Unclosed g xs m (k - 1)
-  unclosed-apart m e apart =
-      unclosed-next m e (rw (ne-eqb (getD xs (edges xs) 0) (getD xs (k - 1) 0) (λ q. apart (sym q))))
-
-  -- a place that holds the last state, with a mark from there on, starts a loop
-  pub closed-here : (m : Bool) → m ≡ (markAt g xs (k - 1) || marked) → m ≡ true → getD xs (k - 1) 0 ≡ getD xs (edges xs) 0
-      → anyb (loopsb g xs) (below (edges xs)) ≡ true
-  closed-here m e marked-here same =
-      let mark : anyb (markAt g xs) (upFrom (k - 1) (edges xs - (k - 1))) ≡ true = sym (marks-down m e) ∙ marked-here in
-      let here : T (loopsb g xs (k - 1)) = rw (mark, eq-eqb (getD xs (edges xs) 0) (getD xs (k - 1) 0) (sym same)) tt in
-      let inside : List·Memᴰ (k - 1) (below (edges xs)) = lt-below (edges xs) (k - 1) (omega (arith, U .within)) in
-      T-true (anyb (loopsb g xs) (below (edges xs))) (some-anyb (loopsb g xs) inside here)
-
--- at place 0 no place is left
-pub unclosed-end : {g : Graph} {xs : List ℕ} {marked : Bool} {k : ℕ} → Unclosed g xs marked k → k ≤ 0
-    → anyb (loopsb g xs) (below (edges xs)) ≡ false
-unclosed-end {xs = xs} {k = k} U none =
-    let e : k ≡ 0 = omega arith in
-    let q : edges xs - 0 ≡ edges xs = omega arith in
-    rw (e, q) at (U .loopless)
+      back : T (loopsb g xs k) → T (anyb (loopsb g xs) (upFrom k (edges xs - k)))
+      back h = some-anyb (loopsb g xs) (range-upFrom k (edges xs - k) k (omega arith) (omega arith)) h
 
 -- the list is a lasso with n transitions
 abbrev pub lassoOf : Graph → List ℕ → ℕ → Bool

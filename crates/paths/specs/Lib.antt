@@ -1,1 +1,2 @@
--- The tests answer by the definitions of paths and lassos.
+-- Where a given list leaves the model.
+pub mod Breaks

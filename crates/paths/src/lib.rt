@@ -1,6 +1,8 @@
-// Tests of a given list: whether it is a path, whether it closes at a mark, whether it is a lasso of a length.
+// Tests of a given list: the first place where it breaks, whether it is a path, whether it closes at a mark, whether it is
+// a lasso of a length.
 ghost use mathlib.Core.Path.{_≡_};
 ghost use mathlib.Core.Bool.{_&&_};
+ghost use mathlib.Core.Option.{none};
 ghost use Prim.Native.Nat.{_≤_, _<_};
 ghost use lib.ListN.{length, getD};
 ghost use lib.Dec.{T, eqb};
@@ -8,12 +10,44 @@ ghost use Rattle.lasso.specs.Lists.{anyb, below};
 ghost use Rattle.lasso.specs.Graph.{edges, pathb, loopsb, lassob};
 ghost use Rattle.model.specs.Model.{graphIn};
 ghost use Rattle.model.specs.Values.{Valid};
+ghost use Rattle.paths.specs.Breaks.{breakOf, firstBreak};
 use lasso::Entries;
 use lasso::Transitions;
 use model::Header;
 use model::has_edge;
 use model::is_marked;
 use table::get;
+
+// The first place where a list breaks, counted from 0: none, or a place, which may be as great as a list is long.
+pub enum FirstBreak {
+    None,
+    At(usize),
+}
+
+// The first place whose entry is no state or, past place 0, is not reached by an edge from the entry before it.
+pub fn first_break(file: &[u8], h: Header, list: &[u16]) -> FirstBreak
+    requires { ⌜ Valid (now file) h ⌝ }
+    ensures { λ r. ⌜ breakOf r ≡ firstBreak (graphIn (now (file .entry)) h) (now (list .entry)) ⌝ }
+{
+    if list.len() == 0 {
+        return FirstBreak::None;
+    }
+    let first = get(list, 0);
+    if h.states <= first {
+        return FirstBreak::At(0);
+    }
+    let mut j = 0;
+    while j + 1 < list.len() {
+        let s = get(list, j);
+        let t = get(list, j + 1);
+        if !has_edge(file, h, s, t) {
+            let place = j + 1;
+            return FirstBreak::At(place);
+        }
+        j += 1;
+    }
+    FirstBreak::None
+}
 
 // The list is a path from the start: each entry but the last has an edge to the next.
 pub fn is_path(file: &[u8], h: Header, list: &[u16]) -> bool
@@ -26,19 +60,38 @@ pub fn is_path(file: &[u8], h: Header, list: &[u16]) -> bool
     if get(list, 0) != h.start {
         return false;
     }
-    let mut j = 0;
-    while j + 1 < list.len() {
-        let s = get(list, j);
-        let t = get(list, j + 1);
-        if !has_edge(file, h, s, t) {
-            return false;
+    let broken = first_break(file, h, list);
+    match broken {
+        FirstBreak::None => true,
+        FirstBreak::At(_) => false,
+    }
+}
+
+// From place k on a list that breaks nowhere is a closed walk with a mark: the last entry is the one at k, and one of
+// those from k to before the last is marked.
+pub fn closes_at(file: &[u8], h: Header, list: &[u16], k: usize) -> bool
+    requires { ⌜ Valid (now file) h ⌝ }
+    requires { ⌜ firstBreak (graphIn (now file) h) (now list) ≡ none ⌝ }
+    requires { ⌜ k < edges (now list) ⌝ }
+    ensures { λ r. ⌜ r ≡ loopsb (graphIn (now (file .entry)) h) (now (list .entry)) k ⌝ }
+{
+    let end = list.len() - 1;
+    if get(list, end) != get(list, k) {
+        return false;
+    }
+    let mut j: usize = k;
+    while j < end {
+        let state = get(list, j);
+        if is_marked(file, h, state) {
+            return true;
         }
         j += 1;
     }
-    true
+    false
 }
 
-// The last entry of a path from the start stands at an earlier place too, and a mark from there on.
+// The last entry of a path from the start stands at an earlier place too, and a mark from there on: then so it is from the
+// first of its places.
 pub fn closes(file: &[u8], h: Header, list: &[u16]) -> bool
     requires { ⌜ Valid (now file) h ⌝ }
     requires { ⌜ 1 ≤ length (now list) ⌝ }
@@ -48,19 +101,12 @@ pub fn closes(file: &[u8], h: Header, list: &[u16]) -> bool
 {
     let end = list.len() - 1;
     let last = get(list, end);
-    let mut marked = false;
-    let mut k = end;
-    while 0 < k {
-        k -= 1;
-        let s = get(list, k);
-        if is_marked(file, h, s) {
-            marked = true;
+    let mut k = 0;
+    while k < end {
+        if get(list, k) == last {
+            return closes_at(file, h, list, k);
         }
-        if marked {
-            if s == last {
-                return true;
-            }
-        }
+        k += 1;
     }
     false
 }

@@ -1,92 +1,85 @@
--- `closes` meets its contract. The loop's invariant, going down: whether there is a mark from place k on, and no
--- place from there on starts a loop.
+-- `closes` meets its contract. The loop's invariant: some place starts a closed walk with a mark exactly if one from place k
+-- on does. The first place that holds the last entry decides.
 use Prim.Native.Nat.{ℕ, _-_}
-use mathlib.Core.Path.{_≡_, sym, _∙_, ap}
-use mathlib.Core.Logic.{⊎-elim}
-use mathlib.Core.Bool.{_||_}
+use mathlib.Core.Path.{_≡_, sym, _∙_}
 use native.Mathlib.Omega.{arith}
-use borrow.Author.Needs.{needs}
+use lib.ListN.{getD}
+use Rattle.lasso.specs.Graph.{edges, loopsb}
 use Rattle.model.specs.Model.{graphIn}
-use Rattle.lasso.proofs.Walk.{path-states}
-use Rattle.model.proofs.Laws.{valid-sizes, valid-well-formed}
-use Rattle.paths.proofs.LoopTests.{markAt, Unclosed, unclosed-start, unclosed-unmarked, unclosed-apart, closed-here, unclosed-end}
+use Rattle.model.proofs.Laws.{valid-well-formed}
+use Rattle.paths.proofs.BreakLaws.{started-unbroken}
+use Rattle.paths.proofs.LoopTests.{Left, left-start, left-next, left-none, left-below, open-at, first-decides}
 use Rattle.paths.proofs.closes.Statement.{statement}
 use Rattle.paths.proofs.closes.Tie as tie
 
 abbrev Inv-loop : tie.InvT-loop
-Inv-loop file h list end last marked₀ k₀ marked k = Unclosed (graphIn file h) list marked k
+Inv-loop file h list end last k₀ k = Left (loopsb (graphIn file h) list) (edges list) 0 k
 
 abbrev μ-loop : tie.MeasureT-loop
-μ-loop file h list end last marked₀ k₀ marked k = k
+μ-loop file h list end last k₀ k = end - k
 
 -- the function's start, from the loop
 abbrev start : tie.At-loop Inv-loop μ-loop → tie.Start Inv-loop μ-loop
 start c = c .before .before .before .before
 
--- the mark after a turn: one at the place below, or one from before
-mark-joined : (c : tie.Joined1 Inv-loop μ-loop)
-    → let at = c .before .before .before .before in
-    let a = start at .args in
-    c .if1 .marked ≡ (markAt (graphIn (a .file .now) (a .h)) (a .list .now) (at .loop .k - 1) || at .loop .marked)
-mark-joined c =
-    let at = c .before .before .before .before in
-    let a = start at .args in
-    let g = graphIn (a .file .now) (a .h) in
-    let mark : c .before .is-marked .result ≡ markAt g (a .list .now) (at .loop .k - 1) =
-    c .before .is-marked .ensures ∙ ap (λ (s : ℕ). g .marked s) (c .before .before .get2 .ensures .0) in
-    ⊎-elim (λ w. rw (← mark, w .0 .taken) (w .1)) (λ w. rw (← mark, w .0 .left) (w .1)) (c .if1 .came)
+-- the place holds the last entry
+held : (c : tie.Then1 Inv-loop μ-loop)
+    → let at = c .before .before .before in
+    let a = start at .args in getD (a .list .now) (edges (a .list .now)) 0 ≡ getD (a .list .now) (at .loop .k) 0
+held c =
+    let at = c .before .before .before in
+    omega (arith, at .before .get .ensures .0, c .if1 .taken, c .before .get2 .ensures .0)
 
 sub-end : tie.Need-sub-end Inv-loop μ-loop
-sub-end c = search needs
+sub-end c = omega arith
 
 get-requires : tie.Need-get-requires Inv-loop μ-loop
 get-requires c κs = omega arith
 
 loop-holds : tie.Need-loop-holds Inv-loop μ-loop
-loop-holds c = unclosed-start _ _
-
-sub-k : tie.Need-sub-k Inv-loop μ-loop
-sub-k c = search needs
+loop-holds c = left-start _ _ _ (omega arith)
 
 get-requires-2 : tie.Need-get-requires-2 Inv-loop μ-loop
-get-requires-2 c κs = omega (arith, c .before .loop .inv .within)
+get-requires-2 c κs = omega (arith, c .loop-test .taken)
 
-is-marked-requires : tie.Need-is-marked-requires Inv-loop μ-loop
-is-marked-requires c κs =
-    let at = c .before .before in
+closes-at-requires : tie.Need-closes-at-requires Inv-loop μ-loop
+closes-at-requires c κs =
+    let at = c .before .before .before in
     let s = start at in
-    let sizes = valid-sizes (s .pre .0) in
-    let state = path-states (graphIn (s .args .file .now) (s .args .h)) (s .args .list .now) (valid-well-formed (s .pre .0)) (s .pre .1 .1 .1) (omega (arith, s .pre .1 .1 .0)) (at .loop .k - 1) (omega (arith, at .loop .inv .within, c .before .loop-test .taken)) in
-    (s .pre .0, omega (arith, c .get2 .ensures .0, state))
+    let a = s .args in
+    let unbroken = started-unbroken (graphIn (a .file .now) (a .h)) (valid-well-formed (s .pre .0)) (a .list .now) (s .pre .1 .1 .0) (s .pre .1 .1 .1) in
+    (s .pre .0, (unbroken, omega (arith, c .before .before .loop-test .taken)))
 
 returns : tie.Need-returns Inv-loop μ-loop
 returns c =
-    let joined = c .before .before in
-    let at = joined .before .before .before .before in
-    sym (closed-here (at .loop .inv) (joined .before .before .before .loop-test .taken) _ (mark-joined joined) (c .before .if2 .taken)
-    (sym (joined .before .before .get2 .ensures .0) ∙ c .if3 .taken ∙ at .before .get .ensures .0))
+    let here = c .before in
+    let at = here .before .before .before in
+    let a = start at .args in
+    let g = graphIn (a .file .now) (a .h) in
+    c .closes-at .ensures
+    ∙ sym (left-below (loopsb g (a .list .now)) (edges (a .list .now)) ∙ at .loop .inv .decides
+    ∙ first-decides g (a .list .now) (at .loop .k) (omega (arith, here .before .before .loop-test .taken)) (held here))
+
+add-k : tie.Need-add-k Inv-loop μ-loop
+add-k c = omega (arith, c .before .before .loop-test .taken)
 
 loop-less : tie.Need-loop-less Inv-loop μ-loop
-loop-less c = omega arith
+loop-less c = omega (arith, c .before .before .loop-test .taken)
 
 loop-again : tie.Need-loop-again Inv-loop μ-loop
 loop-again c =
-    let joined = c .before .before in
-    let at = joined .before .before .before .before in
-    unclosed-apart (at .loop .inv) (joined .before .before .before .loop-test .taken) _ (mark-joined joined)
-    (λ e. c .if3 .left (joined .before .before .get2 .ensures .0 ∙ e ∙ sym (at .before .get .ensures .0)))
-
-loop-less-2 : tie.Need-loop-less-2 Inv-loop μ-loop
-loop-less-2 c = omega arith
-
-loop-again-2 : tie.Need-loop-again-2 Inv-loop μ-loop
-loop-again-2 c =
-    let joined = c .before in
-    let at = joined .before .before .before .before in
-    unclosed-unmarked (at .loop .inv) (joined .before .before .before .loop-test .taken) _ (mark-joined joined) (c .if2 .left)
+    let at = c .before .before .before in
+    let a = start at .args in
+    let apart = open-at (graphIn (a .file .now) (a .h)) (a .list .now) (at .loop .k)
+    (λ e. c .if1 .left (c .before .get2 .ensures .0 ∙ sym e ∙ sym (at .before .get .ensures .0))) in
+    left-next (at .loop .inv) (omega (arith, c .before .before .loop-test .taken)) apart
 
 returns-2 : tie.Need-returns-2 Inv-loop μ-loop
-returns-2 c = sym (unclosed-end (c .before .loop .inv) (c .loop-test .left))
+returns-2 c =
+    let at = c .before in
+    let a = start at .args in
+    sym (left-below (loopsb (graphIn (a .file .now) (a .h)) (a .list .now)) (edges (a .list .now))
+    ∙ left-none (at .loop .inv) (omega (arith, c .loop-test .left)))
 
 pub closes-spec : {M : Type 1} → statement M
 closes-spec =
@@ -97,12 +90,10 @@ closes-spec =
     sub-end
     get-requires
     loop-holds
-    sub-k
     get-requires-2
-    is-marked-requires
+    closes-at-requires
     returns
+    add-k
     loop-less
     loop-again
-    loop-less-2
-    loop-again-2
     returns-2)

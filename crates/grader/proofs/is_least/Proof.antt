@@ -1,0 +1,114 @@
+-- `is_least` meets its contract: the length that all rounds find is the least one of an accepting path. The rounds are never
+-- stopped, since no model has so many candidates.
+use Prim.Native.Nat.{ℕ}
+use mathlib.Core.Path.{_≡_, sym, _∙_}
+use native.Mathlib.Omega.{arith}
+use borrow.Author.Needs.{needs}
+use Rattle.lasso.specs.Graph.{edges}
+use Rattle.lasso.specs.Roll.{leastLength}
+use Rattle.lasso.proofs.RoundLaws.{candidates-length-le}
+use Rattle.model.specs.Model.{graphIn}
+use Rattle.model.proofs.Laws.{valid-sizes}
+use Rattle.cursor.specs.Cursor.{BegunSays}
+use Rattle.cursor.specs.declared.Begun.{Begun}
+use Rattle.grader.proofs.GradeLaws.{least-none, least-same, least-other}
+use Rattle.grader.proofs.is_least.Statement.{statement}
+use Rattle.grader.proofs.is_least.Tie as tie
+
+-- the function's start, and what the rounds came to
+abbrev start : tie.After-begin → tie.Start
+start c = c .before .before .before .before .before
+
+abbrev done : tie.After-slice-known2 → tie.After-begin
+done c = c .before .before
+
+-- what an answer of the rounds says, by its case
+says : (c : tie.After-begin) (r : Begun) → c .begin .result ≡ r → BegunSays (graphIn (start c .args .file .now) (start c .args .h)) 65535 r
+says c r e = rw e at (c .begin .ensures .0)
+
+-- the counts of entries, after the tests of the case
+abbrev counted : tie.After-struct-known2 → tie.After-entries
+counted c = c .before .before
+
+begin-requires : tie.Need-begin-requires
+begin-requires c κs = search needs
+
+enum-told : tie.Need-enum-told
+enum-told c = search needs
+
+enum-told-2 : tie.Need-enum-told-2
+enum-told-2 c = search needs
+
+enum-known-begun : tie.Need-enum-known-begun
+enum-known-begun c = search needs
+
+entries-requires : tie.Need-entries-requires
+entries-requires c κs = search needs
+
+same-length : tie.Need-same-length
+same-length c = search needs
+
+returns : tie.Need-returns
+returns c =
+    let count = counted (c .before) in
+    let case = count .before .before in
+    let begun = done (case .before .before) in
+    let s = start begun in
+    let a = s .args in
+    let all = says begun _ (case .begun .given .1) in (
+      sym (least-other (leastLength (graphIn (a .file .now) (a .h))) _ (all .least-is) (a .list .now) (s .pre .1 .1) (λ e. omega (arith, c .if1 .taken, count .entries .ensures, e))),
+      begun .begin .ensures .1 .1,
+    )
+
+same-length-2 : tie.Need-same-length-2
+same-length-2 c = search needs
+
+returns-2 : tie.Need-returns-2
+returns-2 c =
+    let begun = done (c .before .before) in
+    let s = start begun in
+    let sizes = valid-sizes (s .pre .0) in
+    let stop = says begun _ (c .enum-told .given .1) in
+    absurd (omega (arith, stop .short, candidates-length-le (graphIn (s .args .file .now) (s .args .h))))
+
+same-length-3 : tie.Need-same-length-3
+same-length-3 c = search needs
+
+returns-3 : tie.Need-returns-3
+returns-3 c =
+    let begun = done (c .before .before) in
+    let a = start begun .args in
+    let all = says begun _ (c .enum-told2 .given .1) in
+    (sym (least-none (leastLength (graphIn (a .file .now) (a .h))) (edges (a .list .now)) (all .least-is)), begun .begin .ensures .1 .1)
+
+same-length-4 : tie.Need-same-length-4
+same-length-4 c = search needs
+
+returns-4 : tie.Need-returns-4
+returns-4 c =
+    let count = counted (c .before) in
+    let case = count .before .before in
+    let begun = done (case .before .before) in
+    let a = start begun .args in
+    let all = says begun _ (case .begun .given .1) in (
+      sym (least-same (leastLength (graphIn (a .file .now) (a .h))) _ (all .least-is) (a .list .now) (omega (arith, c .if1 .left, count .entries .ensures))),
+      begun .begin .ensures .1 .1,
+    )
+
+pub is-least-spec : {M : Type 1} → statement M
+is-least-spec =
+    tie.close
+    (tie.spec
+    begin-requires
+    enum-told
+    enum-told-2
+    enum-known-begun
+    entries-requires
+    same-length
+    returns
+    same-length-2
+    returns-2
+    same-length-3
+    returns-3
+    same-length-4
+    returns-4)
