@@ -2,6 +2,7 @@
 # Counts instructions by each version, with valgrind; the counts do not depend on what else the machine does.
 #   ./instructions.sh [SIZE]    of one search on each family at one size (default 1024)
 #   ./instructions.sh combine   of one combination of each family, and for each mask test more
+#   ./instructions.sh grade     of one grade of each family
 cd "$(dirname "$0")" || exit 1
 program=target/release/fahkelo-bench
 
@@ -53,8 +54,21 @@ combinations() {
         before = 1; t = $2; p = $4; s = $5; u = $6 }'
 }
 
-if [ "${1:-}" = combine ]; then
-    combinations
-else
-    searches "${1:-1024}"
-fi
+grades() {
+    local family proved safe unchecked
+    echo "| family | proved | safe | unchecked | proved/safe | proved/unchecked |"
+    echo "|---|---|---|---|---|---|"
+    for family in $("$program" grade-families); do
+        proved=$(count grade_once grade-once proved "$family")
+        safe=$(count grade_once grade-once safe "$family")
+        unchecked=$(count grade_once grade-once unchecked "$family")
+        awk -v f="$family" -v p="$proved" -v s="$safe" -v u="$unchecked" \
+            'BEGIN { printf "| %s | %.0f | %.0f | %.0f | %.2f | %.2f |\n", f, p, s, u, p / s, p / u }'
+    done
+}
+
+case ${1:-} in
+combine) combinations ;;
+grade) grades ;;
+*) searches "${1:-1024}" ;;
+esac

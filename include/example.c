@@ -1,12 +1,12 @@
-/* Prints the rounds, a refused step and all shortest runs of one model, and the shortest run of a rule that a property
- * marks, through the C interface (docs/CAPI.md). */
+/* Prints the rounds, a refused step, all shortest runs and three grades of one model, and the shortest run of a rule that a
+ * property marks, through the C interface (docs/CAPI.md). */
 #include <stdio.h>
 #include <string.h>
 
 #include "fahkelo.h"
 
-#if FAHKELO_INTERFACE != 3
-#error "this example was written for interface 3"
+#if FAHKELO_INTERFACE != 4
+#error "this example was written for interface 4"
 #endif
 
 /* Five states, 0 to 1 and 2, 1 to 3, 2 to 3, 3 to 1 and 2, 4 to 4; the run starts at 0; 3 and 4 are marked. */
@@ -15,6 +15,10 @@ static const uint8_t model[] = {
     0, 0, 2, 0, 3, 0, 4, 0, 6, 0, 7, 0,                                         /* row table */
     1, 0, 2, 0, 3, 0, 3, 0, 1, 0, 2, 0, 4, 0,                                   /* edge table */
     24};                                                                        /* marks */
+
+/* Lists that are graded: a run that is not of least length, and a list that leaves the model, which has no state 5. */
+static const uint16_t longer[] = {0, 1, 3, 2, 3};
+static const uint16_t broken[] = {0, 1, 5};
 
 /* A rule: 0 to 1, 1 to 0; no mark. Its states have the letters 0 and 1. */
 static const uint8_t rule[] = {
@@ -46,6 +50,31 @@ static void print_run(void)
     for (i = 0; i <= out[0]; i++)
         printf(" %u", (unsigned)answer[i]);
     printf("\n");
+}
+
+/* Grades a list whose loop is said to start at place k, and prints the kind and the place where it leaves the model. */
+static void print_grade(const uint16_t *list, size_t entries, uint16_t k)
+{
+    size_t place;
+    uint16_t kind = fahkelo_grade(model, sizeof model, list, entries, k, &place, 1,
+                                  work, FAHKELO_WORK_MOST, out, FAHKELO_OUT_ENTRIES);
+    printf("grade: kind %u", (unsigned)kind);
+    if (kind > FAHKELO_KINDS_FROM && out[0] == 1)
+        printf(", leaves the model at place %lu", (unsigned long)place);
+    printf("\n");
+}
+
+/* Grades the first shortest run, a longer one and a list that is no run. */
+static int print_grades(void)
+{
+    uint16_t kind = fahkelo_search(model, sizeof model, 65535, answer, FAHKELO_ANSWER_MOST,
+                                   work, FAHKELO_WORK_MOST, out, FAHKELO_OUT_ENTRIES);
+    if (kind != FAHKELO_FOUND)
+        return 0;
+    print_grade(answer, (size_t)out[0] + 1, out[1]);
+    print_grade(longer, sizeof longer / sizeof *longer, 2);
+    print_grade(broken, sizeof broken / sizeof *broken, 0);
+    return 1;
 }
 
 /* Combines the rule with the property, and prints the first shortest run of the result. State c of the result is the pair
@@ -104,5 +133,5 @@ int main(void)
                             work, FAHKELO_WORK_MOST, out, FAHKELO_OUT_ENTRIES);
     }
     printf("ended with kind %u\n", (unsigned)kind);
-    return kind == FAHKELO_NO_MORE && print_combined() ? 0 : 1;
+    return kind == FAHKELO_NO_MORE && print_grades() && print_combined() ? 0 : 1;
 }

@@ -5,10 +5,10 @@
  *
  * Tables. Each table is given as a pointer and a number of entries. Any lengths and any contents are allowed, and any
  * bytes as the file: what does not fit is refused with a number. A pointer whose length is 0 may be NULL; nothing is read
- * or written through it. Every other pointer must have so many entries behind it, 16-bit ones at even addresses. The
- * tables that a call writes (answer, work, output, out) must not overlap each other, nor a table that the call reads; those
- * that it only reads may overlap. The library keeps nothing between two calls and allocates nothing; calls on tables of
- * their own may run at the same time.
+ * or written through it. Every other pointer must have so many entries behind it, aligned as C aligns their type: 16-bit
+ * ones at even addresses, those of size_t at multiples of 8. The tables that a call writes (answer, place, work, output,
+ * out) must not overlap each other, nor a table that the call reads; those that it only reads may overlap. The library
+ * keeps nothing between two calls and allocates nothing; calls on tables of their own may run at the same time.
  *
  *   file     the bytes of a model file, at most FAHKELO_FILE_MOST (docs/FORMAT.md). Where bytes 6 and 7 are 1, a state
  *            without edges stays where it is: it has an implied step to itself
@@ -17,17 +17,20 @@
  *   answer   the run that is found: entries 0 to L, a run of L transitions having L + 1 states. The run starts at entry 0;
  *            from entry k on it repeats for ever, and entry L equals entry k. FAHKELO_ANSWER_MOST entries do for every
  *            model. Entries past L never change, and no entry does unless the answer is FAHKELO_FOUND
+ *   place    the first place where a list that is graded leaves the model, at entry 0; at least one entry. Entry 0 changes
+ *            only if there is such a place, later entries never
  *   output   the model file that fahkelo_combine writes, from byte 0 on; FAHKELO_FILE_MOST bytes do for every result. Bytes
  *            past the file never change, and no byte does unless the answer is FAHKELO_WRITTEN
  *   out      the figures of the answer: at least FAHKELO_OUT_ENTRIES entries. Entries past the figures never change, and
  *            no entry does after a refusal
  *
  * Answers. What a call returns tells by itself what happened. A value below FAHKELO_KINDS_FROM, `kind < 100`, is a refusal:
- * the value is the number of the first reason that holds, 1 to 18 (docs/REFUSALS.md), and out, answer and output are not
- * changed.
+ * the value is the number of the first reason that holds, 1 to 18 (docs/REFUSALS.md), and out, answer, place and output are
+ * not changed.
  * Every other value is a kind of answer, whose figures are in out, from entry 0 on:
  *
- *   FAHKELO_OUT_TOO_SHORT   (none)              out has fewer than FAHKELO_OUT_ENTRIES entries; nothing at all was done
+ *   FAHKELO_OUT_TOO_SHORT   (none)              out has fewer than FAHKELO_OUT_ENTRIES entries, or place, where one is lent,
+ *                                               has none; nothing at all was done
  *   FAHKELO_STOPPED         rounds, has, best   the allowance is less than the number of rounds of this model
  *   FAHKELO_FOUND           L, k, rounds        (from fahkelo_next: L, k)
  *   FAHKELO_EMPTY           rounds              the model has no accepting run
@@ -35,8 +38,12 @@
  *   FAHKELO_FINISHED        done, has, best     no round is left: the record that was given
  *   FAHKELO_ADVANCED        done, has, best     the record after one more round
  *   FAHKELO_WRITTEN         bytes               the model file has so many bytes
+ *   FAHKELO_FALSE           has                 the list with that k is no accepting run
+ *   FAHKELO_ACCEPTING       has                 it is one, and a shorter one exists
+ *   FAHKELO_SHORTEST        has                 it is one, and none is shorter
  *
- * In the figures of a record `has` is 1 if there is a best length, and 0 if there is none; then `best` is 0.
+ * In the figures of a record `has` is 1 if there is a best length, and 0 if there is none; then `best` is 0. The one figure
+ * of a grade is 1 if the list leaves the model somewhere, and then place[0] says where; else it is 0.
  */
 #ifndef FAHKELO_H
 #define FAHKELO_H
@@ -45,7 +52,7 @@
 #include <stdint.h>
 
 /* Raised whenever a declaration or a number of this file changes: a caller can ask for the one that it was written for. */
-#define FAHKELO_INTERFACE 3
+#define FAHKELO_INTERFACE 4
 
 /* The kinds of answer start here; what is below is the number of a refusal. */
 #define FAHKELO_KINDS_FROM 100
@@ -59,6 +66,9 @@
 #define FAHKELO_FINISHED 105
 #define FAHKELO_ADVANCED 106
 #define FAHKELO_WRITTEN 107
+#define FAHKELO_FALSE 108
+#define FAHKELO_ACCEPTING 109
+#define FAHKELO_SHORTEST 110
 
 /* The entries that out must have, and the table sizes that do for every model. */
 #define FAHKELO_OUT_ENTRIES 4
@@ -103,6 +113,24 @@ uint16_t fahkelo_next(const uint8_t *file, size_t file_len,
                       uint16_t *answer, size_t answer_len,
                       uint16_t *work, size_t work_len,
                       uint16_t *out, size_t out_len);
+
+/*
+ * Grades a run that somebody claims: its states, and the place k, counted from 0, where its loop is said to start. Nothing
+ * of it is trusted; the list may have any length and any entries, and k may be any number.
+ * It is accepting if it has the entries 0 to L, with L at least 1 and k below L; entry 0 is the state where the model
+ * starts; an edge or an implied step leads from each entry to the next; entry L equals entry k; one of the entries k to
+ * L - 1 is marked; and the entries 0 to L - 1 are all different. It is a shortest one if no accepting run has fewer entries.
+ * The list leaves the model at a place if the entry there is no state or, past place 0, if no edge and no implied step leads
+ * to it from the entry before. If there is such a place, out[0] is 1, place[0] is the first one, counted from 0, and the
+ * grade is FAHKELO_FALSE; else out[0] is 0 and place is not changed.
+ * Returns a refusal (1 to 12), FAHKELO_FALSE, FAHKELO_ACCEPTING, FAHKELO_SHORTEST or FAHKELO_OUT_TOO_SHORT.
+ */
+uint16_t fahkelo_grade(const uint8_t *file, size_t file_len,
+                       const uint16_t *list, size_t list_len,
+                       uint16_t k,
+                       size_t *place, size_t place_len,
+                       uint16_t *work, size_t work_len,
+                       uint16_t *out, size_t out_len);
 
 /*
  * Combines a rule with a property: a model file whose runs are the pairs of a run of the rule and a run of the property

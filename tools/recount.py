@@ -225,4 +225,5 @@ def main():
     print("differences 0")
 
 
-main()
+if __name__ == "__main__":
+    main()

@@ -29,7 +29,7 @@ pub struct Counts {
     staying: u64,
     implying: u64,
     refused_files: [u64; 16],
-    damaged: u64,
+    pub damaged: u64,
     steps: u64,
     searches: u64,
     nexts: u64,
@@ -96,28 +96,12 @@ fn compare_family(lot: &mut Random, counts: &mut Counts, file: &[u8]) {
 }
 
 pub fn print(counts: &Counts) {
-    let words = |shown: Vec<String>| shown.join(", ");
-    let of_list = |numbers: &[u64]| {
-        let shown = numbers.iter().enumerate().filter(|(_, &n)| n != 0);
-        words(shown.map(|(i, n)| format!("{i}: {n}")).collect())
-    };
     let of_values = |values: Range<u16>| {
         let shown = counts.values.range(values);
-        words(shown.map(|(i, n)| format!("{i}: {n}")).collect())
+        let words: Vec<String> = shown.map(|(i, n)| format!("{i}: {n}")).collect();
+        words.join(", ")
     };
-    println!(
-        "files accepted: {} of up to {SMALL} states (exhaustive), {} larger (textbook)",
-        counts.small, counts.large
-    );
-    println!(
-        "bytes 6–7 are 1 in {} of them, {} with implied steps",
-        counts.staying, counts.implying
-    );
-    println!(
-        "files damaged: {}; refused by rule: {}",
-        counts.damaged,
-        of_list(&counts.refused_files)
-    );
+    print_files(counts);
     println!(
         "calls: {} steps, {} searches, {} nexts; lists received: {}",
         counts.steps, counts.searches, counts.nexts, counts.lists
@@ -129,6 +113,28 @@ pub fn print(counts: &Counts) {
     );
     println!("refusals by reason: {}", of_values(0..kind::FROM));
     println!("differences {}", counts.differences);
+}
+
+/// Prints what the files were.
+pub fn print_files(counts: &Counts) {
+    let rules = counts.refused_files.iter().enumerate();
+    let refused: Vec<String> = rules
+        .filter(|(_, &n)| n != 0)
+        .map(|(i, n)| format!("{i}: {n}"))
+        .collect();
+    println!(
+        "files accepted: {} of up to {SMALL} states (exhaustive), {} larger (textbook)",
+        counts.small, counts.large
+    );
+    println!(
+        "bytes 6–7 are 1 in {} of them, {} with implied steps",
+        counts.staying, counts.implying
+    );
+    println!(
+        "files damaged: {}; refused by rule: {}",
+        counts.damaged,
+        refused.join(", ")
+    );
 }
 
 /// The file's verdict by the reference. A model that was written must be read back.

@@ -1,8 +1,8 @@
 //! The examples of the contract through the wrapper, for `cargo test`; they show how the calls are used.
 
 use crate::fahkelo::{
-    combine, combine_into, kind, next, search, step, CombineAnswer, NextAnswer, Record,
-    SearchAnswer, StepAnswer,
+    combine, combine_into, grade, grade_into, kind, next, search, step, CombineAnswer, GradeAnswer,
+    NextAnswer, Record, SearchAnswer, StepAnswer, Verdict,
 };
 use crate::model::Model;
 use crate::property::Property;
@@ -410,4 +410,130 @@ fn combinations_with_flags_above_1() {
         );
         assert_eq!(output, [9; 60]);
     }
+}
+
+/// The verdict, and the first place where the list breaks.
+type Grade = (Verdict, Option<usize>);
+
+/// The grade of a list with a working table that just does; the table is zero afterwards.
+fn graded(file: &[u8], list: &[u16], k: u16) -> Grade {
+    let states = u16::from_le_bytes([file[0], file[1]]) as usize;
+    let mut work = vec![9; 6 * states];
+    let answer = grade(file, list, k, &mut work);
+    assert_eq!(work, vec![0; 6 * states]);
+    match answer {
+        GradeAnswer::Graded(verdict, place) => (verdict, place),
+        refused => panic!("{refused:?}"),
+    }
+}
+
+const NO_PATH: Grade = (Verdict::False, None);
+const ACCEPTING: Grade = (Verdict::Accepting, None);
+const SHORTEST: Grade = (Verdict::Shortest, None);
+
+fn broken_at(place: usize) -> Grade {
+    (Verdict::False, Some(place))
+}
+
+#[test]
+fn grades_in_d() {
+    let lists: [(&[u16], u16, Grade); 15] = [
+        (&[0, 1, 3, 1], 1, SHORTEST),
+        (&[0, 2, 3, 2], 1, SHORTEST),
+        (&[0, 1, 3, 2, 3], 2, ACCEPTING),
+        (&[0, 1, 3, 1], 0, NO_PATH),
+        (&[0, 2, 3, 1], 1, NO_PATH),
+        (&[0, 3], 0, broken_at(1)),
+        (&[1, 3, 1], 0, NO_PATH),
+        (&[0, 1, 3, 1, 3], 2, NO_PATH),
+        (&[5], 0, broken_at(0)),
+        (&[0, 1, 5], 0, broken_at(2)),
+        (&[], 0, NO_PATH),
+        (&[0], 0, NO_PATH),
+        (&[0, 1, 3, 1], 3, NO_PATH),
+        (&[0, 1, 3, 1], 65535, NO_PATH),
+        (&[0, 1, 3, 1, 4, 65535], 1, broken_at(4)),
+    ];
+    for (list, k, expected) in lists {
+        assert_eq!(graded(&file_d(), list, k), expected, "{list:?} {k}");
+    }
+}
+
+#[test]
+fn grades_in_h_and_b() {
+    assert_eq!(graded(&file_h(), &[0, 1, 2, 3, 4, 1], 1), ACCEPTING);
+    assert_eq!(graded(&file_h(), &[0, 5, 6, 6], 2), SHORTEST);
+    assert_eq!(graded(&file_b(), &[0, 0], 0), SHORTEST);
+}
+
+#[test]
+fn the_grade_of_a_state_that_stays() {
+    assert_eq!(graded(&with_flag(file_a(), 1), &[0, 0], 0), SHORTEST);
+    assert_eq!(graded(&file_a(), &[0, 0], 0), broken_at(1));
+}
+
+#[test]
+fn the_grade_of_a_list_received() {
+    let mut answer = [0; 8];
+    let mut work = [0; 42];
+    let SearchAnswer::Found {
+        length, loop_start, ..
+    } = search(&file_h(), 65535, &mut answer, &mut work)
+    else {
+        panic!("there is an accepting path");
+    };
+    let list = &answer[..=length as usize];
+    assert_eq!(
+        grade(&file_h(), list, loop_start, &mut work),
+        GradeAnswer::Graded(Verdict::Shortest, None)
+    );
+}
+
+#[test]
+fn long_lists() {
+    let file = file_of(2, &[(0, 1), (1, 0)], &[1]);
+    let mut list = [0, 1].repeat(35_000);
+    assert_eq!(graded(&file, &list, 0), NO_PATH);
+    list[69_999] = 0;
+    assert_eq!(graded(&file, &list, 0), broken_at(69_999));
+    list[69_999] = 2;
+    assert_eq!(graded(&file, &list, 65535), broken_at(69_999));
+}
+
+#[test]
+fn the_figure_and_the_place_of_a_grade() {
+    let file = file_d();
+    let mut work = [9; 30];
+    let (mut out, mut place) = ([7; 5], [7; 2]);
+    assert_eq!(
+        grade_into(&file, &[0, 1, 3, 1], 1, &mut place, &mut work, &mut out),
+        kind::SHORTEST
+    );
+    assert_eq!((out, place, work), ([0, 7, 7, 7, 7], [7; 2], [0; 30]));
+    assert_eq!(
+        grade_into(&file, &[0, 3], 0, &mut place, &mut work, &mut out),
+        kind::FALSE
+    );
+    assert_eq!((out, place), ([1, 7, 7, 7, 7], [1, 7]));
+}
+
+#[test]
+fn refused_grades() {
+    let file = file_d();
+    let (mut work, mut out, mut place) = ([9; 30], [7; 4], [7]);
+    let mut refused = |file: &[u8], work_len, place_len, out_len| {
+        let (work_lent, place_lent) = (&mut work[..work_len], &mut place[..place_len]);
+        let out_lent = &mut out[..out_len];
+        let number = grade_into(file, &[0, 1, 3, 1], 1, place_lent, work_lent, out_lent);
+        assert_eq!((work, out, place), ([9; 30], [7; 4], [7]));
+        number
+    };
+    assert_eq!(refused(&file, 29, 1, 4), 12);
+    assert_eq!(refused(&file, 0, 1, 4), 12);
+    assert_eq!(refused(&file[..50], 30, 1, 4), 7);
+    assert_eq!(refused(&[], 0, 1, 4), 1);
+    assert_eq!(refused(&with_flag(file_d(), 2), 30, 1, 4), 5);
+    assert_eq!(refused(&file, 30, 0, 4), kind::OUT_TOO_SHORT);
+    assert_eq!(refused(&file, 30, 1, 3), kind::OUT_TOO_SHORT);
+    assert_eq!(refused(&[], 30, 0, 0), kind::OUT_TOO_SHORT);
 }

@@ -53,6 +53,19 @@ mod c {
             out: *mut u16,
             out_len: usize,
         ) -> u16;
+        pub fn fahkelo_grade(
+            file: *const u8,
+            file_len: usize,
+            list: *const u16,
+            list_len: usize,
+            k: u16,
+            place: *mut usize,
+            place_len: usize,
+            work: *mut u16,
+            work_len: usize,
+            out: *mut u16,
+            out_len: usize,
+        ) -> u16;
     }
 }
 
@@ -101,6 +114,21 @@ pub enum CombineAnswer {
     Written(usize),
 }
 
+/// What the grader says of a list with a claimed k: it is no accepting path, it is one, it is one of least length.
+#[derive(Clone, Copy, Debug, PartialEq, Eq)]
+pub enum Verdict {
+    False,
+    Accepting,
+    Shortest,
+}
+
+/// The answer of the grader: the verdict, and the first place where the list breaks, if it does.
+#[derive(Clone, Copy, Debug, PartialEq, Eq)]
+pub enum GradeAnswer {
+    Refused(u16),
+    Graded(Verdict, Option<usize>),
+}
+
 /// The return values of the C functions: the kinds of answer. A value below them is the number of a refusal.
 pub mod kind {
     pub const FROM: u16 = 100;
@@ -112,6 +140,9 @@ pub mod kind {
     pub const FINISHED: u16 = 105;
     pub const ADVANCED: u16 = 106;
     pub const WRITTEN: u16 = 107;
+    pub const FALSE: u16 = 108;
+    pub const ACCEPTING: u16 = 109;
+    pub const SHORTEST: u16 = 110;
 }
 
 /// `fahkelo_step` over slices: the kind, with its figures in `out`, or the number of the refusal.
@@ -210,6 +241,34 @@ pub fn combine_into(
     }
 }
 
+/// `fahkelo_grade` over slices: the kind, with its figure in `out` and the place, if there is one, in `place`, or the
+/// number of the refusal.
+pub fn grade_into(
+    file: &[u8],
+    list: &[u16],
+    k: u16,
+    place: &mut [usize],
+    work: &mut [u16],
+    out: &mut [u16],
+) -> u16 {
+    // SAFETY: as in `step_into`.
+    unsafe {
+        c::fahkelo_grade(
+            file.as_ptr(),
+            file.len(),
+            list.as_ptr(),
+            list.len(),
+            k,
+            place.as_mut_ptr(),
+            place.len(),
+            work.as_mut_ptr(),
+            work.len(),
+            out.as_mut_ptr(),
+            out.len(),
+        )
+    }
+}
+
 /// The record that three figures stand for.
 fn record_of(figures: &[u16; 4]) -> Record {
     Record {
@@ -267,4 +326,18 @@ pub fn combine(rule: &[u8], letters: &[u8], property: &[u8], output: &mut [u8]) 
         kind::WRITTEN => CombineAnswer::Written(out[0] as usize),
         other => unreachable!("a combination has no answer of kind {other}"),
     }
+}
+
+/// The grade of a list, of any length, with a claimed k.
+pub fn grade(file: &[u8], list: &[u16], k: u16, work: &mut [u16]) -> GradeAnswer {
+    let mut out = [0; 4];
+    let mut place = [0];
+    let verdict = match grade_into(file, list, k, &mut place, work, &mut out) {
+        number if number < kind::FROM => return GradeAnswer::Refused(number),
+        kind::FALSE => Verdict::False,
+        kind::ACCEPTING => Verdict::Accepting,
+        kind::SHORTEST => Verdict::Shortest,
+        other => unreachable!("a grade has no answer of kind {other}"),
+    };
+    GradeAnswer::Graded(verdict, (out[0] != 0).then_some(place[0]))
 }

@@ -10,6 +10,11 @@ mod differential;
 mod examples;
 mod fahkelo;
 mod families;
+mod grade_differential;
+mod grade_measure;
+mod grade_oracle;
+mod grade_samples;
+mod grades;
 mod graph;
 mod measure;
 mod model;
@@ -26,7 +31,7 @@ mod versions;
 use std::path::Path;
 use std::process::ExitCode;
 
-use versions::{Combiner, Finder, Proved, SAFE, UNCHECKED};
+use versions::{Combiner, Finder, Grader, Proved, SAFE, UNCHECKED};
 
 const USAGE: &str = "\
 fahkelo-bench [WORD]                           measure the families whose names hold the word (default: all)
@@ -38,7 +43,12 @@ fahkelo-bench files FOLDER                     write the files of all families
 fahkelo-bench combine [WORD]                   measure the combinations whose names hold the word (default: all)
 fahkelo-bench combine-differential COUNT SEED  compare answers and outputs on COUNT combinations
 fahkelo-bench combine-once VERSION FAMILY      one combination, for a profiler (proved, safe, unchecked)
-fahkelo-bench combine-families                 the families of combinations: name, mask tests a pass, blocks";
+fahkelo-bench combine-families                 the families of combinations: name, mask tests a pass, blocks
+fahkelo-bench grade [WORD]                     measure the grades whose names hold the word (default: all)
+fahkelo-bench grade-differential COUNT SEED    compare answers and tables on lists for COUNT files
+fahkelo-bench grade-counts                     how the edges of the long lists are looked for
+fahkelo-bench grade-once VERSION FAMILY        one grade, for a profiler (proved, safe, unchecked)
+fahkelo-bench grade-families                   the families of grades";
 
 fn main() -> ExitCode {
     let words: Vec<String> = std::env::args().skip(1).collect();
@@ -74,6 +84,20 @@ fn main() -> ExitCode {
             }
             Some(ExitCode::SUCCESS)
         }
+        ["grade"] => graded(""),
+        ["grade", word] => graded(word),
+        ["grade-differential", count, seed] => grade_differential(count, seed),
+        ["grade-counts"] => {
+            grade_measure::print_counts();
+            Some(ExitCode::SUCCESS)
+        }
+        ["grade-once", version, family] => grade(version, family),
+        ["grade-families"] => {
+            for name in grades::names() {
+                println!("{name}");
+            }
+            Some(ExitCode::SUCCESS)
+        }
         [word] if !word.starts_with('-') => measured(word),
         _ => None,
     };
@@ -98,6 +122,11 @@ fn combined(word: &str) -> Option<ExitCode> {
     Some(ExitCode::SUCCESS)
 }
 
+fn graded(word: &str) -> Option<ExitCode> {
+    grade_measure::run(word);
+    Some(ExitCode::SUCCESS)
+}
+
 fn differential(count: &str, seed: &str) -> Option<ExitCode> {
     let differences = differential::run(count.parse().ok()?, seed.parse().ok()?);
     Some(status_of(differences))
@@ -105,6 +134,11 @@ fn differential(count: &str, seed: &str) -> Option<ExitCode> {
 
 fn combine_differential(count: &str, seed: &str) -> Option<ExitCode> {
     let differences = combine_differential::run(count.parse().ok()?, seed.parse().ok()?);
+    Some(status_of(differences))
+}
+
+fn grade_differential(count: &str, seed: &str) -> Option<ExitCode> {
+    let differences = grade_differential::run(count.parse().ok()?, seed.parse().ok()?);
     Some(status_of(differences))
 }
 
@@ -136,6 +170,16 @@ fn combination(version: &str, family: &str) -> Option<ExitCode> {
     let version = versions.iter().find(|known| known.name() == version)?;
     let mut output = [0; combine_measure::OUTPUT_MOST];
     let answer = combine_measure::combine_once(*version, &input, &mut output);
+    println!("{answer:?}");
+    Some(ExitCode::SUCCESS)
+}
+
+fn grade(version: &str, family: &str) -> Option<ExitCode> {
+    let input = grades::named(family)?.input;
+    let versions: [&dyn Grader; 3] = [&Proved, &SAFE, &UNCHECKED];
+    let version = versions.iter().find(|known| known.name() == version)?;
+    let mut work = [0; grade_measure::WORK_ENTRIES];
+    let answer = grade_measure::grade_once(*version, &input, &mut work);
     println!("{answer:?}");
     Some(ExitCode::SUCCESS)
 }

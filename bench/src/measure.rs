@@ -310,7 +310,7 @@ pub fn print_counts(states: usize) {
     println!("|---|---|---|---|---|---|---|");
     for family in FAMILIES {
         let file = (family.make)(states).to_bytes();
-        let Work { spreads, edges } = count_work(&file, states);
+        let Work { spreads, edges, .. } = count_work(&file, states);
         println!(
             "| {} | {} | {} | {} | {} | {} | {} |",
             family.name, spreads[0], spreads[1], spreads[2], edges[0], edges[1], edges[2]

@@ -23,7 +23,7 @@ fn after_round(facts: &Facts, so_far: Record) -> Option<Record> {
 }
 
 /// Reason 12, or the reasons 1 to 11 of the file.
-fn admitted(verdict: &Verdict, work_len: usize) -> Result<&(Graph, Facts), u16> {
+pub fn admitted(verdict: &Verdict, work_len: usize) -> Result<&(Graph, Facts), u16> {
     let admitted = verdict.as_ref().map_err(|&number| number)?;
     if work_len < 6 * admitted.0.states() {
         return Err(12);

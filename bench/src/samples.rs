@@ -143,7 +143,12 @@ pub fn random_record(lot: &mut Random, rounds: usize, needed: usize) -> Record {
 
 /// A path of so many states from the start, as far as there is one: often a lasso, with a mark or without.
 pub fn walk(lot: &mut Random, graph: &Graph, entries: usize) -> Vec<u16> {
-    let mut path = vec![graph.start];
+    walk_from(lot, graph, graph.start, entries)
+}
+
+/// The same from another state.
+pub fn walk_from(lot: &mut Random, graph: &Graph, first: u16, entries: usize) -> Vec<u16> {
+    let mut path = vec![first];
     while path.len() < entries {
         let row = &graph.succs[path[path.len() - 1] as usize];
         if row.is_empty() {

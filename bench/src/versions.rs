@@ -2,9 +2,11 @@
 
 use std::marker::PhantomData;
 
-use crate::fahkelo::{self, CombineAnswer, NextAnswer, Record, SearchAnswer, StepAnswer};
+use crate::fahkelo::{
+    self, CombineAnswer, GradeAnswer, NextAnswer, Record, SearchAnswer, StepAnswer,
+};
 use crate::ported::access::{Access, Checked, Unchecked};
-use crate::ported::{combine, finder};
+use crate::ported::{combine, finder, grade};
 
 /// A finder with the three operations.
 pub trait Finder {
@@ -38,8 +40,24 @@ pub trait Combiner {
     ) -> CombineAnswer;
 }
 
+/// What grades a list with a claimed k.
+pub trait Grader {
+    fn name(&self) -> &'static str;
+    fn grade(&self, file: &[u8], list: &[u16], k: u16, work: &mut [u16]) -> GradeAnswer;
+}
+
 /// The proved library.
 pub struct Proved;
+
+impl Grader for Proved {
+    fn name(&self) -> &'static str {
+        "proved"
+    }
+
+    fn grade(&self, file: &[u8], list: &[u16], k: u16, work: &mut [u16]) -> GradeAnswer {
+        fahkelo::grade(file, list, k, work)
+    }
+}
 
 impl Combiner for Proved {
     fn name(&self) -> &'static str {
@@ -139,5 +157,15 @@ impl<A: Access> Combiner for Ported<A> {
         output: &mut [u8],
     ) -> CombineAnswer {
         combine::combine::<A>(rule, letters, property, output)
+    }
+}
+
+impl<A: Access> Grader for Ported<A> {
+    fn name(&self) -> &'static str {
+        self.0
+    }
+
+    fn grade(&self, file: &[u8], list: &[u16], k: u16, work: &mut [u16]) -> GradeAnswer {
+        grade::grade::<A>(file, list, k, work)
     }
 }

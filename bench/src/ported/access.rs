@@ -28,6 +28,14 @@ pub trait Access {
     /// An edge is looked at by a spread.
     #[inline(always)]
     fn edge() {}
+
+    /// An edge is looked for in a row.
+    #[inline(always)]
+    fn seek() {}
+
+    /// A place of the row is looked at.
+    #[inline(always)]
+    fn look() {}
 }
 
 /// With bounds checks.
@@ -89,16 +97,23 @@ impl Access for Unchecked {
     }
 }
 
-/// The work of one call, for each phase: spreads done, and edges looked at by them.
+/// The work of one call: for each phase, spreads done, and edges looked at by them; edges looked for in rows, the looks
+/// at places of rows for them, all and the most for one edge.
 #[derive(Clone, Copy, Debug, Default, PartialEq, Eq)]
 pub struct Work {
     pub spreads: [u64; 3],
     pub edges: [u64; 3],
+    pub sought: u64,
+    pub looks: u64,
+    pub most_looks: u64,
 }
 
 thread_local! {
     static PHASE: Cell<usize> = const { Cell::new(0) };
-    static WORK: Cell<Work> = const { Cell::new(Work { spreads: [0; 3], edges: [0; 3] }) };
+    static LOOKS: Cell<u64> = const { Cell::new(0) };
+    static WORK: Cell<Work> = const {
+        Cell::new(Work { spreads: [0; 3], edges: [0; 3], sought: 0, looks: 0, most_looks: 0 })
+    };
 }
 
 /// With bounds checks, counting.
@@ -145,5 +160,19 @@ impl Access for Counting {
 
     fn edge() {
         Self::add(|work, phase| work.edges[phase] += 1);
+    }
+
+    fn seek() {
+        LOOKS.set(0);
+        Self::add(|work, _| work.sought += 1);
+    }
+
+    fn look() {
+        let looks = LOOKS.get() + 1;
+        LOOKS.set(looks);
+        Self::add(|work, _| {
+            work.looks += 1;
+            work.most_looks = work.most_looks.max(looks);
+        });
     }
 }

@@ -1,7 +1,8 @@
 //! The three operations, with every refusal in order.
 
 use super::access::{Access, Phase};
-use super::model::{check, degree, is_marked, row_part, successor, Header};
+use super::model::{check, Header};
+use super::paths::is_lasso;
 use super::places::{advance, first, write_list};
 use super::rounds::{after_round, candidate_at, count_candidates, run_rounds, start_distances};
 use super::spread::{get, put};
@@ -170,34 +171,4 @@ fn load<A: Access>(list: &[u16], work: &mut [u16]) {
     for j in 1..list.len() {
         put::<A>(work, j - 1, get::<A>(list, j));
     }
-}
-
-fn is_lasso<A: Access>(file: &[u8], h: Header, list: &[u16], transitions: usize) -> bool {
-    list.len() == transitions + 1 && is_path::<A>(file, h, list) && closes::<A>(file, h, list)
-}
-
-fn has_edge<A: Access>(file: &[u8], h: Header, s: usize, t: usize) -> bool {
-    let part = row_part::<A>(file, h, s);
-    (0..degree(part, h)).any(|k| successor::<A>(part, s, k) == t)
-}
-
-fn is_path<A: Access>(file: &[u8], h: Header, list: &[u16]) -> bool {
-    get::<A>(list, 0) == h.start
-        && (1..list.len()).all(|j| has_edge::<A>(file, h, get::<A>(list, j - 1), get::<A>(list, j)))
-}
-
-fn closes<A: Access>(file: &[u8], h: Header, list: &[u16]) -> bool {
-    let end = list.len() - 1;
-    let last = get::<A>(list, end);
-    let mut marked = false;
-    for k in (0..end).rev() {
-        let s = get::<A>(list, k);
-        if is_marked::<A>(file, h, s) {
-            marked = true;
-        }
-        if marked && s == last {
-            return true;
-        }
-    }
-    false
 }

@@ -1,15 +1,18 @@
 //! The proved algorithms once more, in Rust. The search, step by step in the same table of 6 × N entries: what the
 //! crates model, frontier, spread, walks, candidates, round, rounds, starts, follow, listing, current, cursor, step,
 //! search and next do; its functions are divided otherwise, and lengths are plain numbers here. The combination,
-//! function by function: what the crates property, writer, pair_row, product_file and combine do. The text is shared by
-//! the versions with and without bounds checks.
+//! function by function: what the crates property, writer, pair_row, product_file and combine do. The grade, function
+//! by function: what the crates paths and grader do, over the rounds of the search. The text is shared by the versions
+//! with and without bounds checks.
 
 pub mod access;
 pub mod combine;
 pub mod finder;
 mod follow;
+pub mod grade;
 mod model;
 mod pair_row;
+mod paths;
 mod places;
 mod product_file;
 mod property;

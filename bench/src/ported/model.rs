@@ -202,6 +202,30 @@ pub fn successor<A: Access>(part: &[u8], s: usize, k: usize) -> usize {
     edge_target::<A>(part, k)
 }
 
+/// There is an edge from s to t. Successors ascend, so t is looked for in the middle of the places where it can stand,
+/// which halves them: it stands at none after place t.
+pub fn has_edge<A: Access>(file: &[u8], h: Header, s: usize, t: usize) -> bool {
+    A::seek();
+    let part = row_part::<A>(file, h, s);
+    let d = degree(part, h);
+    let mut low = 0;
+    let mut high = if t < d { t + 1 } else { d };
+    while low < high {
+        A::look();
+        let middle = low + (high - low) / 2;
+        let u = successor::<A>(part, s, middle);
+        if u == t {
+            return true;
+        }
+        if u < t {
+            low = middle + 1;
+        } else {
+            high = middle;
+        }
+    }
+    false
+}
+
 /// State s is marked.
 #[inline]
 pub fn is_marked<A: Access>(file: &[u8], h: Header, s: usize) -> bool {

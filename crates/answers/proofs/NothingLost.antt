@@ -2,6 +2,7 @@
 use Prim.Native.Nat.{ℕ, _≤_, _<_}
 use mathlib.Core.Path.{_≡_, refl, sym, _∙_, ap}
 use mathlib.Core.Bool.{Bool}
+use mathlib.Core.List.{List}
 use mathlib.Core.Option.{Option, some, none}
 use native.Mathlib.Omega.{arith}
 use borrow.Author.Tests.{lt-ltb}
@@ -13,20 +14,22 @@ use Rattle.model.specs.Model.{graphOf}
 use Rattle.lasso.specs.Roll.{roll}
 use Rattle.lasso.specs.Following.{following}
 use Rattle.outcomes.specs.Outcome.{Outcome, refused, answered}
+use Rattle.outcomes.specs.Tables.{written}
 use Rattle.step.specs.Step.{Stepped, finished, advanced, stepped}
 use Rattle.search.specs.Search.{Searched, stopped, empty, searched, searchReasons}
 use Rattle.next.specs.Next.{Followed, noMore, followed, nextReasons}
+use Rattle.grader.specs.Grade.{Said, accepting, shortest, Grade, gradeOf}
 use Rattle.gate.specs.Gate.{commonRules}
-use Rattle.answers.specs.Kinds.{Report, hasBest, bestFigure, recordGiven, stepReport, searchReport, nextReport, combineReport}
+use Rattle.answers.specs.Kinds.{Report, isThere, bestFigure, recordGiven, stepReport, searchReport, nextReport, combineReport, verdictKind, gradeReport, placeDue, placeIn}
 use Rattle.answers.specs.NothingLost.{Numbered, NothingLost}
 use Rattle.answers.proofs.Numbers.{broken-numbered}
 
 -- the record as it came out can be given to the next step
-given-back : (done : ℕ) (best : Option ℕ) → recordGiven done (hasBest best) (bestFigure best) ≡ record { done = done; best = best }
+given-back : (done : ℕ) (best : Option ℕ) → recordGiven done (isThere best) (bestFigure best) ≡ record { done = done; best = best }
 given-back done none = refl
 given-back done (some l) = refl
 
-record-back : (rec : Record) → recordGiven (rec .done) (hasBest (rec .best)) (bestFigure (rec .best)) ≡ rec
+record-back : (rec : Record) → recordGiven (rec .done) (isThere (rec .best)) (bestFigure (rec .best)) ≡ rec
 record-back rec = given-back (rec .done) (rec .best)
 
 -- the figure at a place of a report, and the record in its first three
@@ -79,6 +82,42 @@ combine-back : (o : Outcome ℕ) → Numbered 99 o → outcomeBack (combineRepor
 combine-back (refused n) h = refusal-back n 0 h
 combine-back (answered bytes) h = refl
 
+-- the verdict of a grade
+abbrev verdictIn : ℕ → Said
+verdictIn kind = pick (eqb kind 108) Said.false (pick (eqb kind 109) accepting shortest)
+
+-- the place that a figure and the first entry of the table stand for
+abbrev placeGiven : (has first : ℕ) → Option ℕ
+placeGiven has first = pick (eqb has 0) none (some first)
+
+-- the place is read off them, whatever stood in the table before
+place-back : (place : Option ℕ) (before : List ℕ) → placeGiven (isThere place) (getD (written (placeDue place) before) 0 0) ≡ place
+place-back none before = refl
+place-back (some j) before = refl
+
+-- the grade that a report and the first entry of the table come from
+abbrev gradeIn : Report → ℕ → Grade
+gradeIn r first = record { verdict = verdictIn (r .kind); place = placeGiven (reportFigure r 0) first }
+
+abbrev gradeBack : Report → ℕ → Outcome Grade
+gradeBack r first = outcomeBack r (gradeIn r first)
+
+verdict-back : (v : Said) (place : Option ℕ) (before : List ℕ)
+    → let o : Outcome Grade = answered (record { verdict = v; place = place }) in gradeBack (gradeReport o) (getD (placeIn before o) 0 0) ≡ o
+verdict-back Said.false place before = ap (λ (p : Option ℕ). answered (record { verdict = Said.false; place = p })) (place-back place before)
+verdict-back accepting place before = ap (λ (p : Option ℕ). answered (record { verdict = accepting; place = p })) (place-back place before)
+verdict-back shortest place before = ap (λ (p : Option ℕ). answered (record { verdict = shortest; place = p })) (place-back place before)
+
+grade-back : (o : Outcome Grade) (before : List ℕ) → Numbered 99 o → gradeBack (gradeReport o) (getD (placeIn before o) 0 0) ≡ o
+grade-back (refused n) before h = refusal-back n (gradeIn (gradeReport (refused n)) (getD before 0 0)) h
+grade-back (answered g) before h = verdict-back (g .verdict) (g .place) before
+
+-- equal reports with equal places come from equal grades
+grade-injective : (o p : Outcome Grade) (before-o before-p : List ℕ) → Numbered 99 o → Numbered 99 p
+    → gradeReport o ≡ gradeReport p → getD (placeIn before-o o) 0 0 ≡ getD (placeIn before-p p) 0 0 → o ≡ p
+grade-injective o p before-o before-p h i same-report same-place =
+    sym (grade-back o before-o h) ∙ (λ j. gradeBack (same-report j) (same-place j)) ∙ grade-back p before-p i
+
 -- equal reports come from equal outcomes, where the outcome is read off its report
 injective : {A : Type 0} (report : Outcome A → Report) (back : Report → Outcome A)
     → ((o : Outcome A) → Numbered 99 o → back (report o) ≡ o)
@@ -99,33 +138,37 @@ next-kinds : (a : Followed) → 100 < nextReport (answered a) .kind
 next-kinds (Followed.found l k) = omega arith
 next-kinds noMore = omega arith
 
+grade-kinds : (v : Said) → 100 < verdictKind v
+grade-kinds Said.false = omega arith
+grade-kinds accepting = omega arith
+grade-kinds shortest = omega arith
+
 -- nothing is lost
 pub nothing-lost : NothingLost
 nothing-lost = record {
   step = record {
-    refusals = λ n. refl;
-    kinds = step-kinds;
+    reports = record { refusals = λ n. refl; kinds = step-kinds };
     injective = injective stepReport (λ (r : Report). outcomeBack r (steppedIn r)) step-back;
   };
   search = record {
-    refusals = λ n. refl;
-    kinds = search-kinds;
+    reports = record { refusals = λ n. refl; kinds = search-kinds };
     injective = injective searchReport (λ (r : Report). outcomeBack r (searchedIn r)) search-back;
   };
   next = record {
-    refusals = λ n. refl;
-    kinds = next-kinds;
+    reports = record { refusals = λ n. refl; kinds = next-kinds };
     injective = injective nextReport (λ (r : Report). outcomeBack r (followedIn r)) next-back;
   };
   combine = record {
-    refusals = λ n. refl;
-    kinds = λ bytes. omega arith;
+    reports = record { refusals = λ n. refl; kinds = λ bytes. omega arith };
     injective = injective combineReport (λ (r : Report). outcomeBack r (reportFigure r 0)) combine-back;
   };
+  grade = record { refusals = λ n. refl; kinds = λ g. grade-kinds (g .verdict) };
+  grade-injective = grade-injective;
   step-numbers = λ f rec work. broken-numbered 12 (stepped (graphOf f) rec) (commonRules f work) tt;
   search-numbers = λ f ask answer work.
       broken-numbered 15 (searched (graphOf f) ask) (searchReasons f ask answer work) tt;
   next-numbers = λ f earlier answer work.
       broken-numbered 15 (followed (following earlier (roll (graphOf f)))) (nextReasons f earlier answer work) tt;
+  grade-numbers = λ f xs k work. broken-numbered 12 (gradeOf (graphOf f) xs k) (commonRules f work) tt;
   record-back = record-back;
 }

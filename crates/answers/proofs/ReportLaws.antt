@@ -10,7 +10,9 @@ use lib.Seq.{take-all, take-suc, take-suc-set, drop-set-lt, drop-drop}
 use Rattle.lasso.specs.declared.Best.{Best}
 use Rattle.lasso.specs.Values.{bestOf}
 use Rattle.outcomes.specs.Tables.{written}
-use Rattle.answers.specs.Kinds.{Report, recordFigures, figuresIn}
+use Rattle.grader.specs.declared.GradeAnswer.{GradeAnswer}
+use Rattle.grader.specs.Grade.{gradeOutcomeOf}
+use Rattle.answers.specs.Kinds.{Report, recordFigures, figuresIn, placeIn}
 
 -- one figure more: as many entries are the figures, the others as before
 pub figure-more : (figures out₀ out : List ℕ) (i : ℕ) → i < length figures → i < length out → take i out ≡ take i figures
@@ -50,3 +52,8 @@ pub reports-known : {A : Type 0} (report : A → Report) (out : List ℕ) {kind 
     → (kind ≡ report answer .kind) × (after ≡ figuresIn out (report answer))
 reports-known report out e k p =
     (k ∙ ap (λ x. report x .kind) (sym e), p ∙ ap (λ x. figuresIn out (report x)) (sym e))
+
+-- the table of the place after a grade that is known
+pub place-known : (table : List ℕ) {after : List ℕ} {answer known : GradeAnswer} → answer ≡ known → after ≡ placeIn table (gradeOutcomeOf known)
+    → after ≡ placeIn table (gradeOutcomeOf answer)
+place-known table e p = p ∙ ap (λ (x : GradeAnswer). placeIn table (gradeOutcomeOf x)) (sym e)

@@ -10,16 +10,17 @@ use Rattle.outcomes.specs.Tables.{written}
 use Rattle.step.specs.Step.{Stepped, finished, advanced}
 use Rattle.search.specs.Search.{Searched, stopped, empty}
 use Rattle.next.specs.Next.{Followed, noMore}
+use Rattle.grader.specs.Grade.{Said, accepting, shortest, Grade}
 
 -- A kind of answer, or the number of a refusal in its place, with its figures in order.
 pub record Report : Type 0 where
   pub kind : ℕ
   pub figures : List ℕ
 
--- whether there is a best length: 0 for none, else 1
-abbrev pub hasBest : Option ℕ → ℕ
-hasBest none = 0
-hasBest (some l) = 1
+-- whether there is one, a best length or a place: 0 for none, else 1
+abbrev pub isThere : Option ℕ → ℕ
+isThere none = 0
+isThere (some x) = 1
 
 -- the best length: 0 for none
 abbrev pub bestFigure : Option ℕ → ℕ
@@ -28,7 +29,7 @@ bestFigure (some l) = l
 
 -- the three figures of a record: the rounds done, whether there is a best length, and that length
 abbrev pub recordFigures : Record → List ℕ
-recordFigures rec = rec .done ∷ hasBest (rec .best) ∷ bestFigure (rec .best) ∷ []
+recordFigures rec = rec .done ∷ isThere (rec .best) ∷ bestFigure (rec .best) ∷ []
 
 -- the record that three figures stand for: every `has` but 0 says that there is a best length
 abbrev pub recordGiven : (done has best : ℕ) → Record
@@ -62,6 +63,27 @@ abbrev pub combineReport : Outcome ℕ → Report
 combineReport (refused n) = refusal n
 combineReport (answered bytes) = record { kind = 107; figures = bytes ∷ [] }
 
+-- the kind of a verdict: 108 false, 109 accepting, 110 shortest
+abbrev pub verdictKind : Said → ℕ
+verdictKind Said.false = 108
+verdictKind accepting = 109
+verdictKind shortest = 110
+
+-- a grade: the kind of its verdict, and whether there is a place where the list breaks (1 or 0)
+abbrev pub gradeReport : Outcome Grade → Report
+gradeReport (refused n) = refusal n
+gradeReport (answered g) = record { kind = verdictKind (g .verdict); figures = isThere (g .place) ∷ [] }
+
 -- a table afterwards: the figures from entry 0 on; later entries do not change
 abbrev pub figuresIn : List ℕ → Report → List ℕ
 figuresIn out r = written (some (r .figures)) out
+
+-- what is written to the table that is lent for a place: the place, if there is one
+abbrev pub placeDue : Option ℕ → Option (List ℕ)
+placeDue none = none
+placeDue (some j) = some (j ∷ [])
+
+-- that table after a grade: the place at entry 0; no other entry changes, and none does where there is no place
+abbrev pub placeIn : List ℕ → Outcome Grade → List ℕ
+placeIn table (refused n) = table
+placeIn table (answered g) = written (placeDue (g .place)) table

@@ -1,36 +1,47 @@
 -- What a report tells: a refusal by its number, which is below 100, every other answer by a kind above 100. Nothing is
--- lost: equal reports come from equal answers.
+-- lost: equal reports come from equal answers; of grades, equal reports with equal places.
 use Prim.Native.Nat.{ℕ, _≤_, _<_}
 use mathlib.Core.Path.{_≡_}
 use mathlib.Core.List.{List}
+use lib.ListN.{getD}
 use Rattle.gate.specs.declared.Ask.{Ask}
 use Rattle.lasso.specs.Rounds.{Record}
 use Rattle.outcomes.specs.Outcome.{Outcome, refused, answered}
 use Rattle.step.specs.Step.{stepOutcome}
 use Rattle.search.specs.Search.{searchOutcome}
 use Rattle.next.specs.Next.{nextOutcome}
-use Rattle.answers.specs.Kinds.{Report, hasBest, bestFigure, recordGiven, refusal, stepReport, searchReport, nextReport, combineReport}
+use Rattle.grader.specs.Grade.{Grade, gradeOutcome}
+use Rattle.answers.specs.Kinds.{Report, isThere, bestFigure, recordGiven, refusal, stepReport, searchReport, nextReport, combineReport, gradeReport, placeIn}
 
 -- the number of a refusal is one of 1 to so many
 abbrev pub Numbered : {A : Type 0} → ℕ → Outcome A → Type 0
 Numbered most (refused n) = (1 ≤ n) × (n ≤ most)
 Numbered most (answered a) = Unit {0}
 
--- A report of a call's outcomes: a refusal is its number with no figures, every other answer has a kind above 100, and
--- equal reports come from equal outcomes if their refusals have numbers below 100.
-pub record Tells {A : Type 0} (report : Outcome A → Report) : Type 0 where
+-- A report of a call's outcomes: a refusal is its number with no figures, every other answer has a kind above 100.
+pub record Reports {A : Type 0} (report : Outcome A → Report) : Type 0 where
   pub refusals : (n : ℕ) → report (refused n) ≡ refusal n
   pub kinds : (a : A) → 100 < report (answered a) .kind
+
+-- A report that tells the outcome: equal reports come from equal outcomes if their refusals have numbers below 100.
+pub record Tells {A : Type 0} (report : Outcome A → Report) : Type 0 where
+  pub reports : Reports report
   pub injective : (o p : Outcome A) → Numbered 99 o → Numbered 99 p → report o ≡ report p → o ≡ p
 
--- Nothing is lost: so are the four reports, every refusal of a search or next has a number from 1 to 15, a step's from 1 to
--- 12, and the record that comes out of a step is the one that its figures give to the next.
+-- Nothing is lost: so are the reports of all but a grade, whose report does not hold the place where the list breaks. With
+-- the first entry of the table that is lent for the place it tells the grade, whatever stood in that table before. Every
+-- refusal of a search or next has a number from 1 to 15, a step's and a grade's from 1 to 12, and the record that comes out
+-- of a step is the one that its figures give to the next.
 pub record NothingLost : Type 0 where
   pub step : Tells stepReport
   pub search : Tells searchReport
   pub next : Tells nextReport
   pub combine : Tells combineReport
+  pub grade : Reports gradeReport
+  pub grade-injective : (o p : Outcome Grade) (before-o before-p : List ℕ) → Numbered 99 o → Numbered 99 p
+      → gradeReport o ≡ gradeReport p → getD (placeIn before-o o) 0 0 ≡ getD (placeIn before-p p) 0 0 → o ≡ p
   pub step-numbers : (f : List ℕ) (rec : Record) (work : ℕ) → Numbered 12 (stepOutcome f rec work)
   pub search-numbers : (f : List ℕ) (ask : Ask) (answer work : ℕ) → Numbered 15 (searchOutcome f ask answer work)
   pub next-numbers : (f earlier : List ℕ) (answer work : ℕ) → Numbered 15 (nextOutcome f earlier answer work)
-  pub record-back : (rec : Record) → recordGiven (rec .done) (hasBest (rec .best)) (bestFigure (rec .best)) ≡ rec
+  pub grade-numbers : (f xs : List ℕ) (k work : ℕ) → Numbered 12 (gradeOutcome f xs k work)
+  pub record-back : (rec : Record) → recordGiven (rec .done) (isThere (rec .best)) (bestFigure (rec .best)) ≡ rec

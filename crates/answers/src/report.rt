@@ -9,10 +9,15 @@ ghost use Rattle.outcomes.specs.Tables.{written};
 ghost use Rattle.step.specs.Step.{stepOutcomeOf};
 ghost use Rattle.search.specs.Search.{searchOutcomeOf};
 ghost use Rattle.next.specs.Next.{nextOutcomeOf};
+ghost use Rattle.grader.specs.Grade.{verdictOf, gradeOutcomeOf};
 ghost use Rattle.answers.specs.Kinds.{recordFigures, stepReport, searchReport, nextReport, figuresIn};
+ghost use Rattle.answers.specs.Kinds.{verdictKind, gradeReport, placeIn};
+use grader::GradeAnswer;
+use grader::Verdict;
 use lasso::Best;
 use lasso::RoundRecord;
 use next::NextAnswer;
+use paths::FirstBreak;
 use search::SearchAnswer;
 use step::StepAnswer;
 
@@ -28,6 +33,12 @@ const NO_MORE: u16 = 104;
 const FINISHED: u16 = 105;
 
 const ADVANCED: u16 = 106;
+
+const FALSE: u16 = 108;
+
+const ACCEPTING: u16 = 109;
+
+const SHORTEST: u16 = 110;
 
 // Reports a kind with its figures: they go to the front of the table.
 fn report_figures(kind: u16, figures: &[u16], out: &mut [u16]) -> u16
@@ -94,5 +105,44 @@ pub fn report_next(answer: NextAnswer, out: &mut [u16]) -> u16
         NextAnswer::Refused(number) => report_figures(number, &[], out),
         NextAnswer::Found(l, k) => report_figures(FOUND, &[l.0, k], out),
         NextAnswer::NoMore => report_figures(NO_MORE, &[], out),
+    }
+}
+
+// The kind of a verdict.
+fn kind_of(v: Verdict) -> u16
+    ensures { λ r. ⌜ r ≡ verdictKind (verdictOf v) ⌝ }
+{
+    match v {
+        Verdict::False => FALSE,
+        Verdict::Accepting => ACCEPTING,
+        Verdict::Shortest => SHORTEST,
+    }
+}
+
+// Reports the answer of the grader: the one figure is whether there is a place where the list breaks. The place itself goes
+// to a table of its own, and nothing goes there if there is none.
+pub fn report_grade(answer: GradeAnswer, place: &mut [usize], out: &mut [u16]) -> u16
+    requires { ⌜ 1 ≤ length (now place) ⌝ }
+    requires { ⌜ 1 ≤ length (now out) ⌝ }
+    ensures kind { λ r. ⌜ r ≡ gradeReport (gradeOutcomeOf answer) .kind ⌝ }
+    ensures out { λ _. ⌜ now (out .exit) ≡ figuresIn (now (out .entry)) (gradeReport (gradeOutcomeOf answer)) ⌝ }
+    ensures place { λ _. ⌜ now (place .exit) ≡ placeIn (now (place .entry)) (gradeOutcomeOf answer) ⌝ }
+{
+    match answer {
+        GradeAnswer::Refused(number) => number,
+        GradeAnswer::Graded(v, broken) => {
+            let kind = kind_of(v);
+            match broken {
+                FirstBreak::None => {
+                    out[0] = 0;
+                    kind
+                }
+                FirstBreak::At(j) => {
+                    place[0] = j;
+                    out[0] = 1;
+                    kind
+                }
+            }
+        }
     }
 }

@@ -1,7 +1,8 @@
 -- A refused call changes nothing that was lent but the working table: a refusal has no figures, and no list is written.
 use Prim.Native.Nat.{ℕ, _≤_, _<_}
 use mathlib.Core.Path.{_≡_, refl, sym, _∙_, ap}
-use mathlib.Core.Bool.{Bool, true, false}
+use mathlib.Core.Bool.{Bool, true, false, _||_}
+use mathlib.Core.Logic.{_⊎_, inl, inr, ⊎-elim}
 use mathlib.Core.List.{List}
 use mathlib.Core.Option.{Option, some, none}
 use native.Mathlib.Omega.{arith}
@@ -18,89 +19,129 @@ use Rattle.outcomes.specs.Tables.{written, unlessRefused}
 use Rattle.step.specs.Step.{stepOutcome}
 use Rattle.search.specs.Search.{searched, firstDue, searchReasons, searchOutcome}
 use Rattle.next.specs.Next.{followed, nextReasons, nextOutcome}
+use Rattle.grader.specs.Grade.{Grade, gradeOutcome}
 use Rattle.combine.specs.Combine.{combinedFile, combineReasons, combineBroken, combineOutcome}
-use Rattle.answers.specs.Kinds.{Report, figuresIn, refusal, stepReport, searchReport, nextReport, combineReport}
-use Rattle.answers.specs.NothingLost.{Numbered, Tells}
+use Rattle.answers.specs.Kinds.{Report, figuresIn, refusal, stepReport, searchReport, nextReport, combineReport, gradeReport, placeIn}
+use Rattle.answers.specs.NothingLost.{Numbered, Reports}
 use Rattle.answers.proofs.Numbers.{broken-numbered}
 use Rattle.answers.proofs.NothingLost.{nothing-lost}
-use Rattle.capi.specs.Interface.{outTooShort}
-use Rattle.capi.specs.Refusals.{Value, RefusalsChangeNothing}
+use Rattle.capi.specs.Interface.{outTooShort, outShort, placeShort}
+use Rattle.capi.specs.Refusals.{Value, ShortOut, RefusalsChangeNothing}
 
-module _ {A : Type 0} (most : ℕ) (small : most ≤ 99) (out : List ℕ) where
-  -- an `out` that is too short
-  value-short : (o : Outcome A) → ltb (length out) 4 ≡ true → Value most o out outTooShort
-  value-short o e = record {
+-- A test decides a statement.
+record Decides (b : Bool) (P : Type 0) : Type 0 where
+  holds : b ≡ true → P
+  fails : b ≡ false → P → ⊥
+
+-- the test of `out`
+out-decides : (out : List ℕ) → Decides (outShort out) (ShortOut out)
+out-decides out = record {
+  holds = ltb-true (length out) 4;
+  fails = λ e s. omega (arith, ltb-false (length out) 4 e);
+}
+
+-- one test or another decides whether one of two statements holds
+either-decides : (a b : Bool) {P Q : Type 0} → Decides a P → Decides b Q → Decides (a || b) (P ⊎ Q)
+either-decides true b d e = record {
+  holds = λ t. inl (d .holds refl);
+  fails = λ t. let z : _≡_ {A = ℕ} 0 1 = cc in absurd (omega arith);
+}
+either-decides false b d e = record {
+  holds = λ t. inr (e .holds t);
+  fails = λ t. ⊎-elim (d .fails refl) (e .fails t);
+}
+
+-- the test of `out` and of the table for a place
+place-decides : (place out : List ℕ) → Decides (placeShort place out) (ShortOut out ⊎ (length place < 1))
+place-decides place out =
+    either-decides (outShort out) (ltb (length place) 1) (out-decides out)
+    (record { holds = ltb-true (length place) 1; fails = λ e s. omega (arith, ltb-false (length place) 1 e) })
+
+module _ {A : Type 0} (most : ℕ) (small : most ≤ 99) (Short : Type 0) (out : List ℕ) where
+  -- a table that is too short
+  value-short : (o : Outcome A) → Short → Value most o Short out outTooShort
+  value-short o s = record {
     number = λ l. absurd (omega arith);
     range = λ l. absurd (omega arith);
-    refusals = λ n q room. absurd (omega (arith, ltb-true (length out) 4 e));
-    short = (λ q. ltb-true (length out) 4 e, λ l. refl);
+    refusals = λ n q enough. absurd (enough s);
+    short = (λ q. s, λ l. refl);
     unchanged = λ l. refl;
     kinds = λ l. absurd (omega arith);
   }
 
   -- a refusal
-  value-refused : (n : ℕ) (r : Report) → r ≡ refusal n → (1 ≤ n) × (n ≤ most) → 4 ≤ length out → Value {A = A} most (refused n) out r
-  value-refused n r e (least, in-range) room =
+  value-refused : (n : ℕ) (r : Report) → r ≡ refusal n → (1 ≤ n) × (n ≤ most) → (Short → ⊥) → Value {A = A} most (refused n) Short out r
+  value-refused n r e (least, in-range) enough =
       let k : r .kind ≡ n = ap (λ (x : Report). x .kind) e in
       record {
         number = λ l. ap refused (sym k);
         range = λ l. (omega arith, omega arith);
         refusals = λ m q l. let same : n ≡ m = cc in k ∙ same;
-        short = (λ q. absurd (omega arith), λ l. absurd (omega arith));
+        short = (λ q. absurd (omega arith), λ s. absurd (enough s));
         unchanged = λ l. ap (figuresIn out) e;
         kinds = λ l. absurd (omega arith);
       }
 
   -- an answer
-  value-answered : (a : A) (r : Report) → 100 < r .kind → 4 ≤ length out → Value most (answered a) out r
-  value-answered a r above room = record {
+  value-answered : (a : A) (r : Report) → 100 < r .kind → (Short → ⊥) → Value most (answered a) Short out r
+  value-answered a r above enough = record {
     number = λ l. absurd (omega arith);
     range = λ l. absurd (omega arith);
     refusals = λ m q l. let z : _≡_ {A = ℕ} 0 1 = cc in absurd (omega arith);
-    short = (λ q. absurd (omega arith), λ l. absurd (omega arith));
+    short = (λ q. absurd (omega arith), λ s. absurd (enough s));
     unchanged = λ l. absurd (omega arith);
     kinds = λ l. (a, refl);
   }
 
-  module _ (report : Outcome A → Report) (tells : Tells report) where
-    -- what a report tells, the test of `out` being decided
-    value-decided : (b : Bool) → ltb (length out) 4 ≡ b → (o : Outcome A) → Numbered most o
-        → Value most o out (pick b outTooShort (report o))
-    value-decided true e o h = value-short o e
-    value-decided false e (refused n) h = value-refused n (report (refused n)) (tells .refusals n) h (ltb-false (length out) 4 e)
-    value-decided false e (answered a) h = value-answered a (report (answered a)) (tells .kinds a) (ltb-false (length out) 4 e)
-
-    pub value-told : (o : Outcome A) → Numbered most o → Value most o out (pick (ltb (length out) 4) outTooShort (report o))
-    value-told = value-decided (ltb (length out) 4) refl
+  -- what a report tells, the test of the tables being decided
+  value-told : (report : Outcome A → Report) → Reports report → (short : Bool) → Decides short Short → (o : Outcome A)
+      → Numbered most o → Value most o Short out (pick short outTooShort (report o))
+  value-told report is true d o h = value-short o (d .holds refl)
+  value-told report is false d (refused n) h = value-refused n (report (refused n)) (is .refusals n) h (d .fails refl)
+  value-told report is false d (answered a) h = value-answered a (report (answered a)) (is .kinds a) (d .fails refl)
 
 -- what a call writes to, if it tells no answer
-answer-untold : {A : Type 0} (report : Outcome A → Report) → Tells report → (x : A) (due : Option (List ℕ)) (a : List ℕ) (short : Bool) (broken : Option ℕ)
+answer-untold : {A : Type 0} (report : Outcome A → Report) → Reports report → (x : A) (due : Option (List ℕ)) (a : List ℕ) (short : Bool) (broken : Option ℕ)
     → pick short outTooShort (report (outcome broken x)) .kind ≤ 100 → pick short a (written (unlessRefused broken due) a) ≡ a
-answer-untold report tells x due a true broken l = refl
-answer-untold report tells x due a false (some n) l = refl
-answer-untold report tells x due a false none l = absurd (omega (arith, tells .kinds x))
+answer-untold report is x due a true broken l = refl
+answer-untold report is x due a false (some n) l = refl
+answer-untold report is x due a false none l = absurd (omega (arith, is .kinds x))
+
+-- the table for a place, if no grade is told
+place-untold : (place : List ℕ) (short : Bool) (o : Outcome Grade) → pick short outTooShort (gradeReport o) .kind ≤ 100
+    → pick short place (placeIn place o) ≡ place
+place-untold place true o l = refl
+place-untold place false (refused n) l = refl
+place-untold place false (answered g) l = absurd (omega (arith, nothing-lost .grade .kinds g))
 
 -- a refused call changes nothing that was lent but the working table
 pub refusals-change-nothing : RefusalsChangeNothing
 refusals-change-nothing = record {
   step = λ f rec w out.
-      value-told 12 (omega arith) out stepReport (nothing-lost .step) (stepOutcome f rec (length w)) (nothing-lost .step-numbers f rec (length w));
+      value-told 12 (omega arith) (ShortOut out) out stepReport (nothing-lost .step .reports) (outShort out) (out-decides out) (stepOutcome f rec (length w)) (nothing-lost .step-numbers f rec (length w));
   search = λ f ask a w out.
-      value-told 15 (omega arith) out searchReport (nothing-lost .search) (searchOutcome f ask (length a) (length w))
+      value-told 15 (omega arith) (ShortOut out) out searchReport (nothing-lost .search .reports) (outShort out) (out-decides out)
+      (searchOutcome f ask (length a) (length w))
       (nothing-lost .search-numbers f ask (length a) (length w));
   next = λ f earlier a w out.
-      value-told 15 (omega arith) out nextReport (nothing-lost .next) (nextOutcome f earlier (length a) (length w))
+      value-told 15 (omega arith) (ShortOut out) out nextReport (nothing-lost .next .reports) (outShort out) (out-decides out)
+      (nextOutcome f earlier (length a) (length w))
       (nothing-lost .next-numbers f earlier (length a) (length w));
+  grade = λ f xs k place w out.
+      value-told 12 (omega arith) (ShortOut out ⊎ (length place < 1)) out gradeReport (nothing-lost .grade) (placeShort place out)
+      (place-decides place out) (gradeOutcome f xs k (length w)) (nothing-lost .grade-numbers f xs k (length w));
   combine = λ f letters p output out.
-      value-told 18 (omega arith) out combineReport (nothing-lost .combine) (combineOutcome f letters p (length output))
+      value-told 18 (omega arith) (ShortOut out) out combineReport (nothing-lost .combine .reports) (outShort out) (out-decides out)
+      (combineOutcome f letters p (length output))
       (broken-numbered 18 (length (combinedFile f letters p)) (combineReasons f letters p (length output)) tt);
   search-answer = λ f ask a w out.
-      answer-untold searchReport (nothing-lost .search) (searched (graphOf f) ask) (firstDue (graphOf f) ask) a
-      (ltb (length out) 4) (firstBroken (searchReasons f ask (length a) (length w)));
+      answer-untold searchReport (nothing-lost .search .reports) (searched (graphOf f) ask) (firstDue (graphOf f) ask) a
+      (outShort out) (firstBroken (searchReasons f ask (length a) (length w)));
   next-answer = λ f earlier a w out.
-      answer-untold nextReport (nothing-lost .next) (followed (following earlier (roll (graphOf f)))) (following earlier (roll (graphOf f))) a
-      (ltb (length out) 4) (firstBroken (nextReasons f earlier (length a) (length w)));
+      answer-untold nextReport (nothing-lost .next .reports) (followed (following earlier (roll (graphOf f)))) (following earlier (roll (graphOf f))) a
+      (outShort out) (firstBroken (nextReasons f earlier (length a) (length w)));
+  grade-place = λ f xs k place w out. place-untold place (placeShort place out) (gradeOutcome f xs k (length w));
   combine-output = λ f letters p output out.
-      answer-untold combineReport (nothing-lost .combine) (length (combinedFile f letters p)) (some (combinedFile f letters p)) output
-      (ltb (length out) 4) (combineBroken f letters p (length output));
+      answer-untold combineReport (nothing-lost .combine .reports) (length (combinedFile f letters p)) (some (combinedFile f letters p)) output
+      (outShort out) (combineBroken f letters p (length output));
 }

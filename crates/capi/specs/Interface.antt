@@ -1,5 +1,6 @@
 -- What the C functions do: the report of a call, and the tables afterwards.
 use Prim.Native.Nat.{ℕ}
+use mathlib.Core.Bool.{Bool, _||_}
 use mathlib.Core.List.{List, []}
 use lib.ListN.{length}
 use lib.Dec.{ltb}
@@ -10,16 +11,29 @@ use Rattle.gate.specs.Gate.{workOf}
 use Rattle.step.specs.Step.{stepOutcome}
 use Rattle.search.specs.Search.{searchOutcome, searchAnswer}
 use Rattle.next.specs.Next.{nextOutcome, nextAnswer}
+use Rattle.grader.specs.Grade.{gradeOutcome}
 use Rattle.combine.specs.Combine.{combineOutcome, combineOutput}
-use Rattle.answers.specs.Kinds.{Report, stepReport, searchReport, nextReport, combineReport}
+use Rattle.answers.specs.Kinds.{Report, stepReport, searchReport, nextReport, combineReport, gradeReport, placeIn}
 
--- 100, with no figures: `out` has fewer than 4 entries
+-- 100, with no figures: a table that every answer needs is too short
 abbrev pub outTooShort : Report
 outTooShort = record { kind = 100; figures = [] }
 
+-- `out` has fewer than 4 entries
+abbrev pub outShort : List ℕ → Bool
+outShort out = ltb (length out) 4
+
 -- what happens with `out` as it is: the one thing if it has fewer than 4 entries, else the other
 abbrev pub ifShort : {A : Type 0} → List ℕ → A → A → A
-ifShort out short enough = pick (ltb (length out) 4) short enough
+ifShort out short enough = pick (outShort out) short enough
+
+-- `out` has fewer than 4 entries, or the table for a place has none
+abbrev pub placeShort : (place out : List ℕ) → Bool
+placeShort place out = outShort out || ltb (length place) 1
+
+-- what happens with both as they are
+abbrev pub ifPlaceShort : {A : Type 0} → (place out : List ℕ) → A → A → A
+ifPlaceShort place out short enough = pick (placeShort place out) short enough
 
 -- the report of a step on a file from a record, lent the working table and `out`
 abbrev pub stepCall : List ℕ → Record → (w out : List ℕ) → Report
@@ -33,6 +47,10 @@ searchCall f ask a w out = ifShort out outTooShort (searchReport (searchOutcome 
 abbrev pub nextCall : (f earlier a w out : List ℕ) → Report
 nextCall f earlier a w out = ifShort out outTooShort (nextReport (nextOutcome f earlier (length a) (length w)))
 
+-- the report of a grade of a list with a claimed k, lent a table for the place too
+abbrev pub gradeCall : (f xs : List ℕ) → ℕ → (place w out : List ℕ) → Report
+gradeCall f xs k place w out = ifPlaceShort place out outTooShort (gradeReport (gradeOutcome f xs k (length w)))
+
 -- the report of a combination, lent the output
 abbrev pub combineCall : (f letters p output out : List ℕ) → Report
 combineCall f letters p output out = ifShort out outTooShort (combineReport (combineOutcome f letters p (length output)))
@@ -45,6 +63,10 @@ answerAfterSearch f ask a w out = ifShort out a (searchAnswer f ask a (length w)
 abbrev pub answerAfterNext : (f earlier a w out : List ℕ) → List ℕ
 answerAfterNext f earlier a w out = ifShort out a (nextAnswer f earlier a (length w))
 
+-- the table for the place after a grade: untouched if it or `out` is too short
+abbrev pub placeAfterGrade : (f xs : List ℕ) → ℕ → (place w out : List ℕ) → List ℕ
+placeAfterGrade f xs k place w out = ifPlaceShort place out place (placeIn place (gradeOutcome f xs k (length w)))
+
 -- the output after a combination: untouched if `out` is too short
 abbrev pub outputAfterCombine : (f letters p output out : List ℕ) → List ℕ
 outputAfterCombine f letters p output out = ifShort out output (combineOutput f letters p output)
@@ -52,3 +74,7 @@ outputAfterCombine f letters p output out = ifShort out output (combineOutput f 
 -- the working table after step, search and next: untouched if `out` is too short
 abbrev pub workAfterCall : (f w out : List ℕ) → List ℕ
 workAfterCall f w out = ifShort out w (workOf f w)
+
+-- and after a grade: untouched if `out` or the table for the place is too short
+abbrev pub workAfterGrade : (f place w out : List ℕ) → List ℕ
+workAfterGrade f place w out = ifPlaceShort place out w (workOf f w)

@@ -1,6 +1,7 @@
-// The C interface: step, search, next and combine under plain names, with answers as numbers. What is returned is the
-// number of the refusal, 1 to 99, or the kind of answer, whose figures go to `out`: a refused call changes nothing there.
-// With fewer than 4 entries in `out` the answer is 100 and nothing at all is done.
+// The C interface: step, search, next, grade and combine under plain names, with answers as numbers. What is returned is
+// the number of the refusal, 1 to 99, or the kind of answer, whose figures go to `out`: a refused call changes nothing
+// there. With fewer than 4 entries in `out` the answer is 100 and nothing at all is done; so it is for a grade whose table
+// for the place has no entry.
 ghost use mathlib.Core.Path.{_≡_};
 ghost use Prim.Native.Nat.{_≤_};
 ghost use lib.ListN.{length};
@@ -8,15 +9,18 @@ ghost use Rattle.lasso.specs.Values.{recordOf};
 ghost use Rattle.combine.specs.Combine.{combineOutcomeOf};
 ghost use Rattle.answers.specs.Kinds.{recordGiven, figuresIn, combineReport};
 ghost use Rattle.gate.specs.Gate.{asking};
-ghost use Rattle.capi.specs.Interface.{stepCall, searchCall, nextCall, combineCall};
+ghost use Rattle.capi.specs.Interface.{stepCall, searchCall, nextCall, gradeCall, combineCall};
 ghost use Rattle.capi.specs.Interface.{answerAfterSearch, answerAfterNext, outputAfterCombine, workAfterCall};
+ghost use Rattle.capi.specs.Interface.{placeAfterGrade, workAfterGrade};
 ghost use Rattle.capi.specs.Figures.{FigureFits};
+use answers::report_grade;
 use answers::report_next;
 use answers::report_search;
 use answers::report_step;
 use combine::CombineAnswer;
 use combine::combine;
 use gate::Ask;
+use grader::grade;
 use lasso::Best;
 use lasso::RoundRecord;
 use lasso::Transitions;
@@ -27,7 +31,10 @@ use step::step;
 // The entries that `out` must have.
 const OUT_ENTRIES: usize = 4;
 
-// The kind of answer if it has fewer.
+// The entries that the table for a place must have.
+const PLACE_ENTRIES: usize = 1;
+
+// The kind of answer if one of them has fewer.
 const OUT_TOO_SHORT: u16 = 100;
 
 // The kind of answer of a combination that was written.
@@ -124,6 +131,35 @@ pub extern "C" fn fahkelo_next(
     }
     let followed = next(file, earlier, answer, work);
     report_next(followed, out)
+}
+
+// The grade of a list with a claimed k; the first place where it breaks is written to the table for it.
+#[no_mangle]
+pub extern "C" fn fahkelo_grade(
+    file: &[u8],
+    list: &[u16],
+    k: u16,
+    place: &mut [usize],
+    work: &mut [u16],
+    out: &mut [u16],
+) -> u16
+    ensures value { λ r. ⌜ r ≡ gradeCall (now (file .entry)) (now (list .entry)) k
+        (now (place .entry)) (now (work .entry)) (now (out .entry)) .kind ⌝ }
+    ensures out { λ _. ⌜ now (out .exit) ≡ figuresIn (now (out .entry)) (gradeCall (now (file .entry))
+        (now (list .entry)) k (now (place .entry)) (now (work .entry)) (now (out .entry))) ⌝ }
+    ensures place { λ _. ⌜ now (place .exit) ≡ placeAfterGrade (now (file .entry)) (now (list .entry)) k
+        (now (place .entry)) (now (work .entry)) (now (out .entry)) ⌝ }
+    ensures work { λ _. ⌜ now (work .exit) ≡ workAfterGrade (now (file .entry)) (now (place .entry))
+        (now (work .entry)) (now (out .entry)) ⌝ }
+{
+    if out.len() < OUT_ENTRIES {
+        return OUT_TOO_SHORT;
+    }
+    if place.len() < PLACE_ENTRIES {
+        return OUT_TOO_SHORT;
+    }
+    let graded = grade(file, list, k, work);
+    report_grade(graded, place, out)
 }
 
 // Reports the answer of a combination: its number of bytes is the one figure.

@@ -1,8 +1,8 @@
--- What a search or a next finds is in the roll, and so is graded "shortest".
-use Prim.Native.Nat.{ℕ, _+_, _*_, _≤_}
+-- What a grade says of a file's model is so; and what a search or a next finds is in the roll, and so is graded "shortest".
+use Prim.Native.Nat.{ℕ, _+_}
 use mathlib.Core.Path.{_≡_, refl, sym, _∙_, ap, subst}
 use mathlib.Core.Bool.{Bool, true, false}
-use mathlib.Core.List.{List, [], _∷_, _++_, head?, List·Memᴰ, List·Memᴰ·tail}
+use mathlib.Core.List.{List, [], _∷_, _++_, head?, List·Memᴰ}
 use mathlib.Core.Option.{Option, some, none}
 use native.Mathlib.Omega.{arith}
 use lib.ListN.{length, take, drop}
@@ -11,24 +11,24 @@ use Rattle.lasso.specs.Lists.{pick}
 use Rattle.lasso.specs.Graph.{Graph, edges, loopStart}
 use Rattle.lasso.specs.Roll.{roll}
 use Rattle.lasso.specs.Rounds.{Record, candidates, afterRounds}
-use Rattle.lasso.specs.Following.{sameb, following}
+use Rattle.lasso.specs.Following.{following}
 use Rattle.lasso.proofs.Tests.{head-mem}
+use Rattle.lasso.proofs.OrderLaws.{following-mem}
 use Rattle.lasso.proofs.RollLaws.{accepting-lasso, lasso-edges, in-roll}
-use Rattle.format.specs.Layout.{states}
 use Rattle.format.specs.Rules.{Reason, firstBroken, Accepted}
-use Rattle.gate.specs.declared.Ask.{Ask}
 use Rattle.gate.specs.Gate.{commonRules}
 use Rattle.gate.proofs.GateLaws.{common-clear, clear-common}
 use Rattle.model.specs.Model.{graphOf}
 use Rattle.model.proofs.Laws.{accepted-well-formed}
-use Rattle.outcomes.specs.Outcome.{Outcome, refused, answered, outcome}
+use Rattle.outcomes.specs.Outcome.{answered, outcome}
 use Rattle.outcomes.specs.Tables.{listReasons, unlessRefused, written}
-use Rattle.search.specs.Search.{Searched, stopped, empty, firstOf, firstDue, stopsb, searchReasons, searchOutcome, searchAnswer}
-use Rattle.next.specs.Next.{Followed, noMore, followed, dueReasons, nextReasons, nextOutcome, nextAnswer}
+use Rattle.search.specs.Search.{Searched, stopped, firstOf, firstDue, stopsb, searchReasons}
+use Rattle.next.specs.Next.{Followed, followed, dueReasons, nextReasons}
+use Rattle.paths.specs.Breaks.{firstBreak}
 use Rattle.paths.proofs.BreakLaws.{breaks-shown}
-use Rattle.grader.specs.Grade.{Grade, shortest, gradeOf, gradeOutcome}
+use Rattle.grader.specs.Grade.{Said, accepting, shortest, verdict, Grade, gradeOf, gradeOutcome}
 use Rattle.grader.proofs.VerdictLaws.{verdicts-shown}
-use Rattle.conditions.specs.Graded.{GradedShortest, FoundIsShortest}
+use Rattle.conditions.specs.Graded.{IsGraded, GradesSay, GradedShortest, FoundIsShortest}
 use Rattle.conditions.proofs.FirstLaws.{noneHolds-firstBroken, clear-none, none-parts, answered-none}
 
 -- a call for which no reason holds, 1 to 12 among them, has an accepted file
@@ -43,7 +43,7 @@ roll-graded f accepted xs m work room =
     let g : Graph = graphOf f in
     let wf = accepted-well-formed f accepted in
     let is = verdicts-shown g wf .shortest-in-roll xs (loopStart xs) .1 (m, refl) in
-    let unbroken = breaks-shown g wf .accepting-none xs (in-roll g wf xs .0 m .0) in
+    let unbroken = breaks-shown g .accepting-none wf xs (in-roll g wf xs .0 m .0) in
     ap (λ (o : Option ℕ). outcome o (gradeOf g xs (loopStart xs))) (common-clear f work accepted room)
     ∙ (λ i. answered (record { verdict = is i; place = unbroken i }))
 
@@ -81,15 +81,6 @@ search-found-in (xs ∷ rest) false rec n L k rounds e = record {
   start-is = cc;
 }
 
--- the list that follows another in a roll is in it
-following-in : (p : List ℕ) (rs : List (List ℕ)) (xs : List ℕ) → following p rs ≡ some xs → List·Memᴰ xs rs
-following-in p [] xs e = let z : _≡_ {A = ℕ} 0 1 = cc in absurd (omega arith)
-following-in p (q ∷ qs) xs e = go (following-in p qs xs) (sameb p q) e
-  where
-    go : (following p qs ≡ some xs → List·Memᴰ xs qs) → (b : Bool) → pick b (head? qs) (following p qs) ≡ some xs → List·Memᴰ xs (q ∷ qs)
-    go later true e = List·Memᴰ·tail (head-mem qs xs e)
-    go later false e = List·Memᴰ·tail (later e)
-
 -- a next that answers "found" has found a list of the roll
 next-found-in : (rs : List (List ℕ)) (due : Option (List ℕ)) → ((xs : List ℕ) → due ≡ some xs → List·Memᴰ xs rs) → (L k : ℕ)
     → followed due ≡ Followed.found L k → FoundIn rs due L k
@@ -107,6 +98,62 @@ answered-is : {A : Type 0} (o : Option ℕ) (x y : A) → outcome o x ≡ answer
 answered-is none x y e = cc
 answered-is (some n) x y e = let z : _≡_ {A = ℕ} 0 1 = cc in absurd (omega arith)
 
+module _ (f xs : List ℕ) (k work : ℕ) (clear : firstBroken (commonRules f work) ≡ none) where
+  -- where none of 1 to 12 holds the answer is the grade
+  graded : gradeOutcome f xs k work ≡ answered (gradeOf (graphOf f) xs k)
+  graded = ap (λ (o : Option ℕ). outcome o (gradeOf (graphOf f) xs k)) clear
+
+  -- so an answer is the verdict and the place of the model
+  graded-is : (v : Said) (p : Option ℕ) → IsGraded f xs k work v p → gradeOf (graphOf f) xs k ≡ record { verdict = v; place = p }
+  graded-is v p e = answered-is none (gradeOf (graphOf f) xs k) (record { verdict = v; place = p }) (sym graded ∙ e)
+
+  graded-verdict : (v : Said) (p : Option ℕ) → IsGraded f xs k work v p → verdict (graphOf f) xs k ≡ v
+  graded-verdict v p e = ap (λ (a : Grade). a .verdict) (graded-is v p e)
+
+  graded-place : (v : Said) (p : Option ℕ) → IsGraded f xs k work v p → firstBreak (graphOf f) xs ≡ p
+  graded-place v p e = ap (λ (a : Grade). a .place) (graded-is v p e)
+
+  -- and what these are is answered
+  is-graded : (v : Said) (p : Option ℕ) → verdict (graphOf f) xs k ≡ v → firstBreak (graphOf f) xs ≡ p → IsGraded f xs k work v p
+  is-graded v p a b = graded ∙ (λ i. answered (record { verdict = a i; place = b i }))
+
+pub grades-say : GradesSay
+grades-say f xs k work none-holds =
+    let g : Graph = graphOf f in
+    let clear = noneHolds-firstBroken (commonRules f work) none-holds in
+    let wf = accepted-well-formed f (clear-common f work clear .0) in
+    let verdicts = verdicts-shown g wf in
+    let places = breaks-shown g in
+    let v-of = graded-verdict f xs k work clear in
+    let p-of = graded-place f xs k work clear in
+    let is = is-graded f xs k work clear in
+    record {
+      false-exactly = (
+        λ (p, e). verdicts .false-exactly xs k .0 (v-of Said.false p e),
+        λ n. (firstBreak g xs, is Said.false (firstBreak g xs) (verdicts .false-exactly xs k .1 n) refl),
+      );
+      accepting-exactly = (
+        λ e. verdicts .accepting-exactly xs k .0 (v-of accepting none e),
+        λ a. is accepting none (verdicts .accepting-exactly xs k .1 a) (places .accepting-none wf xs (a .0 .0)),
+      );
+      shortest-exactly = (
+        λ e. verdicts .shortest-exactly xs k .0 (v-of shortest none e),
+        λ a. is shortest none (verdicts .shortest-exactly xs k .1 a) (places .accepting-none wf xs (a .0 .0)),
+      );
+      shortest-in-roll = (
+        λ e. verdicts .shortest-in-roll xs k .0 (v-of shortest none e),
+        λ a. is shortest none (verdicts .shortest-in-roll xs k .1 a) (places .accepting-none wf xs (in-roll g wf xs .0 (a .0) .0)),
+      );
+      place-exactly = λ j. (
+        λ (v, e). places .some-exactly xs j .0 (p-of v (some j) e),
+        λ b. (verdict g xs k, is (verdict g xs k) (some j) refl (places .some-exactly xs j .1 b)),
+      );
+      no-place-exactly = (
+        λ (v, e). places .none-exactly xs .0 (p-of v none e),
+        λ h. (verdict g xs k, is (verdict g xs k) none refl (places .none-exactly xs .1 h)),
+      );
+    }
+
 pub found-is-shortest : FoundIsShortest
 found-is-shortest = record {
   search = λ f ask a work L k rounds e.
@@ -123,6 +170,6 @@ found-is-shortest = record {
       let reasons : List Reason = nextReasons f earlier (length a) work in
       let clear = answered-none (firstBroken reasons) _ _ e in
       let accepted = passed-accepted f work (dueReasons f earlier due (length a)) clear in
-      let found = next-found-in (roll g) due (following-in earlier (roll g)) L k (answered-is (firstBroken reasons) _ _ e) in
+      let found = next-found-in (roll g) due (following-mem earlier (roll g)) L k (answered-is (firstBroken reasons) _ _ e) in
       subst (λ (o : Option ℕ). GradedShortest f (take (L + 1) (written (unlessRefused o due) a)) k) (sym clear) (found-graded f accepted due a L k found);
 }

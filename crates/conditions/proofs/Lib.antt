@@ -1,4 +1,4 @@
--- The proofs of conditions 1 and 2.
+-- The proofs of conditions 1 and 2, and of what grades say.
 pub mod FirstLaws
 pub mod Condition1
 pub mod Condition2

@@ -1,20 +1,55 @@
--- What a search or a next finds is graded "shortest".
-use Prim.Native.Nat.{ℕ, _+_, _*_, _≤_}
+-- What a grade says of a file's model, and that what a search or a next finds is graded "shortest".
+use Prim.Native.Nat.{ℕ, _+_, _*_, _≤_, _<_}
 use mathlib.Core.Path.{_≡_}
-use mathlib.Core.List.{List}
-use mathlib.Core.Option.{none}
+use mathlib.Core.Logic.{_↔_}
+use mathlib.Core.List.{List, List·Memᴰ}
+use mathlib.Core.Option.{Option, some, none}
 use lib.ListN.{length, take}
+use lib.Dec.{T}
+use Rattle.lasso.specs.Graph.{edges, pathb, acceptingb, loopStart}
+use Rattle.lasso.specs.Roll.{roll}
+use Rattle.lasso.specs.Shown.{OfLeastLength}
 use Rattle.gate.specs.declared.Ask.{Ask}
+use Rattle.gate.specs.Gate.{commonRules}
 use Rattle.format.specs.Layout.{states}
+use Rattle.model.specs.Model.{graphOf}
 use Rattle.outcomes.specs.Outcome.{answered}
 use Rattle.search.specs.Search.{Searched, searchOutcome, searchAnswer}
 use Rattle.next.specs.Next.{Followed, nextOutcome, nextAnswer}
-use Rattle.grader.specs.Grade.{shortest, gradeOutcome}
+use Rattle.paths.specs.Breaks.{AllBelow, BreaksFirst}
+use Rattle.grader.specs.Grade.{Said, accepting, shortest, gradeOutcome}
+use Rattle.grader.specs.Shown.{AcceptingAt}
+use Rattle.conditions.specs.Reasons.{NoneHolds}
+
+-- the answer is this verdict with this place
+abbrev pub IsGraded : (f xs : List ℕ) (k work : ℕ) → Said → Option ℕ → Type 0
+IsGraded f xs k work v p = gradeOutcome f xs k work ≡ answered (record { verdict = v; place = p })
+
+-- What a grade that is not refused says of the list with that k, in the model of the file.
+pub record GradeSays (f xs : List ℕ) (k work : ℕ) : Type 0 where
+  -- "false", with a place or without, exactly if the list with that k is no accepting path
+  pub false-exactly : ((p : Option ℕ) × IsGraded f xs k work Said.false p) ↔ (AcceptingAt (graphOf f) xs k → ⊥)
+  -- "accepting", without a place, exactly if it is one and one with fewer transitions exists
+  pub accepting-exactly : IsGraded f xs k work accepting none
+      ↔ (AcceptingAt (graphOf f) xs k × ((ys : List ℕ) × T (acceptingb (graphOf f) ys) × (edges ys < edges xs)))
+  -- "shortest", without a place, exactly if it is one of least length
+  pub shortest-exactly : IsGraded f xs k work shortest none
+      ↔ (OfLeastLength (acceptingb (graphOf f)) xs × (k ≡ loopStart xs))
+  -- that is, exactly if it is in the roll with that k
+  pub shortest-in-roll : IsGraded f xs k work shortest none ↔ (List·Memᴰ xs (roll (graphOf f)) × (k ≡ loopStart xs))
+  -- the place j, whatever the verdict, exactly if the list breaks there and at no place before it
+  pub place-exactly : (j : ℕ) → ((v : Said) × IsGraded f xs k work v (some j)) ↔ BreaksFirst (graphOf f) xs j
+  -- no place, whatever the verdict, exactly if the list is a path of states
+  pub no-place-exactly : ((v : Said) × IsGraded f xs k work v none)
+      ↔ (T (pathb (graphOf f) xs) × AllBelow (graphOf f .size) xs)
+
+-- So it is with every file, list, k and working table for which none of 1 to 12 holds.
+abbrev pub GradesSay : Type 0
+GradesSay = (f xs : List ℕ) (k work : ℕ) → NoneHolds (commonRules f work) → GradeSays f xs k work
 
 -- the list, with that k, is graded "shortest" and breaks nowhere, with every working table that has 6 × N entries
 abbrev pub GradedShortest : (f xs : List ℕ) → ℕ → Type 0
-GradedShortest f xs k =
-    (work : ℕ) → 6 * states f ≤ work → gradeOutcome f xs k work ≡ answered (record { verdict = shortest; place = none })
+GradedShortest f xs k = (work : ℕ) → 6 * states f ≤ work → IsGraded f xs k work shortest none
 
 -- whatever "found" (L, k) brings, in entries 0 to L of the answer table, is graded so
 pub record FoundIsShortest : Type 0 where

@@ -10,15 +10,18 @@ use Rattle.lasso.specs.Graph.{Graph, WellFormed}
 use Rattle.lasso.specs.Roll.{leastLength, roll}
 use Rattle.lasso.specs.Following.{following}
 use Rattle.lasso.specs.Rounds.{Record, candidates, bestLength, afterRounds, afterAllowed}
-use Rattle.lasso.proofs.RoundLaws.{afterRounds-done, afterRounds-leastLength}
+use Rattle.lasso.specs.declared.RoundRecord.{RoundRecord}
+use Rattle.lasso.proofs.RoundLaws.{candidates-length-le, afterRounds-done, afterRounds-leastLength}
 use Rattle.model.specs.declared.Header.{Header}
 use Rattle.model.specs.Model.{graphIn}
+use Rattle.model.specs.Values.{Valid}
+use Rattle.model.proofs.Laws.{valid-sizes}
 use Rattle.candidates.specs.Promises.{RoundsReady}
 use Rattle.starts.specs.LoopStarts.{StartLoops}
 use Rattle.follow.specs.Follow.{Prepared, upTo}
 use Rattle.listing.specs.Places.{Kept, Replaced}
 use Rattle.listing.proofs.PlacesTable.{prepared-kept}
-use Rattle.cursor.specs.Cursor.{At, PlacedAt, MovedOn}
+use Rattle.cursor.specs.Cursor.{StoppedAfter, At, PlacedAt, MovedOn}
 use Rattle.cursor.proofs.RollPlaces.{stands-first, stands-next, stands-last, follows-next, follows-none}
 
 -- an allowance that suffices does all rounds: their number, and the least length of an accepting path
@@ -32,6 +35,11 @@ all-rounds {g} wf rec allowance e enough =
       ap (λ (r : Record). r .done) q ∙ afterRounds-done g n,
       ap bestLength q ∙ afterRounds-leastLength wf,
     )
+
+-- no file's model has so many candidates that the rounds are stopped with the greatest allowance
+pub never-stopped : {f : List ℕ} {h : Header} {r : RoundRecord} → Valid f h → StoppedAfter (graphIn f h) 65535 r → ⊥
+never-stopped {f} {h} valid stop =
+    let sizes = valid-sizes valid in omega (arith, stop .short, candidates-length-le (graphIn f h))
 
 -- the loop lengths are there: the table is prepared
 pub prepared-start : {f : List ℕ} {h : Header} {l : ℕ} {w w' : List ℕ} → RoundsReady f h w → leastLength (graphIn f h) ≡ some l

@@ -1,5 +1,5 @@
 // The way through the roll on one working table: all rounds, then the first list or a given one, then list after list.
-// Search, next and the sheet all go this way.
+// Search, next and the sheet all go this way; the grader does the rounds alone.
 ghost use mathlib.Core.Path.{_≡_};
 ghost use mathlib.Core.List.{List·Memᴰ, _++_};
 ghost use mathlib.Core.Option.{some};

@@ -1,24 +1,23 @@
 -- What each verdict says is so.
-use Prim.Native.Nat.{ℕ, _≤_, _<_}
-use mathlib.Core.Path.{_≡_, refl, sym, _∙_, ap, subst}
-use mathlib.Core.Logic.{_↔_, _⊎_, inl, inr}
-use mathlib.Core.Bool.{Bool, _&&_, not}
-use mathlib.Core.Bool as Bool
-use mathlib.Core.List.{List, List·Memᴰ}
+use Prim.Native.Nat.{ℕ, _<_}
+use mathlib.Core.Path.{_≡_, refl, sym, ap, subst}
+use mathlib.Core.Logic.{_↔_}
+use mathlib.Core.Bool.{Bool, true, false, not}
+use mathlib.Core.List.{List}
 use mathlib.Core.Option.{Option, some, none}
 use native.Mathlib.Omega.{arith}
 use lib.ListN.{length, getD, take}
-use lib.Dec.{T, eqb, leb, ltb, eqb→eq, leb→le, le→leb, ltb→lt, lt→ltb, T-not, not-T}
+use lib.Dec.{T, eqb, leb, ltb, eqb→eq, le→leb, ltb→lt, lt→ltb, T-not, not-T}
 use Rattle.lasso.specs.Lists.{pick, anyb, below, differentb}
 use Rattle.lasso.specs.Graph.{Graph, WellFormed, edges, pathb, loopsb, lassob, acceptingb, loopStart}
-use Rattle.lasso.specs.Roll.{leastLength, roll}
+use Rattle.lasso.specs.Roll.{leastLength}
 use Rattle.lasso.specs.Shown.{HasLength, OfLeastLength}
-use Rattle.lasso.proofs.Tests.{parts, join, decide, T-true, T-false, eq→eqb, some-anyb, lt-below}
-use Rattle.lasso.proofs.Least.{IsLeast, isLeast-le, isLeast-has}
+use Rattle.lasso.proofs.Tests.{parts, join, eq→eqb, some-anyb, lt-below}
+use Rattle.lasso.proofs.Least.{IsLeast}
 use Rattle.lasso.proofs.Lasso.{loop-start}
 use Rattle.lasso.proofs.ShownLaws.{to-be-shown}
 use Rattle.lasso.proofs.RollLaws.{Shortest, accepting-lasso, lasso-edges, leastLength-least, in-roll}
-use Rattle.grader.specs.Grade.{acceptsAt, isLeast, Said, false, accepting, shortest, verdict}
+use Rattle.grader.specs.Grade.{acceptsAt, leastb, Said, accepting, shortest, verdict}
 use Rattle.grader.specs.Shown.{AcceptingAt, VerdictsShown}
 
 module _ (g : Graph) (wf : WellFormed g) (xs : List ℕ) (k : ℕ) where
@@ -52,10 +51,10 @@ module _ (g : Graph) (wf : WellFormed g) (xs : List ℕ) (k : ℕ) where
       search join
 
   -- an accepting path has the least length exactly if none has fewer transitions
-  least-exactly : T (acceptingb g xs) → T (isLeast (leastLength g) (edges xs)) ↔ Shortest g xs
+  least-exactly : T (acceptingb g xs) → T (leastb (leastLength g) (edges xs)) ↔ Shortest g xs
   least-exactly acc = go (leastLength g) (leastLength-least g wf)
     where
-      go : (a : Option ℕ) → IsLeast (HasLength (acceptingb g)) a → T (isLeast a (edges xs)) ↔ Shortest g xs
+      go : (a : Option ℕ) → IsLeast (HasLength (acceptingb g)) a → T (leastb a (edges xs)) ↔ Shortest g xs
       go none least = absurd (least (edges xs) (xs, acc, refl))
       go (some l) least = (
         λ t ys a. omega (arith, eqb→eq (edges xs) l t, least .1 (edges ys) (ys, a, refl)),
@@ -63,11 +62,11 @@ module _ (g : Graph) (wf : WellFormed g) (xs : List ℕ) (k : ℕ) where
       )
 
   -- an accepting path that has not the least length is longer than another
-  longer-exactly : T (acceptingb g xs) → T (not (isLeast (leastLength g) (edges xs))) ↔ ((ys : List ℕ) × T (acceptingb g ys) × (edges ys < edges xs))
+  longer-exactly : T (acceptingb g xs) → T (not (leastb (leastLength g) (edges xs))) ↔ ((ys : List ℕ) × T (acceptingb g ys) × (edges ys < edges xs))
   longer-exactly acc = go (leastLength g) (leastLength-least g wf)
     where
       go : (a : Option ℕ) → IsLeast (HasLength (acceptingb g)) a
-          → T (not (isLeast a (edges xs))) ↔ ((ys : List ℕ) × T (acceptingb g ys) × (edges ys < edges xs))
+          → T (not (leastb a (edges xs))) ↔ ((ys : List ℕ) × T (acceptingb g ys) × (edges ys < edges xs))
       go none least = absurd (least (edges xs) (xs, acc, refl))
       go (some l) least = (
         λ t.
@@ -78,44 +77,32 @@ module _ (g : Graph) (wf : WellFormed g) (xs : List ℕ) (k : ℕ) where
       )
 
 -- the verdict by its two tests
-abbrev said : Bool → Bool → Said
-said accepts least = pick accepts (pick least shortest accepting) false
+abbrev saidBy : Bool → Bool → Said
+saidBy accepts least = pick accepts (pick least shortest accepting) Said.false
+
+-- a number for each verdict, by which they differ
+abbrev rank : Said → ℕ
+rank Said.false = 0
+rank accepting = 1
+rank shortest = 2
 
 -- "false" exactly if the first test fails
-said-false : (a l : Bool) → (said a l ≡ false) ↔ T (not a)
-said-false Bool.true Bool.true = (λ e. apart e, λ t. absurd t)
-  where
-    apart : shortest ≡ false → ⊥
-    apart e = let z : _≡_ {A = ℕ} 0 1 = cc in omega arith
-said-false Bool.true Bool.false = (λ e. apart e, λ t. absurd t)
-  where
-    apart : accepting ≡ false → ⊥
-    apart e = let z : _≡_ {A = ℕ} 0 1 = cc in omega arith
-said-false Bool.false l = (λ e. tt, λ t. refl)
+saidBy-false : (a l : Bool) → (saidBy a l ≡ Said.false) ↔ T (not a)
+saidBy-false true true = (λ e. absurd (omega (arith, ap rank e)), λ t. absurd t)
+saidBy-false true false = (λ e. absurd (omega (arith, ap rank e)), λ t. absurd t)
+saidBy-false false l = (λ e. tt, λ t. refl)
 
 -- "shortest" exactly if both tests pass
-said-shortest : (a l : Bool) → (said a l ≡ shortest) ↔ (T a × T l)
-said-shortest Bool.true Bool.true = (λ e. (tt, tt), λ t. refl)
-said-shortest Bool.true Bool.false = (λ e. absurd (apart e), λ t. absurd (t .1))
-  where
-    apart : accepting ≡ shortest → ⊥
-    apart e = let z : _≡_ {A = ℕ} 0 1 = cc in omega arith
-said-shortest Bool.false l = (λ e. absurd (apart e), λ t. absurd (t .0))
-  where
-    apart : false ≡ shortest → ⊥
-    apart e = let z : _≡_ {A = ℕ} 0 1 = cc in omega arith
+saidBy-shortest : (a l : Bool) → (saidBy a l ≡ shortest) ↔ (T a × T l)
+saidBy-shortest true true = (λ e. (tt, tt), λ t. refl)
+saidBy-shortest true false = (λ e. absurd (omega (arith, ap rank e)), λ t. absurd (t .1))
+saidBy-shortest false l = (λ e. absurd (omega (arith, ap rank e)), λ t. absurd (t .0))
 
 -- "accepting" exactly if the first passes and the second fails
-said-accepting : (a l : Bool) → (said a l ≡ accepting) ↔ (T a × T (not l))
-said-accepting Bool.true Bool.true = (λ e. absurd (apart e), λ t. absurd (t .1))
-  where
-    apart : shortest ≡ accepting → ⊥
-    apart e = let z : _≡_ {A = ℕ} 0 1 = cc in omega arith
-said-accepting Bool.true Bool.false = (λ e. (tt, tt), λ t. refl)
-said-accepting Bool.false l = (λ e. absurd (apart e), λ t. absurd (t .0))
-  where
-    apart : false ≡ accepting → ⊥
-    apart e = let z : _≡_ {A = ℕ} 0 1 = cc in omega arith
+saidBy-accepting : (a l : Bool) → (saidBy a l ≡ accepting) ↔ (T a × T (not l))
+saidBy-accepting true true = (λ e. absurd (omega (arith, ap rank e)), λ t. absurd (t .1))
+saidBy-accepting true false = (λ e. (tt, tt), λ t. refl)
+saidBy-accepting false l = (λ e. absurd (omega (arith, ap rank e)), λ t. absurd (t .0))
 
 module _ (g : Graph) (wf : WellFormed g) (xs : List ℕ) (k : ℕ) where
   -- the two tests of the verdict
@@ -123,37 +110,37 @@ module _ (g : Graph) (wf : WellFormed g) (xs : List ℕ) (k : ℕ) where
   accepts = acceptsAt g xs k
 
   abbrev least : Bool
-  least = isLeast (leastLength g) (edges xs)
+  least = leastb (leastLength g) (edges xs)
 
   -- a list that is not accepted is "false"
-  not-accepted : (T (acceptsAt g xs k) → ⊥) → verdict g xs k ≡ false
-  not-accepted h = said-false accepts least .1 (not-T accepts h)
+  not-accepted : (T (acceptsAt g xs k) → ⊥) → verdict g xs k ≡ Said.false
+  not-accepted h = saidBy-false accepts least .1 (not-T accepts h)
 
   -- "shortest" exactly if it is an accepting path with that k that no accepting path is shorter than
   shortest-iff : (verdict g xs k ≡ shortest) ↔ (OfLeastLength (acceptingb g) xs × (k ≡ loopStart xs))
   shortest-iff = (
     λ e.
-        let (a, l) = said-shortest accepts least .0 e in
+        let (a, l) = saidBy-shortest accepts least .0 e in
         let (acc, at) = accepts-accepting g wf xs k a in
         ((acc, least-exactly g wf xs k acc .0 l), at),
-    λ ((acc, s), at). said-shortest accepts least .1 (accepting-accepts g wf xs k (acc, at), least-exactly g wf xs k acc .1 s),
+    λ ((acc, s), at). saidBy-shortest accepts least .1 (accepting-accepts g wf xs k (acc, at), least-exactly g wf xs k acc .1 s),
   )
 
   -- "accepting" exactly if one with fewer transitions exists
   accepting-iff : (verdict g xs k ≡ accepting) ↔ (AcceptingAt g xs k × ((ys : List ℕ) × T (acceptingb g ys) × (edges ys < edges xs)))
   accepting-iff = (
     λ e.
-        let (a, l) = said-accepting accepts least .0 e in
+        let (a, l) = saidBy-accepting accepts least .0 e in
         let (acc, at) = accepts-accepting g wf xs k a in
         ((acc, at), longer-exactly g wf xs k acc .0 l),
-    λ ((acc, at), longer). said-accepting accepts least .1 (accepting-accepts g wf xs k (acc, at), longer-exactly g wf xs k acc .1 longer),
+    λ ((acc, at), longer). saidBy-accepting accepts least .1 (accepting-accepts g wf xs k (acc, at), longer-exactly g wf xs k acc .1 longer),
   )
 
 pub verdicts-shown : VerdictsShown
 verdicts-shown g wf = record {
   accepts-exactly = λ xs k. (accepts-accepting g wf xs k, accepting-accepts g wf xs k);
   false-exactly = λ xs k. (
-    λ e a. T-not (acceptsAt g xs k) (said-false (acceptsAt g xs k) (isLeast (leastLength g) (edges xs)) .0 e) (accepting-accepts g wf xs k a),
+    λ e a. T-not (acceptsAt g xs k) (saidBy-false (acceptsAt g xs k) (leastb (leastLength g) (edges xs)) .0 e) (accepting-accepts g wf xs k a),
     λ n. not-accepted g wf xs k (λ t. n (accepts-accepting g wf xs k t)),
   );
   shortest-exactly = λ xs k. shortest-iff g wf xs k;

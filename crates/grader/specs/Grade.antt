@@ -27,9 +27,9 @@ acceptsAt g xs k =
     ((eqb (getD xs 0 0) (g .start) && pathb g xs) && (loopsb g xs k && differentb (take (edges xs) xs)))
 
 -- l is the least length, if there is one
-abbrev pub isLeast : Option ℕ → ℕ → Bool
-isLeast none l = Bool.false
-isLeast (some least) l = eqb l least
+abbrev pub leastb : Option ℕ → ℕ → Bool
+leastb none l = Bool.false
+leastb (some least) l = eqb l least
 
 -- What is said of a list with a claimed k: "false", "accepting" or "shortest".
 pub data Said : Type 0 where
@@ -39,13 +39,13 @@ pub data Said : Type 0 where
 
 -- which of them each verdict of the code is
 abbrev pub verdictOf : Verdict → Said
-verdictOf Verdicts.False = false
+verdictOf Verdicts.False = Said.false
 verdictOf Verdicts.Accepting = accepting
 verdictOf Verdicts.Shortest = shortest
 
 -- "false" if the list with that k is no accepting path, "shortest" if it is one of least length, else "accepting"
 abbrev pub verdict : Graph → List ℕ → ℕ → Said
-verdict g xs k = pick (acceptsAt g xs k) (pick (isLeast (leastLength g) (edges xs)) shortest accepting) false
+verdict g xs k = pick (acceptsAt g xs k) (pick (leastb (leastLength g) (edges xs)) shortest accepting) Said.false
 
 -- A grade: the verdict, and the first place where the list breaks, if any.
 pub record Grade : Type 0 where

@@ -8,7 +8,7 @@ use lib.Dec.{T}
 use Rattle.lasso.specs.Graph.{Graph, WellFormed, edges, acceptingb, loopStart}
 use Rattle.lasso.specs.Roll.{roll}
 use Rattle.lasso.specs.Shown.{OfLeastLength}
-use Rattle.grader.specs.Grade.{acceptsAt, Said, false, accepting, shortest, verdict}
+use Rattle.grader.specs.Grade.{acceptsAt, Said, accepting, shortest, verdict}
 
 -- the list is an accepting path, and k is where its loop starts
 abbrev pub AcceptingAt : Graph → List ℕ → ℕ → Type 0
@@ -19,7 +19,7 @@ pub record VerdictShown (g : Graph) : Type 0 where
   -- a list is accepted at k exactly if it is an accepting path and k is its loop start
   pub accepts-exactly : (xs : List ℕ) (k : ℕ) → T (acceptsAt g xs k) ↔ AcceptingAt g xs k
   -- "false" exactly if the list with that k is no accepting path
-  pub false-exactly : (xs : List ℕ) (k : ℕ) → (verdict g xs k ≡ false) ↔ (AcceptingAt g xs k → ⊥)
+  pub false-exactly : (xs : List ℕ) (k : ℕ) → (verdict g xs k ≡ Said.false) ↔ (AcceptingAt g xs k → ⊥)
   -- "shortest" exactly if it is one, and none has fewer transitions
   pub shortest-exactly : (xs : List ℕ) (k : ℕ)
       → (verdict g xs k ≡ shortest) ↔ (OfLeastLength (acceptingb g) xs × (k ≡ loopStart xs))
@@ -30,9 +30,9 @@ pub record VerdictShown (g : Graph) : Type 0 where
   pub accepting-exactly : (xs : List ℕ) (k : ℕ)
       → (verdict g xs k ≡ accepting) ↔ (AcceptingAt g xs k × ((ys : List ℕ) × T (acceptingb g ys) × (edges ys < edges xs)))
   -- a list of fewer than two entries is "false"
-  pub short-false : (xs : List ℕ) (k : ℕ) → length xs < 2 → verdict g xs k ≡ false
+  pub short-false : (xs : List ℕ) (k : ℕ) → length xs < 2 → verdict g xs k ≡ Said.false
   -- and so is every list with a k not below L
-  pub late-false : (xs : List ℕ) (k : ℕ) → edges xs ≤ k → verdict g xs k ≡ false
+  pub late-false : (xs : List ℕ) (k : ℕ) → edges xs ≤ k → verdict g xs k ≡ Said.false
 
 -- So it is for every well-formed graph.
 abbrev pub VerdictsShown : Type 0

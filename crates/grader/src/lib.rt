@@ -2,10 +2,8 @@
 // untouched after them and all zero otherwise.
 ghost use mathlib.Core.Path.{_≡_};
 ghost use mathlib.Core.Option.{none};
-ghost use Prim.Native.Nat.{_*_, _≤_, _<_};
+ghost use Prim.Native.Nat.{_*_, _≤_};
 ghost use lib.ListN.{length, take};
-ghost use lib.ListN;
-ghost use lib.Dec.{T};
 ghost use Rattle.lasso.specs.Lists.{differentb};
 ghost use Rattle.lasso.specs.Graph.{edges};
 ghost use Rattle.lasso.specs.Roll.{leastLength};
@@ -13,7 +11,7 @@ ghost use Rattle.model.specs.Model.{graphIn};
 ghost use Rattle.model.specs.Values.{Valid};
 ghost use Rattle.paths.specs.Breaks.{firstBreak, AllBelow};
 ghost use Rattle.gate.specs.Gate.{workOf};
-ghost use Rattle.grader.specs.Grade.{acceptsAt, isLeast, verdict, verdictOf, gradeOutcomeOf, gradeOutcome};
+ghost use Rattle.grader.specs.Grade.{acceptsAt, leastb, verdict, verdictOf, gradeOutcomeOf, gradeOutcome};
 use cursor::ALL_ROUNDS;
 use cursor::Begun;
 use cursor::begin;
@@ -95,7 +93,7 @@ fn is_least(file: &[u8], h: Header, list: &[u16], work: &mut [u16]) -> bool
     requires { ⌜ Valid (now file) h ⌝ }
     requires { ⌜ 6 * h .states ≤ length (now work) ⌝ }
     requires { ⌜ 2 ≤ length (now list) ⌝ }
-    ensures tells { λ r. ⌜ r ≡ isLeast (leastLength (graphIn (now (file .entry)) h)) (edges (now (list .entry))) ⌝ }
+    ensures tells { λ r. ⌜ r ≡ leastb (leastLength (graphIn (now (file .entry)) h)) (edges (now (list .entry))) ⌝ }
     ensures kept { λ _. ⌜ length (now (work .exit)) ≡ length (now (work .entry)) ⌝ }
 {
     let begun = begin(file, h, ALL_ROUNDS, work);

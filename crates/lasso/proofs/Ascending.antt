@@ -30,7 +30,7 @@ ascending-places (x ∷ xs) h zero (suc j) p q = ascending-first x xs h j (omega
 ascending-places (x ∷ xs) h (suc i) (suc j) p q = ascending-places xs (ascending-tail x xs h) i j (omega arith) (omega arith)
 
 -- numbers that are each at most the other are equal
-equal : (i j : ℕ) → j ≤ i → i ≤ j → i ≡ j
+pub equal : (i j : ℕ) → j ≤ i → i ≤ j → i ≡ j
 equal i j p q = omega arith
 
 -- the entries of an ascending list do not fall from place to place

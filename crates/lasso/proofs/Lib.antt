@@ -1,5 +1,6 @@
 -- The laws of paths, lassos, distances and rounds, from tests and lists up.
 pub mod Tests
+pub mod Range
 pub mod Ascending
 pub mod Least
 pub mod UnderLaws

@@ -5,15 +5,15 @@ use native.Mathlib.Omega.{arith}
 use native.Mathlib.Nat.{suc-inj}
 use mathlib.Core.Path.{_≡_, refl, sym, ap, subst}
 use mathlib.Core.Logic.{_⊎_, inl, inr, _↔_}
-use mathlib.Core.Bool.{true, false, _&&_}
+use mathlib.Core.Bool.{Bool, true, false, _&&_}
 use mathlib.Core.Option.{some, none}
 use mathlib.Core.List.{List, [], _∷_, map, head?, List·Memᴰ, List·Memᴰ·head, List·Memᴰ·tail, List·Memᴰ·not-nil, List·Memᴰ·append-cases, Memᴰ·append-left, Memᴰ·append-right, Memᴰ·map, Memᴰ·of-map}
 use lib.ListN.{length, getD, getElem?}
 use lib.Dec.{T, eqb, ltb, eqb→eq, eqb-refl, ltb→lt, lt→ltb, not-T}
-use Rattle.lasso.specs.Lists.{collect, below}
+use Rattle.lasso.specs.Lists.{pick, collect, below}
 use Rattle.lasso.specs.Order.{beforeb, lists}
 use Rattle.lasso.specs.Following.{sameb, following}
-use Rattle.lasso.proofs.Tests.{fst, snd, both, either, or-l, or-r, T-true, T-false, eq→eqb, eq-or-apart, below-lt, lt-below}
+use Rattle.lasso.proofs.Tests.{fst, snd, both, either, or-l, or-r, T-true, T-false, eq→eqb, eq-or-apart, head-mem, below-lt, lt-below}
 use Rattle.lasso.proofs.Sorted.{All, Sorted, all-mem, all-every, all-map, sorted-map, sorted-collect, upFrom-ascends}
 
 -- the first list stands before the second in dictionary order
@@ -149,6 +149,15 @@ following-here p q qs e = let t : sameb p q ≡ true = T-true (sameb p q) (subst
 -- the list after p, where another list stands first
 pub following-later : (p q : List ℕ) (qs : List (List ℕ)) → (p ≡ q → ⊥) → following p (q ∷ qs) ≡ following p qs
 following-later p q qs d = let t : sameb p q ≡ false = T-false (sameb p q) (not-T (sameb p q) (λ s. d (sameb→eq p q s))) in rw t
+
+-- the list that follows one of some lists is one of them
+pub following-mem : (p : List ℕ) (rs : List (List ℕ)) (xs : List ℕ) → following p rs ≡ some xs → List·Memᴰ xs rs
+following-mem p [] xs e = let z : _≡_ {A = ℕ} 0 1 = cc in absurd (omega arith)
+following-mem p (r ∷ rs) xs e = List·Memᴰ·tail (go (sameb p r) (λ q. following-mem p rs xs q) e)
+  where
+    go : (b : Bool) → (following p rs ≡ some xs → List·Memᴰ xs rs) → pick b (head? rs) (following p rs) ≡ some xs → List·Memᴰ xs rs
+    go true later q = head-mem rs xs q
+    go false later q = later q
 
 -- the first list has nothing before it
 pub head-least : (rs : List (List ℕ)) (xs : List ℕ) → Sorted Before rs → List·Memᴰ xs rs → ((zs : List ℕ) → List·Memᴰ zs rs → Before zs xs → ⊥) → head? rs ≡ some xs

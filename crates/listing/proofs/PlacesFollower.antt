@@ -10,7 +10,7 @@ use lib.ListN.{length, getD, take}
 use lib.Dec.{T}
 use Rattle.lasso.specs.Graph.{Graph, edgeb}
 use Rattle.lasso.proofs.Tests.{lt-or-ge, memb-at}
-use Rattle.lasso.proofs.Ascending.{ascending-le}
+use Rattle.lasso.proofs.Ascending.{equal, ascending-le}
 use Rattle.lasso.specs.Extends.{Extends}
 use Rattle.model.specs.declared.Header.{Header}
 use Rattle.model.specs.Model.{graphIn}
@@ -21,10 +21,6 @@ use Rattle.follow.specs.Follow.{upTo}
 use Rattle.listing.specs.Places.{LeastFollower}
 use Rattle.listing.proofs.PlacesExtend.{extends-edge, extends-step}
 use Rattle.listing.proofs.PlacesRow.{StateRead, successor-state}
-
--- numbers that are each at most the other are equal
-equal : (i j : ℕ) → j ≤ i → i ≤ j → i ≡ j
-equal i j p q = omega arith
 
 -- The first k successors ts were tried after q: none of them from the bound on may stand there, and the table changed in
 -- the regions 2 to 5 alone.

@@ -2,7 +2,7 @@
 use Prim.Native.Nat.{ℕ, suc, _+_, _≤_}
 use mathlib.Core.Path.{_≡_, refl, sym, _∙_, ap, subst}
 use mathlib.Core.Bool.{Bool, true, false}
-use mathlib.Core.List.{List, [], _∷_, _++_, head?, List·Memᴰ, List·Memᴰ·head, List·Memᴰ·tail, List·Memᴰ·not-nil}
+use mathlib.Core.List.{List, [], _∷_, _++_, head?, List·Memᴰ, List·Memᴰ·head, List·Memᴰ·not-nil}
 use mathlib.Core.Option.{Option, some, none}
 use native.Mathlib.Omega.{arith}
 use borrow.Author.Tests.{ltb-false}
@@ -14,8 +14,8 @@ use Rattle.lasso.specs.Graph.{Graph, edges}
 use Rattle.lasso.specs.Roll.{leastLength, roll}
 use Rattle.lasso.specs.Rounds.{Record, candidates, afterRounds}
 use Rattle.lasso.specs.declared.Transitions.{Transitions}
-use Rattle.lasso.specs.Following.{sameb, following}
-use Rattle.lasso.proofs.Tests.{head-mem}
+use Rattle.lasso.specs.Following.{following}
+use Rattle.lasso.proofs.OrderLaws.{following-mem}
 use Rattle.lasso.proofs.RollLaws.{roll-empty, roll-lasso}
 use Rattle.model.specs.Model.{graphOf}
 use Rattle.format.specs.Rules.{Reason, firstBroken}
@@ -117,15 +117,6 @@ search-fits f ask answer work = go (firstBroken (searchReasons f ask answer work
         let g : Graph = graphOf f in
         searched-fits (roll g) (stopsb g (ask .allowance)) (afterRounds g (ask .allowance)) (length (candidates g)) answer
         (λ xs q m. due-fits f xs answer (subst (λ (due : Option (List ℕ)). firstBroken (listReasons f due answer) ≡ none) q (clear-behind (commonRules f work) (listReasons f (firstDue g ask) answer) e)) m)
-
--- the list that follows one of some lists is one of them
-following-mem : (p : List ℕ) (rs : List (List ℕ)) (xs : List ℕ) → following p rs ≡ some xs → List·Memᴰ xs rs
-following-mem p [] xs e = let z : _≡_ {A = ℕ} 0 1 = cc in absurd (omega arith)
-following-mem p (r ∷ rs) xs e = List·Memᴰ·tail (go (sameb p r) (λ q. following-mem p rs xs q) e)
-  where
-    go : (b : Bool) → (following p rs ≡ some xs → List·Memᴰ xs rs) → pick b (head? rs) (following p rs) ≡ some xs → List·Memᴰ xs rs
-    go true later q = head-mem rs xs q
-    go false later q = later q
 
 -- the list that a next brings has room
 next-fits : (f earlier : List ℕ) (answer work : ℕ)

@@ -1,19 +1,18 @@
 -- The first place where a list breaks: what it says about the list, and how a loop finds it.
 use Prim.Native.Nat.{ℕ, zero, suc, _+_, _-_, _≤_, _<_}
 use mathlib.Core.Path.{_≡_, refl, sym, _∙_, ap, subst}
-use mathlib.Core.Logic.{_↔_, _⊎_, inl, inr}
-use mathlib.Core.Bool.{Bool, true, false, _&&_, _||_, not}
+use mathlib.Core.Logic.{_↔_, inl, inr}
+use mathlib.Core.Bool.{Bool, true, false, _&&_, not}
 use mathlib.Core.List.{List, [], _∷_}
-use mathlib.Core.Option.{Option, some, none}
+use mathlib.Core.Option.{some, none}
 use native.Mathlib.Omega.{arith}
 use lib.ListN.{length, getD}
-use lib.Dec.{T, eqb, eqb→eq, leb, ltb, leb→le, le→leb, ltb→lt, lt→ltb, nltb→le, T-not, not-T}
-use Rattle.lasso.specs.Lists.{seek}
-use Rattle.lasso.specs.Graph.{Graph, WellFormed, edgeb, pathb, lassob, acceptingb}
-use Rattle.lasso.proofs.Tests.{fst, snd, both, either, or-l, or-r, parts, decide, T-true, T-false, lt-or-ge}
-use Rattle.lasso.proofs.Least.{IsLeast, isLeast-iff, isLeast-unique, isLeast-has, seek-least, Passes}
+use lib.Dec.{T, eqb→eq, leb, ltb, leb→le, le→leb, ltb→lt, nltb→le, T-not, not-T}
+use Rattle.lasso.specs.Graph.{Graph, WellFormed, edgeb, pathb, lassob}
+use Rattle.lasso.proofs.Tests.{fst, snd, both, either, or-l, or-r, parts, decide, T-false, lt-or-ge}
+use Rattle.lasso.proofs.Least.{IsLeast, isLeast-iff, isLeast-unique, seek-least, Passes}
 use Rattle.lasso.proofs.Walk.{path-states}
-use Rattle.lasso.proofs.RollLaws.{accepting-lasso, lasso-edges}
+use Rattle.lasso.proofs.RollLaws.{accepting-lasso}
 use Rattle.paths.specs.Breaks.{breakb, firstBreak, AllBelow, Breaks, BreaksFirst, BreaksShown}
 
 -- a place of the list that breaks
@@ -133,10 +132,10 @@ broken-no-path g wf xs at j e =
     T-false (pathb g xs) (not-T (pathb g xs) (λ h. let z : some j ≡ none = sym e ∙ started-unbroken g wf xs at h in let q : _≡_ {A = ℕ} 0 1 = cc in omega arith))
 
 pub breaks-shown : BreaksShown
-breaks-shown g wf = record {
+breaks-shown g = record {
   some-exactly = λ xs j. (some-breaks g xs j, λ b. sym (firstBreak-some g xs j b));
   none-exactly = λ xs. (λ e. (unbroken-path g xs e, unbroken-states g xs e), λ (h, low). path-unbroken g xs h low);
-  accepting-none = λ xs acc.
+  accepting-none = λ wf xs acc.
       let lasso : T (lassob g xs) = accepting-lasso g xs acc in
       let at : getD xs 0 0 ≡ g .start = search (parts, eqb→eq) in
       started-unbroken g wf xs at (search parts);

@@ -1,8 +1,8 @@
 -- The tests of a list that loops make place by place: a closed walk with a mark from a place on, or from some place on; and
 -- the test of a lasso of a length.
-use Prim.Native.Nat.{ℕ, suc, _+_, _-_, _≤_, _<_}
-use mathlib.Core.Path.{_≡_, refl, _∙_, ap}
-use mathlib.Core.Bool.{Bool, true, false, _&&_, _||_}
+use Prim.Native.Nat.{ℕ, _+_, _-_, _≤_, _<_}
+use mathlib.Core.Path.{_≡_}
+use mathlib.Core.Bool.{Bool, false, _&&_}
 use mathlib.Core.List.{List, List·Memᴰ}
 use native.Mathlib.Omega.{arith}
 use borrow.Author.Tests.{eq-eqb, ne-eqb}
@@ -12,48 +12,6 @@ use Rattle.lasso.specs.Lists.{anyb, upFrom, below}
 use Rattle.lasso.specs.Graph.{Graph, edges, pathb, loopsb, lassob}
 use Rattle.lasso.proofs.Tests.{parts, join, same-tests, T-false, eq→eqb, anyb-some, some-anyb, upFrom-range, range-upFrom, below-lt}
 use Rattle.lasso.proofs.RollLaws.{lasso-edges}
-
--- the numbers from j up to n: j in front of those from j + 1 on
-anyb-up : (p : ℕ → Bool) (n j : ℕ) → j < n → anyb p (upFrom j (n - j)) ≡ (p j || anyb p (upFrom (j + 1) (n - (j + 1))))
-anyb-up p n j h =
-    let e : n - j ≡ suc (n - (j + 1)) = omega arith in
-    let q : j + 1 ≡ suc j = omega arith in
-    rw (e, q)
-
--- from n on there is none
-anyb-past : (p : ℕ → Bool) (n j : ℕ) → n ≤ j → anyb p (upFrom j (n - j)) ≡ false
-anyb-past p n j h = let e : n - j ≡ 0 = omega arith in rw e
-
--- What is left decides: some place from a to before n passes the test exactly if one from j on does.
-pub record Left (p : ℕ → Bool) (n a j : ℕ) : Type 0 where
-  pub from : a ≤ j
-  pub within : j ≤ n
-  pub decides : anyb p (upFrom a (n - a)) ≡ anyb p (upFrom j (n - j))
-
--- at first all is left
-pub left-start : (p : ℕ → Bool) (n a : ℕ) → a ≤ n → Left p n a a
-left-start p n a h = record { from = omega arith; within = h; decides = refl }
-
-module _ {p : ℕ → Bool} {n a j : ℕ} (L : Left p n a j) where
-  -- a place that fails is left behind
-  pub left-next : j < n → p j ≡ false → Left p n a (j + 1)
-  left-next h e = record {
-    from = omega (arith, L .from);
-    within = omega arith;
-    decides = L .decides ∙ anyb-up p n j h ∙ rw e;
-  }
-
-  -- one that passes decides
-  pub left-found : j < n → p j ≡ true → anyb p (upFrom a (n - a)) ≡ true
-  left-found h e = L .decides ∙ anyb-up p n j h ∙ rw e
-
-  -- at the end none has passed
-  pub left-none : n ≤ j → anyb p (upFrom a (n - a)) ≡ false
-  left-none h = L .decides ∙ anyb-past p n j h
-
--- from 0 on it is all places below n
-pub left-below : (p : ℕ → Bool) (n : ℕ) → anyb p (below n) ≡ anyb p (upFrom 0 (n - 0))
-left-below p n = let e : n ≡ n - 0 = omega arith in ap (λ (m : ℕ). anyb p (upFrom 0 m)) e
 
 -- the state at a place of the list is marked
 abbrev pub markAt : Graph → List ℕ → ℕ → Bool

@@ -40,15 +40,15 @@ pub record BreaksFirst (g : Graph) (xs : List ℕ) (j : ℕ) : Type 0 where
   pub breaks : Breaks g xs j
   pub none-before : (i : ℕ) → i < j → Breaks g xs i → ⊥
 
--- What the first place says, whatever the list.
+-- What the first place says, whatever the list and the graph.
 pub record BreakShown (g : Graph) : Type 0 where
   -- there is such a place j exactly if the list breaks there and at no place before it
   pub some-exactly : (xs : List ℕ) (j : ℕ) → (firstBreak g xs ≡ some j) ↔ BreaksFirst g xs j
   -- there is none exactly if the list is a path of states
   pub none-exactly : (xs : List ℕ) → (firstBreak g xs ≡ none) ↔ (T (pathb g xs) × AllBelow (g .size) xs)
-  -- an accepting path has none
-  pub accepting-none : (xs : List ℕ) → T (acceptingb g xs) → firstBreak g xs ≡ none
+  -- an accepting path has none, where the initial state is a state and edges are pairs of states
+  pub accepting-none : WellFormed g → (xs : List ℕ) → T (acceptingb g xs) → firstBreak g xs ≡ none
 
--- So it is for every well-formed graph.
+-- So it is for every graph.
 abbrev pub BreaksShown : Type 0
-BreaksShown = (g : Graph) → WellFormed g → BreakShown g
+BreaksShown = (g : Graph) → BreakShown g

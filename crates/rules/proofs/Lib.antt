@@ -1,2 +1,1 @@
--- The law of a test that goes through a range.
-pub mod Range
+-- The proofs of the tests; the law that they cite, of a test that goes through a range, stands in `lasso`.

@@ -1,4 +1,5 @@
--- Condition 3, and the starred examples.
+-- Condition 3, the starred examples and the graded ones.
 pub mod Places
 pub mod Sequence
 pub mod Examples
+pub mod Grades

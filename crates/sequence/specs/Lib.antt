@@ -1,5 +1,7 @@
--- What condition 3 says: any sequence of calls on one accepted file gives the book's answers and lists the roll.
+-- What condition 3 says: any sequence of calls on one accepted file gives the book's answers and lists the roll; and the
+-- tables of examples.
 pub mod Calls
 pub mod Book
 pub mod Claim
 pub mod Examples
+pub mod Grades

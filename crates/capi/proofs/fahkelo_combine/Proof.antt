@@ -1,5 +1,5 @@
 -- `fahkelo_combine` meets its contract: 100 if `out` is too short, else the report of what a combination answers.
-use Prim.Native.Nat.{ℕ, _≤_, _<_}
+use Prim.Native.Nat.{ℕ}
 use mathlib.Core.Path.{_≡_}
 use mathlib.Core.List.{List}
 use native.Mathlib.Omega.{arith}
@@ -12,7 +12,8 @@ use Rattle.combine.specs.Combine.{combineOutcomeOf, combineOutcome, combineOutp
 use Rattle.combine.proofs.ClaimLaws.{answered-bytes}
 use Rattle.answers.specs.Kinds.{combineReport}
 use Rattle.capi.specs.Figures.{FigureFits}
-use Rattle.capi.proofs.CallLaws.{is-short, is-enough, reports-short, reports-enough}
+use Rattle.capi.specs.Interface.{outShort}
+use Rattle.capi.proofs.CallLaws.{out-short, out-enough, is-short, is-enough, reports-short, reports-enough}
 use Rattle.capi.proofs.fahkelo_combine.Statement.{statement}
 use Rattle.capi.proofs.fahkelo_combine.Tie as tie
 
@@ -38,9 +39,9 @@ returns : tie.Need-returns
 returns c =
     let s = start (c .before) in
     let out = s .args .out .now in
-    let few : length out < 4 = omega (arith, c .if1 .taken) in
-    let r = reports-short out (combineReport (due s)) few in
-    (r .0, (r .1, is-short out (s .args .output .now) (output-due s) few))
+    let few = out-short out (omega (arith, c .if1 .taken)) in
+    let r = reports-short (outShort out) out (combineReport (due s)) few in
+    (r .0, (r .1, is-short (outShort out) (s .args .output .now) (output-due s) few))
 
 combine-requires : tie.Need-combine-requires
 combine-requires c κs = search needs
@@ -65,9 +66,9 @@ returns-2 c =
     let else = done .before .before in
     let s = start (else .before) in
     let out = s .args .out .now in
-    let enough : 4 ≤ length out = omega (arith, else .if1 .left) in
-    let r = reports-enough combineReport out (combineOutcomeOf (done .combine .result)) (due s) enough (done .combine .ensures .0) (reported .report-combine .ensures .0) (reported .report-combine .ensures .1) in
-    (r .0, (r .1, is-enough out (s .args .output .now) (output-due s) enough (done .combine .ensures .1)))
+    let enough = out-enough out (omega (arith, else .if1 .left)) in
+    let r = reports-enough (outShort out) combineReport out (combineOutcomeOf (done .combine .result)) (due s) enough (done .combine .ensures .0) (reported .report-combine .ensures .0) (reported .report-combine .ensures .1) in
+    (r .0, (r .1, is-enough (outShort out) (s .args .output .now) (output-due s) enough (done .combine .ensures .1)))
 
 pub fahkelo-combine-spec : {M : Type 1} → statement M
 fahkelo-combine-spec =

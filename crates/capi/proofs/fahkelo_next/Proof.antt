@@ -1,6 +1,6 @@
 -- `fahkelo_next` meets its contract: 100 if `out` is too short, else the report of what next answers.
 use mathlib.Core.List.{List}
-use Prim.Native.Nat.{ℕ, _≤_, _<_}
+use Prim.Native.Nat.{ℕ}
 use native.Mathlib.Omega.{arith}
 use borrow.Author.Needs.{needs}
 use lib.ListN.{length}
@@ -8,7 +8,8 @@ use Rattle.outcomes.specs.Outcome.{Outcome}
 use Rattle.next.specs.Next.{Followed, nextOutcomeOf, nextOutcome, nextAnswer}
 use Rattle.gate.specs.Gate.{workOf}
 use Rattle.answers.specs.Kinds.{nextReport}
-use Rattle.capi.proofs.CallLaws.{tables-short, tables-enough, reports-short, reports-enough}
+use Rattle.capi.specs.Interface.{outShort}
+use Rattle.capi.proofs.CallLaws.{out-short, out-enough, tables-short, tables-enough, reports-short, reports-enough}
 use Rattle.capi.proofs.fahkelo_next.Statement.{statement}
 use Rattle.capi.proofs.fahkelo_next.Tie as tie
 
@@ -30,9 +31,9 @@ returns : tie.Need-returns
 returns c =
     let s = start (c .before) in
     let out = s .args .out .now in
-    let few : length out < 4 = omega (arith, c .if1 .taken) in
-    let r = reports-short out (nextReport (due s)) few in
-    (r .0, (r .1, tables-short out (s .args .answer .now) (s .args .work .now) (answer-due s) (work-due s) few))
+    let few = out-short out (omega (arith, c .if1 .taken)) in
+    let r = reports-short (outShort out) out (nextReport (due s)) few in
+    (r .0, (r .1, tables-short (outShort out) (s .args .answer .now) (s .args .work .now) (answer-due s) (work-due s) few))
 
 next-requires : tie.Need-next-requires
 next-requires c κs = search needs
@@ -56,9 +57,9 @@ returns-2 c =
     let else = done .before .before .before in
     let s = start (else .before) in
     let out = s .args .out .now in
-    let enough : 4 ≤ length out = omega (arith, else .if1 .left) in
-    let r = reports-enough nextReport out (nextOutcomeOf (done .next .result)) (due s) enough (done .next .ensures .0) (reported .report-next .ensures .0) (reported .report-next .ensures .1) in
-    (r .0, (r .1, tables-enough out (s .args .answer .now) (s .args .work .now) enough (done .next .ensures .1 .0) (done .next .ensures .1 .1)))
+    let enough = out-enough out (omega (arith, else .if1 .left)) in
+    let r = reports-enough (outShort out) nextReport out (nextOutcomeOf (done .next .result)) (due s) enough (done .next .ensures .0) (reported .report-next .ensures .0) (reported .report-next .ensures .1) in
+    (r .0, (r .1, tables-enough (outShort out) (s .args .answer .now) (s .args .work .now) (answer-due s) (work-due s) enough (done .next .ensures .1 .0) (done .next .ensures .1 .1)))
 
 pub fahkelo-next-spec : {M : Type 1} → statement M
 fahkelo-next-spec =

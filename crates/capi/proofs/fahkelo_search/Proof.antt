@@ -1,6 +1,6 @@
 -- `fahkelo_search` meets its contract: 100 if `out` is too short, else the report of what the search answers.
 use mathlib.Core.List.{List}
-use Prim.Native.Nat.{ℕ, _≤_, _<_}
+use Prim.Native.Nat.{ℕ}
 use native.Mathlib.Omega.{arith}
 use borrow.Author.Needs.{needs}
 use lib.ListN.{length}
@@ -8,7 +8,8 @@ use Rattle.gate.specs.Gate.{asking, workOf}
 use Rattle.outcomes.specs.Outcome.{Outcome}
 use Rattle.search.specs.Search.{Searched, searchOutcomeOf, searchOutcome, searchAnswer}
 use Rattle.answers.specs.Kinds.{searchReport}
-use Rattle.capi.proofs.CallLaws.{tables-short, tables-enough, reports-short, reports-enough}
+use Rattle.capi.specs.Interface.{outShort}
+use Rattle.capi.proofs.CallLaws.{out-short, out-enough, tables-short, tables-enough, reports-short, reports-enough}
 use Rattle.capi.proofs.fahkelo_search.Statement.{statement}
 use Rattle.capi.proofs.fahkelo_search.Tie as tie
 
@@ -30,9 +31,9 @@ returns : tie.Need-returns
 returns c =
     let s = start (c .before) in
     let out = s .args .out .now in
-    let few : length out < 4 = omega (arith, c .if1 .taken) in
-    let r = reports-short out (searchReport (due s)) few in
-    (r .0, (r .1, tables-short out (s .args .answer .now) (s .args .work .now) (answer-due s) (work-due s) few))
+    let few = out-short out (omega (arith, c .if1 .taken)) in
+    let r = reports-short (outShort out) out (searchReport (due s)) few in
+    (r .0, (r .1, tables-short (outShort out) (s .args .answer .now) (s .args .work .now) (answer-due s) (work-due s) few))
 
 search-requires : tie.Need-search-requires
 search-requires c κs = search needs
@@ -56,9 +57,9 @@ returns-2 c =
     let else = done .before .before .before in
     let s = start (else .before) in
     let out = s .args .out .now in
-    let enough : 4 ≤ length out = omega (arith, else .if1 .left) in
-    let r = reports-enough searchReport out (searchOutcomeOf (done .search .result)) (due s) enough (done .search .ensures .0) (reported .report-search .ensures .0) (reported .report-search .ensures .1) in
-    (r .0, (r .1, tables-enough out (s .args .answer .now) (s .args .work .now) enough (done .search .ensures .1 .0) (done .search .ensures .1 .1)))
+    let enough = out-enough out (omega (arith, else .if1 .left)) in
+    let r = reports-enough (outShort out) searchReport out (searchOutcomeOf (done .search .result)) (due s) enough (done .search .ensures .0) (reported .report-search .ensures .0) (reported .report-search .ensures .1) in
+    (r .0, (r .1, tables-enough (outShort out) (s .args .answer .now) (s .args .work .now) (answer-due s) (work-due s) enough (done .search .ensures .1 .0) (done .search .ensures .1 .1)))
 
 pub fahkelo-search-spec : {M : Type 1} → statement M
 fahkelo-search-spec =

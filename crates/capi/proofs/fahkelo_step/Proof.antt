@@ -1,7 +1,7 @@
 -- `fahkelo_step` meets its contract: 100 if `out` is too short, else the report of what the step answers.
 use mathlib.Core.Path.{_∙_, ap}
 use mathlib.Core.List.{List}
-use Prim.Native.Nat.{ℕ, _≤_, _<_}
+use Prim.Native.Nat.{ℕ}
 use native.Mathlib.Omega.{arith}
 use borrow.Author.Needs.{needs}
 use lib.ListN.{length}
@@ -10,7 +10,8 @@ use Rattle.outcomes.specs.Outcome.{Outcome}
 use Rattle.step.specs.Step.{Stepped, stepOutcomeOf, stepOutcome}
 use Rattle.gate.specs.Gate.{workOf}
 use Rattle.answers.specs.Kinds.{recordGiven, stepReport}
-use Rattle.capi.proofs.CallLaws.{is-short, is-enough, reports-short, reports-enough}
+use Rattle.capi.specs.Interface.{outShort}
+use Rattle.capi.proofs.CallLaws.{out-short, out-enough, is-short, is-enough, reports-short, reports-enough}
 use Rattle.capi.proofs.fahkelo_step.Statement.{statement}
 use Rattle.capi.proofs.fahkelo_step.Tie as tie
 
@@ -29,9 +30,9 @@ returns : tie.Need-returns
 returns c =
     let s = start (c .before) in
     let out = s .args .out .now in
-    let few : length out < 4 = omega (arith, c .if1 .taken) in
-    let r = reports-short out (stepReport (due s)) few in
-    (r .0, (r .1, is-short out (s .args .work .now) (work-due s) few))
+    let few = out-short out (omega (arith, c .if1 .taken)) in
+    let r = reports-short (outShort out) out (stepReport (due s)) few in
+    (r .0, (r .1, is-short (outShort out) (s .args .work .now) (work-due s) few))
 
 record-given-requires : tie.Need-record-given-requires
 record-given-requires c κs = search needs
@@ -56,10 +57,10 @@ returns-2 c =
     let else = given .before in
     let s = start (else .before) in
     let out = s .args .out .now in
-    let enough : 4 ≤ length out = omega (arith, else .if1 .left) in
+    let enough = out-enough out (omega (arith, else .if1 .left)) in
     let same = ap (λ (rec : Record). stepOutcome (s .args .file .now) rec (length (s .args .work .now))) (given .record-given .ensures) in
-    let r = reports-enough stepReport out (stepOutcomeOf (done .step .result)) (due s) enough (done .step .ensures .0 ∙ same) (reported .report-step .ensures .0) (reported .report-step .ensures .1) in
-    (r .0, (r .1, is-enough out (s .args .work .now) (work-due s) enough (done .step .ensures .1)))
+    let r = reports-enough (outShort out) stepReport out (stepOutcomeOf (done .step .result)) (due s) enough (done .step .ensures .0 ∙ same) (reported .report-step .ensures .0) (reported .report-step .ensures .1) in
+    (r .0, (r .1, is-enough (outShort out) (s .args .work .now) (work-due s) enough (done .step .ensures .1)))
 
 pub fahkelo-step-spec : {M : Type 1} → statement M
 fahkelo-step-spec =

@@ -1,12 +1,11 @@
 -- `grade_of_model` meets its contract: a list that breaks is "false", any other has the verdict on it; the place is the first
 -- that breaks either way.
 use mathlib.Core.Path.{_≡_, refl, sym, _∙_, ap}
-use mathlib.Core.Option.{some, none}
 use borrow.Author.Needs.{needs}
 use lib.ListN.{length}
 use Rattle.model.specs.Model.{graphIn}
 use Rattle.model.proofs.Laws.{valid-well-formed}
-use Rattle.paths.specs.Breaks.{breakOf, firstBreak}
+use Rattle.paths.specs.Breaks.{breakOf}
 use Rattle.grader.specs.Grade.{verdictOf, verdict}
 use Rattle.grader.proofs.GradeLaws.{accepts-broken, verdict-false, grade-answered}
 use Rattle.grader.proofs.grade_of_model.Statement.{statement}

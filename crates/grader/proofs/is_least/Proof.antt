@@ -1,16 +1,14 @@
 -- `is_least` meets its contract: the length that all rounds find is the least one of an accepting path. The rounds are never
 -- stopped, since no model has so many candidates.
-use Prim.Native.Nat.{ℕ}
-use mathlib.Core.Path.{_≡_, sym, _∙_}
+use mathlib.Core.Path.{_≡_, sym}
 use native.Mathlib.Omega.{arith}
 use borrow.Author.Needs.{needs}
 use Rattle.lasso.specs.Graph.{edges}
 use Rattle.lasso.specs.Roll.{leastLength}
-use Rattle.lasso.proofs.RoundLaws.{candidates-length-le}
 use Rattle.model.specs.Model.{graphIn}
-use Rattle.model.proofs.Laws.{valid-sizes}
 use Rattle.cursor.specs.Cursor.{BegunSays}
 use Rattle.cursor.specs.declared.Begun.{Begun}
+use Rattle.cursor.proofs.CursorLaws.{never-stopped}
 use Rattle.grader.proofs.GradeLaws.{least-none, least-same, least-other}
 use Rattle.grader.proofs.is_least.Statement.{statement}
 use Rattle.grader.proofs.is_least.Tie as tie
@@ -66,10 +64,7 @@ same-length-2 c = search needs
 returns-2 : tie.Need-returns-2
 returns-2 c =
     let begun = done (c .before .before) in
-    let s = start begun in
-    let sizes = valid-sizes (s .pre .0) in
-    let stop = says begun _ (c .enum-told .given .1) in
-    absurd (omega (arith, stop .short, candidates-length-le (graphIn (s .args .file .now) (s .args .h))))
+    absurd (never-stopped (start begun .pre .0) (says begun _ (c .enum-told .given .1)))
 
 same-length-3 : tie.Need-same-length-3
 same-length-3 c = search needs

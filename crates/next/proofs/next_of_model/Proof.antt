@@ -3,18 +3,17 @@
 use mathlib.Core.Path.{_≡_, sym, _∙_, ap, subst}
 use mathlib.Core.Option.{none}
 use Prim.Native.Nat.{ℕ}
-use native.Mathlib.Omega.{arith}
 use borrow.Author.Needs.{needs}
 use lib.ListN.{length}
 use Rattle.lasso.specs.Graph.{Graph}
 use Rattle.lasso.specs.Roll.{leastLength}
 use Rattle.model.specs.Model.{graphIn, graphOf}
-use Rattle.model.proofs.Laws.{valid-graph, valid-sizes}
-use Rattle.lasso.proofs.RoundLaws.{candidates-length-le}
+use Rattle.model.proofs.Laws.{valid-graph}
 use Rattle.outcomes.proofs.OutcomeLaws.{call-answer}
 use Rattle.gate.proofs.GateLaws.{valid-room}
 use Rattle.cursor.specs.Cursor.{BegunSays}
 use Rattle.cursor.specs.declared.Begun.{Begun}
+use Rattle.cursor.proofs.CursorLaws.{never-stopped}
 use Rattle.next.specs.Next.{nextOutcome, nextAnswer}
 use Rattle.next.proofs.NextLaws.{notShortest-none, next-not-shortest}
 use Rattle.next.proofs.next_of_model.Statement.{statement}
@@ -56,10 +55,7 @@ same-length c = search needs
 returns : tie.Need-returns
 returns c =
     let begun = done (c .before .before) in
-    let s = start begun in
-    let sizes = valid-sizes (s .pre .0) in
-    let stop = says begun _ (c .enum-told .given .1) in
-    absurd (omega (arith, stop .short, candidates-length-le (graphIn (s .args .file .now) (s .args .h))))
+    absurd (never-stopped (start begun .pre .0) (says begun _ (c .enum-told .given .1)))
 
 same-length-2 : tie.Need-same-length-2
 same-length-2 c = search needs

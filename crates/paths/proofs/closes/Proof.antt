@@ -1,19 +1,22 @@
 -- `closes` meets its contract. The loop's invariant: some place starts a closed walk with a mark exactly if one from place k
 -- on does. The first place that holds the last entry decides.
-use Prim.Native.Nat.{ℕ, _-_}
+use Prim.Native.Nat.{_-_}
 use mathlib.Core.Path.{_≡_, sym, _∙_}
 use native.Mathlib.Omega.{arith}
 use lib.ListN.{getD}
+use Rattle.lasso.specs.Lists.{anyb, below}
 use Rattle.lasso.specs.Graph.{edges, loopsb}
+use Rattle.lasso.proofs.Range.{Left, left-below, left-next, left-none}
 use Rattle.model.specs.Model.{graphIn}
 use Rattle.model.proofs.Laws.{valid-well-formed}
 use Rattle.paths.proofs.BreakLaws.{started-unbroken}
-use Rattle.paths.proofs.LoopTests.{Left, left-start, left-next, left-none, left-below, open-at, first-decides}
+use Rattle.paths.proofs.LoopTests.{open-at, first-decides}
 use Rattle.paths.proofs.closes.Statement.{statement}
 use Rattle.paths.proofs.closes.Tie as tie
 
 abbrev Inv-loop : tie.InvT-loop
-Inv-loop file h list end last k₀ k = Left (loopsb (graphIn file h) list) (edges list) 0 k
+Inv-loop file h list end last k₀ k =
+    let loops = loopsb (graphIn file h) list in Left loops (anyb loops (below (edges list))) (edges list) k
 
 abbrev μ-loop : tie.MeasureT-loop
 μ-loop file h list end last k₀ k = end - k
@@ -37,7 +40,7 @@ get-requires : tie.Need-get-requires Inv-loop μ-loop
 get-requires c κs = omega arith
 
 loop-holds : tie.Need-loop-holds Inv-loop μ-loop
-loop-holds c = left-start _ _ _ (omega arith)
+loop-holds c = left-below _ _
 
 get-requires-2 : tie.Need-get-requires-2 Inv-loop μ-loop
 get-requires-2 c κs = omega (arith, c .loop-test .taken)
@@ -56,9 +59,9 @@ returns c =
     let at = here .before .before .before in
     let a = start at .args in
     let g = graphIn (a .file .now) (a .h) in
-    c .closes-at .ensures
-    ∙ sym (left-below (loopsb g (a .list .now)) (edges (a .list .now)) ∙ at .loop .inv .decides
-    ∙ first-decides g (a .list .now) (at .loop .k) (omega (arith, here .before .before .loop-test .taken)) (held here))
+    let closed : c .closes-at .result ≡ loopsb g (a .list .now) (at .loop .k) = c .closes-at .ensures in
+    let first = first-decides g (a .list .now) (at .loop .k) (omega (arith, here .before .before .loop-test .taken)) (held here) in
+    closed ∙ sym (at .loop .inv .decides ∙ first)
 
 add-k : tie.Need-add-k Inv-loop μ-loop
 add-k c = omega (arith, c .before .before .loop-test .taken)
@@ -76,10 +79,7 @@ loop-again c =
 
 returns-2 : tie.Need-returns-2 Inv-loop μ-loop
 returns-2 c =
-    let at = c .before in
-    let a = start at .args in
-    sym (left-below (loopsb (graphIn (a .file .now) (a .h)) (a .list .now)) (edges (a .list .now))
-    ∙ left-none (at .loop .inv) (omega (arith, c .loop-test .left)))
+    sym (left-none (c .before .loop .inv) (omega (arith, c .loop-test .left)))
 
 pub closes-spec : {M : Type 1} → statement M
 closes-spec =

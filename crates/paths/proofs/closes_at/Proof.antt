@@ -1,19 +1,21 @@
 -- `closes_at` meets its contract. The loop's invariant: there is a mark from place k on exactly if there is one from place
 -- j on.
-use Prim.Native.Nat.{ℕ, _-_, _<_}
-use mathlib.Core.Path.{_≡_, sym, _∙_, ap}
+use Prim.Native.Nat.{_-_}
+use mathlib.Core.Path.{_≡_, sym, _∙_}
 use native.Mathlib.Omega.{arith}
-use borrow.Author.Needs.{needs}
 use lib.ListN.{getD}
+use Rattle.lasso.specs.Lists.{anyb, upFrom}
 use Rattle.lasso.specs.Graph.{edges}
+use Rattle.lasso.proofs.Range.{Left, left-from, left-found, left-next, left-none}
 use Rattle.model.specs.Model.{graphIn}
 use Rattle.paths.proofs.BreakLaws.{unbroken-states}
-use Rattle.paths.proofs.LoopTests.{markAt, Left, left-start, left-next, left-found, left-none, open-at, closed-at}
+use Rattle.paths.proofs.LoopTests.{markAt, open-at, closed-at}
 use Rattle.paths.proofs.closes_at.Statement.{statement}
 use Rattle.paths.proofs.closes_at.Tie as tie
 
 abbrev Inv-loop : tie.InvT-loop
-Inv-loop file h list k end j₀ j = Left (markAt (graphIn file h) list) (edges list) k j
+Inv-loop file h list k end j₀ j =
+    let marks = markAt (graphIn file h) list in Left marks (anyb marks (upFrom k (edges list - k))) (edges list) j
 
 abbrev μ-loop : tie.MeasureT-loop
 μ-loop file h list k end j₀ j = end - j
@@ -55,7 +57,7 @@ returns c =
     sym (open-at (graphIn (a .file .now) (a .h)) (a .list .now) (a .k) (λ e. c .if1 .taken (got .before .get .ensures .0 ∙ e ∙ sym (got .get2 .ensures .0))))
 
 loop-holds : tie.Need-loop-holds Inv-loop μ-loop
-loop-holds c = let s = start (c .before) in left-start _ _ _ (omega (arith, s .pre .1 .1))
+loop-holds c = let s = start (c .before) in left-from _ _ _ (omega (arith, s .pre .1 .1))
 
 get-requires-3 : tie.Need-get-requires-3 Inv-loop μ-loop
 get-requires-3 c κs = omega (arith, c .loop-test .taken)

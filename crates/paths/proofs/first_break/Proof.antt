@@ -2,12 +2,11 @@
 use Prim.Native.Nat.{_+_, _-_}
 use mathlib.Core.Path.{_≡_, sym, _∙_}
 use native.Mathlib.Omega.{arith}
-use borrow.Author.Needs.{needs}
 use borrow.Author.Tests.{not-true, not-false}
 use lib.ListN.{length, getD}
 use Rattle.lasso.specs.Graph.{edgeb}
 use Rattle.model.specs.Model.{graphIn}
-use Rattle.model.proofs.Laws.{valid-sizes, valid-well-formed}
+use Rattle.model.proofs.Laws.{valid-well-formed}
 use Rattle.paths.proofs.BreakLaws.{Unbroken, empty-unbroken, broken-at-first, unbroken-start, unbroken-next, broken-next, unbroken-end}
 use Rattle.paths.proofs.first_break.Statement.{statement}
 use Rattle.paths.proofs.first_break.Tie as tie

@@ -1,15 +1,13 @@
 -- `is_path` meets its contract: a list from the start is a path exactly if it breaks nowhere.
 use mathlib.Core.Path.{_≡_, sym, _∙_, ap}
-use mathlib.Core.Option.{some, none}
 use borrow.Author.Needs.{needs}
 use borrow.Author.Tests.{eq-eqb, ne-eqb}
 use lib.ListN.{getD}
-use lib.Dec.{T}
 use Rattle.lasso.specs.Graph.{pathb}
 use Rattle.lasso.proofs.Tests.{T-true}
 use Rattle.model.specs.Model.{graphIn}
 use Rattle.model.proofs.Laws.{valid-well-formed}
-use Rattle.paths.specs.Breaks.{breakOf, firstBreak}
+use Rattle.paths.specs.Breaks.{breakOf}
 use Rattle.paths.proofs.BreakLaws.{unbroken-path, broken-no-path}
 use Rattle.paths.proofs.is_path.Statement.{statement}
 use Rattle.paths.proofs.is_path.Tie as tie

@@ -11,7 +11,7 @@ use Rattle.lasso.specs.Graph.{ascendingb}
 use Rattle.format.specs.Layout.{rowTargets}
 use Rattle.format.specs.Rules.{badRows, badOrder}
 use Rattle.format.proofs.Kept.{rows-ascend-kept, row-last-kept, row-end-within}
-use Rattle.rules.proofs.Range.{Left, left-below, left-found, left-next, left-none}
+use Rattle.lasso.proofs.Range.{Left, left-below, left-found, left-next, left-none}
 use Rattle.rules.proofs.order_broken.Statement.{statement}
 use Rattle.rules.proofs.order_broken.Tie as tie
 

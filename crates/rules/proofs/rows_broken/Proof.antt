@@ -10,7 +10,7 @@ use denote.Ref.{now}
 use lib.Dec.{ltb, eqb}
 use Rattle.lasso.specs.Lists.{anyb, below}
 use Rattle.format.specs.Layout.{states, rowEntry}
-use Rattle.rules.proofs.Range.{Left, left-below, left-found, left-next, left-none}
+use Rattle.lasso.proofs.Range.{Left, left-below, left-found, left-next, left-none}
 use Rattle.rules.proofs.rows_broken.Statement.{statement}
 use Rattle.rules.proofs.rows_broken.Tie as tie
 

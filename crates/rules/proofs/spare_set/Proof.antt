@@ -6,7 +6,7 @@ use mathlib.Core.Path.{_≡_, sym, _∙_}
 use denote.Ref.{now}
 use Rattle.format.specs.Layout.{markBit}
 use Rattle.format.specs.Rules.{badSpare}
-use Rattle.rules.proofs.Range.{Left, left-from, left-found, left-next, left-none}
+use Rattle.lasso.proofs.Range.{Left, left-from, left-found, left-next, left-none}
 use Rattle.rules.proofs.spare_set.Statement.{statement}
 use Rattle.rules.proofs.spare_set.Tie as tie
 

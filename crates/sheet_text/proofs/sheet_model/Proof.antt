@@ -8,12 +8,12 @@ use native.Mathlib.Omega.{arith}
 use borrow.Author.Needs.{needs}
 use lib.ListN.{length}
 use Rattle.lasso.specs.Graph.{Graph}
-use Rattle.lasso.proofs.RoundLaws.{candidates-length-le}
 use Rattle.model.specs.Model.{graphIn, graphOf}
-use Rattle.model.proofs.Laws.{valid-graph, valid-sizes}
+use Rattle.model.proofs.Laws.{valid-graph}
 use Rattle.gate.proofs.GateLaws.{valid-room}
 use Rattle.cursor.specs.Cursor.{BegunSays, AllDone}
 use Rattle.cursor.specs.declared.Begun.{Begun}
+use Rattle.cursor.proofs.CursorLaws.{never-stopped}
 use Rattle.text.proofs.WroteLaws.{wrote-length, wrote-then, wrote-as}
 use Rattle.sheet_head.specs.Words.{noneLine}
 use Rattle.sheet_text.specs.SheetText.{sheetText, sheetAnswer}
@@ -89,10 +89,7 @@ same-length c = search needs
 returns : tie.Need-returns
 returns c =
     let begun = done (c .before .before) in
-    let s = start begun in
-    let sizes = valid-sizes (s .pre .0) in
-    let stop = says-file begun _ (c .enum-told .given .1) in
-    absurd (omega (arith, stop .short, candidates-length-le (graphOf (s .args .file .now))))
+    absurd (never-stopped (start begun .pre .0) (says begun _ (c .enum-told .given .1)))
 
 same-length-2 : tie.Need-same-length-2
 same-length-2 c = search needs

@@ -1,0 +1,130 @@
+//! The measurement of grades: each family through every version in one run, and the table of the results.
+
+use std::hint::black_box;
+use std::time::Duration;
+
+use crate::fahkelo::GradeAnswer;
+use crate::grades::{self, Graded, Input, LONG};
+use crate::measure::{least_times, ratio};
+use crate::ported::access::{Counting, Work};
+use crate::ported::grade;
+use crate::versions::{Grader, Proved, SAFE, UNCHECKED};
+
+/// The entries of a working table that suffices for every model.
+pub const WORK_ENTRIES: usize = 6 * 4096;
+
+/// One grade by one version.
+#[inline(never)]
+pub fn grade_once(version: &dyn Grader, input: &Input, work: &mut [u16]) -> GradeAnswer {
+    version.grade(&input.file, &input.list, input.k, work)
+}
+
+/// All versions must give the verdict and the place of the family.
+fn assert_agreed(family: &Graded) {
+    for version in [&Proved as &dyn Grader, &SAFE, &UNCHECKED] {
+        let mut work = [9; WORK_ENTRIES];
+        let answer = grade_once(version, &family.input, &mut work);
+        assert!(
+            answer == GradeAnswer::Graded(family.verdict, family.place)
+                && work == [0; WORK_ENTRIES],
+            "{}: the {} version differs",
+            family.name,
+            version.name()
+        );
+    }
+}
+
+fn times(input: &Input) -> [Duration; 3] {
+    let mut works = [[0; WORK_ENTRIES]; 3];
+    let [a, b, c] = &mut works;
+    let once = |version: &dyn Grader, work: &mut [u16]| {
+        black_box(grade_once(version, black_box(input), work));
+    };
+    least_times([
+        &mut || once(&Proved, a),
+        &mut || once(&SAFE, b),
+        &mut || once(&UNCHECKED, c),
+    ])
+}
+
+/// Measures the families whose names hold a word, and prints the table.
+pub fn run(word: &str) {
+    println!("grade, microseconds of processor time\n");
+    println!("| family | entries | verdict | proved | safe | unchecked | proved/safe | proved/unchecked |");
+    println!("|---|---|---|---|---|---|---|---|");
+    for name in grades::names().filter(|name| name.contains(word)) {
+        let family = grades::named(&name).expect("it is one of the names");
+        assert_agreed(&family);
+        let times = times(&family.input);
+        let [proved, safe, unchecked] = times;
+        let micros = times.map(|time| format!("{:.1}", time.as_secs_f64() * 1e6));
+        println!(
+            "| {} | {} | {:?} | {} | {:.2} | {:.2} |",
+            family.name,
+            family.input.list.len(),
+            family.verdict,
+            micros.join(" | "),
+            ratio(proved, safe),
+            ratio(proved, unchecked)
+        );
+    }
+}
+
+/// The work of a grade.
+fn count_work(input: &Input) -> Work {
+    let mut work = [0; WORK_ENTRIES];
+    Counting::take();
+    grade::grade::<Counting>(&input.file, &input.list, input.k, &mut work);
+    Counting::take()
+}
+
+/// Prints how the edges of the long lists are looked for: the edges, and the looks at places of rows for them.
+pub fn print_counts() {
+    println!("| family | edges looked for | looks | looks an edge | most looks for an edge |");
+    println!("|---|---|---|---|---|");
+    for name in LONG {
+        let family = grades::named(name).expect("it is one of the names");
+        let work = count_work(&family.input);
+        println!(
+            "| {name} | {} | {} | {:.2} | {} |",
+            work.sought,
+            work.looks,
+            work.looks as f64 / work.sought.max(1) as f64,
+            work.most_looks
+        );
+    }
+}
+
+#[cfg(test)]
+mod tests {
+    use super::*;
+
+    fn named(name: &str) -> Input {
+        grades::named(name).expect("there is the family").input
+    }
+
+    #[test]
+    fn looks_for_the_edges_of_long_lists() {
+        let most = [
+            ("through-4096", 12),
+            ("through-2048", 12),
+            ("round-a-ring", 1),
+        ];
+        for (name, most) in most {
+            let work = count_work(&named(name));
+            assert_eq!((work.sought, work.most_looks), (69_999, most), "{name}");
+        }
+        assert_eq!(count_work(&named("broken-at-0")).sought, 0);
+    }
+
+    #[test]
+    fn looks_for_any_number() {
+        for name in ["through-4096", "through-2048"] {
+            let mut input = named(name);
+            for t in (0..4200).step_by(41).chain([4095, 4096, 65535]) {
+                input.list = vec![0, t];
+                assert!(count_work(&input).most_looks <= 12, "{name}, {t}");
+            }
+        }
+    }
+}

@@ -1,0 +1,121 @@
+// A grade on trial: the working table is filled before the call and looked at after it, and the answer is a few numbers.
+ghost use Prim.Native.Nat.{_≤_};
+ghost use lib.ListN.{length};
+use grader::GradeAnswer;
+use grader::Verdict;
+use harness::VARIED;
+use harness::ZEROS;
+use harness::fill;
+use harness::holds;
+use paths::FirstBreak;
+
+// What is said of a list: nothing, since the call was refused, or the verdict.
+pub const REFUSED: usize = 0;
+
+pub const FALSE: usize = 1;
+
+pub const ACCEPTING: usize = 2;
+
+pub const SHORTEST: usize = 3;
+
+// What a grade answered: what is said of the list, the number of the refusal (0 if there is none), whether there is a
+// place where the list breaks, and that place (0 if there is none). Then how many working tables are not as they must be:
+// untouched after a refusal, all zero after a verdict.
+pub struct Tried {
+    pub said: usize,
+    pub refusal: usize,
+    pub broken: bool,
+    pub place: usize,
+    pub wrong: u64,
+}
+
+// What a verdict says.
+fn said_by(given: Verdict) -> usize {
+    match given {
+        Verdict::False => FALSE,
+        Verdict::Accepting => ACCEPTING,
+        Verdict::Shortest => SHORTEST,
+    }
+}
+
+// The answer with a verdict and a first break.
+fn graded(given: Verdict, broken: FirstBreak) -> Tried {
+    let said = said_by(given);
+    match broken {
+        FirstBreak::None => Tried {
+            said: said,
+            refusal: 0,
+            broken: false,
+            place: 0,
+            wrong: 0,
+        },
+        FirstBreak::At(place) => Tried {
+            said: said,
+            refusal: 0,
+            broken: true,
+            place: place,
+            wrong: 0,
+        },
+    }
+}
+
+// The answer, before any table is looked at.
+fn answered(given: GradeAnswer) -> Tried {
+    match given {
+        GradeAnswer::Refused(number) => Tried {
+            said: REFUSED,
+            refusal: number as usize,
+            broken: false,
+            place: 0,
+            wrong: 0,
+        },
+        GradeAnswer::Graded(verdict, broken) => graded(verdict, broken),
+    }
+}
+
+// What the working table must hold: it is untouched after a refusal, and zero after a verdict.
+fn left_after(said: usize) -> usize {
+    if said == REFUSED {
+        return VARIED;
+    }
+    ZEROS
+}
+
+// 0 if the working table holds what it must after what is said, else 1.
+pub fn wrong_work(work: &[u16], said: usize) -> u64
+    ensures { λ r. ⌜ r ≤ 1 ⌝ }
+{
+    if holds(work, 0, left_after(said)) {
+        return 0;
+    }
+    1
+}
+
+// The first so many entries of a list, all of them if there are fewer.
+pub fn first(list: &[u16], count: usize) -> &[u16] {
+    if count <= list.len() {
+        &list[..count]
+    } else {
+        list
+    }
+}
+
+// A grade with the whole of a working table.
+fn grade_on(file: &[u8], list: &[u16], k: u16, work: &mut [u16]) -> Tried {
+    fill(work, VARIED);
+    let given = answered(grader::grade(file, list, k, work));
+    Tried {
+        said: given.said,
+        refusal: given.refusal,
+        broken: given.broken,
+        place: given.place,
+        wrong: wrong_work(work, given.said),
+    }
+}
+
+// A grade of a list with a claimed k, lent so many entries of a working table.
+pub fn grade(file: &[u8], list: &[u16], k: u16, work: &mut [u16], room: usize) -> Tried
+    requires { ⌜ room ≤ length (now work) ⌝ }
+{
+    grade_on(file, list, k, &mut work[..room])
+}
