@@ -55,15 +55,16 @@ combinations() {
 }
 
 grades() {
-    local family proved safe unchecked
-    echo "| family | proved | safe | unchecked | proved/safe | proved/unchecked |"
-    echo "|---|---|---|---|---|---|"
+    local family proved safe paired unchecked
+    echo "| family | proved | safe | paired | unchecked | proved/safe | proved/paired | proved/unchecked |"
+    echo "|---|---|---|---|---|---|---|---|"
     for family in $("$program" grade-families); do
         proved=$(count grade_once grade-once proved "$family")
         safe=$(count grade_once grade-once safe "$family")
+        paired=$(count grade_once grade-once paired "$family")
         unchecked=$(count grade_once grade-once unchecked "$family")
-        awk -v f="$family" -v p="$proved" -v s="$safe" -v u="$unchecked" \
-            'BEGIN { printf "| %s | %.0f | %.0f | %.0f | %.2f | %.2f |\n", f, p, s, u, p / s, p / u }'
+        awk -v f="$family" -v p="$proved" -v s="$safe" -v w="$paired" -v u="$unchecked" 'BEGIN {
+            printf "| %s | %.0f | %.0f | %.0f | %.0f | %.2f | %.2f | %.2f |\n", f, p, s, w, u, p / s, p / w, p / u }'
     done
 }
 

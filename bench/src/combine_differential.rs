@@ -15,7 +15,7 @@ use crate::product::{is_pair_of_paths, product};
 use crate::random::Random;
 use crate::reference::{read, read_property};
 use crate::samples::dirty;
-use crate::versions::{Combiner, SAFE};
+use crate::versions::{Combiner, PAIRED, SAFE};
 
 /// Lists of a result's roll that are compared.
 const MOST_LISTS: usize = 4;
@@ -142,7 +142,7 @@ fn answer_of(file: &Result<Vec<u8>, u16>, length: usize) -> CombineAnswer {
     }
 }
 
-/// One call of the library and of the safe version, with copies of the output.
+/// One call of the library, of the safe and of the paired version, with copies of the output.
 fn compare_call(
     lot: &mut Random,
     counts: &mut Counts,
@@ -187,10 +187,13 @@ fn compare_call(
     if !same {
         counts.difference(&format!("combine, {} bytes: proved", before.len()), input);
     }
-    let mut output = before.to_vec();
-    let got = SAFE.combine(rule, letters, property, &mut output);
-    if got != expected || output != after {
-        counts.difference(&format!("combine, {} bytes: safe", before.len()), input);
+    for version in [&SAFE as &dyn Combiner, &PAIRED] {
+        let mut output = before.to_vec();
+        let got = version.combine(rule, letters, property, &mut output);
+        if got != expected || output != after {
+            let what = format!("combine, {} bytes: {}", before.len(), version.name());
+            counts.difference(&what, input);
+        }
     }
 }
 

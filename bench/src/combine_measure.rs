@@ -7,7 +7,7 @@ use crate::combinations::{Combination, Input, COMBINATIONS};
 use crate::fahkelo::CombineAnswer;
 use crate::measure::{least_times, ratio};
 use crate::product::product;
-use crate::versions::{Combiner, Proved, SAFE, UNCHECKED};
+use crate::versions::{Combiner, Proved, PAIRED, SAFE, UNCHECKED};
 
 /// The bytes that do for every result.
 pub const OUTPUT_MOST: usize = 25114;
@@ -23,7 +23,7 @@ fn assert_agreed(family: &Combination, input: &Input) {
     let model = product(&input.rule, &input.letters, &input.property).expect("it is not refused");
     assert_eq!(model.edges(), family.edges(), "{}", family.name);
     let file = model.to_bytes();
-    for version in [&Proved as &dyn Combiner, &SAFE, &UNCHECKED] {
+    for version in [&Proved as &dyn Combiner, &SAFE, &PAIRED, &UNCHECKED] {
         let mut output = [0xa5; OUTPUT_MOST];
         let answer = combine_once(version, input, &mut output);
         let rest = &output[file.len()..];
@@ -38,32 +38,33 @@ fn assert_agreed(family: &Combination, input: &Input) {
     }
 }
 
-fn times(input: &Input) -> [Duration; 3] {
-    let mut outputs = [[0; OUTPUT_MOST]; 3];
-    let [a, b, c] = &mut outputs;
+fn times(input: &Input) -> [Duration; 4] {
+    let mut outputs = [[0; OUTPUT_MOST]; 4];
+    let [a, b, c, d] = &mut outputs;
     let once = |version: &dyn Combiner, output: &mut [u8]| {
         black_box(combine_once(version, black_box(input), output));
     };
     least_times([
         &mut || once(&Proved, a),
         &mut || once(&SAFE, b),
-        &mut || once(&UNCHECKED, c),
+        &mut || once(&PAIRED, c),
+        &mut || once(&UNCHECKED, d),
     ])
 }
 
 /// Measures the families whose names hold a word, and prints the table.
 pub fn run(word: &str) {
     println!("combine, microseconds of processor time\n");
-    println!("| family | N × Q | edges | mask tests a pass | blocks | proved | safe | unchecked | proved/safe | proved/unchecked |");
-    println!("|---|---|---|---|---|---|---|---|---|---|");
+    println!("| family | N × Q | edges | mask tests a pass | blocks | proved | safe | paired | unchecked | proved/safe | proved/paired | proved/unchecked |");
+    println!("|---|---|---|---|---|---|---|---|---|---|---|---|");
     for family in COMBINATIONS.iter().filter(|f| f.name.contains(word)) {
         let input = family.make();
         assert_agreed(family, &input);
         let times = times(&input);
-        let [proved, safe, unchecked] = times;
+        let [proved, safe, paired, unchecked] = times;
         let micros = times.map(|time| format!("{:.1}", time.as_secs_f64() * 1e6));
         println!(
-            "| {} | {} × {} | {} | {} | {} | {} | {:.2} | {:.2} |",
+            "| {} | {} × {} | {} | {} | {} | {} | {:.2} | {:.2} | {:.2} |",
             family.name,
             family.rule_states,
             family.property_states,
@@ -72,6 +73,7 @@ pub fn run(word: &str) {
             family.blocks(),
             micros.join(" | "),
             ratio(proved, safe),
+            ratio(proved, paired),
             ratio(proved, unchecked)
         );
     }

@@ -1,5 +1,6 @@
 //! The differential run: many files, valid and damaged, and many calls on each, whose answers and tables are compared
-//! with what the reference says. The library is called by its C functions, the safe Rust version beside it.
+//! with what the reference says. The library is called by its C functions, the safe and the paired
+//! version in Rust beside it.
 
 use crate::fahkelo::{
     kind, next_into, search_into, step_into, NextAnswer, Record, SearchAnswer, StepAnswer,
@@ -14,9 +15,12 @@ use crate::samples::{
     answer_len, damage, dirty, random_model, random_record, walk, work_len, wrong_list,
 };
 use crate::textbook::Textbook;
-use crate::versions::{Finder, SAFE};
+use crate::versions::{Finder, PAIRED, SAFE};
 use std::collections::BTreeMap;
 use std::ops::Range;
+
+/// The versions in Rust that are held to the reference beside the library.
+const VERSIONS: [&dyn Finder; 2] = [&SAFE, &PAIRED];
 
 /// Lists of a larger model's roll that are compared.
 const MOST_LISTS: usize = 60;
@@ -430,8 +434,10 @@ fn compare_step(
     }) {
         counts.difference(&format!("step {so_far:?}: proved"), file);
     }
-    if !tables.agree(&expected, |_, work| SAFE.step(file, so_far, work)) {
-        counts.difference(&format!("step {so_far:?}: safe"), file);
+    for version in VERSIONS {
+        if !tables.agree(&expected, |_, work| version.step(file, so_far, work)) {
+            counts.difference(&format!("step {so_far:?}: {}", version.name()), file);
+        }
     }
 }
 
@@ -453,10 +459,12 @@ fn compare_search(
     }) {
         counts.difference(&format!("search {allowance}: proved"), file);
     }
-    if !tables.agree(&expected, |answer, work| {
-        SAFE.search(file, allowance, answer, work)
-    }) {
-        counts.difference(&format!("search {allowance}: safe"), file);
+    for version in VERSIONS {
+        if !tables.agree(&expected, |answer, work| {
+            version.search(file, allowance, answer, work)
+        }) {
+            counts.difference(&format!("search {allowance}: {}", version.name()), file);
+        }
     }
 }
 
@@ -478,9 +486,11 @@ fn compare_next(
     }) {
         counts.difference(&format!("next {earlier:?}: proved"), file);
     }
-    if !tables.agree(&expected, |answer, work| {
-        SAFE.next(file, earlier, answer, work)
-    }) {
-        counts.difference(&format!("next {earlier:?}: safe"), file);
+    for version in VERSIONS {
+        if !tables.agree(&expected, |answer, work| {
+            version.next(file, earlier, answer, work)
+        }) {
+            counts.difference(&format!("next {earlier:?}: {}", version.name()), file);
+        }
     }
 }

@@ -504,28 +504,31 @@ fn long_lists() {
 fn the_figure_and_the_place_of_a_grade() {
     let file = file_d();
     let mut work = [9; 30];
-    let (mut out, mut place) = ([7; 5], [7; 2]);
+    let (mut out, mut place) = ([7; 5], [usize::MAX; 2]);
     assert_eq!(
         grade_into(&file, &[0, 1, 3, 1], 1, &mut place, &mut work, &mut out),
         kind::SHORTEST
     );
-    assert_eq!((out, place, work), ([0, 7, 7, 7, 7], [7; 2], [0; 30]));
+    assert_eq!(
+        (out, place, work),
+        ([0, 7, 7, 7, 7], [usize::MAX; 2], [0; 30])
+    );
     assert_eq!(
         grade_into(&file, &[0, 3], 0, &mut place, &mut work, &mut out),
         kind::FALSE
     );
-    assert_eq!((out, place), ([1, 7, 7, 7, 7], [1, 7]));
+    assert_eq!((out, place), ([1, 7, 7, 7, 7], [1, usize::MAX]));
 }
 
 #[test]
 fn refused_grades() {
     let file = file_d();
-    let (mut work, mut out, mut place) = ([9; 30], [7; 4], [7]);
+    let (mut work, mut out, mut place) = ([9; 30], [7; 4], [usize::MAX]);
     let mut refused = |file: &[u8], work_len, place_len, out_len| {
         let (work_lent, place_lent) = (&mut work[..work_len], &mut place[..place_len]);
         let out_lent = &mut out[..out_len];
         let number = grade_into(file, &[0, 1, 3, 1], 1, place_lent, work_lent, out_lent);
-        assert_eq!((work, out, place), ([9; 30], [7; 4], [7]));
+        assert_eq!((work, out, place), ([9; 30], [7; 4], [usize::MAX]));
         number
     };
     assert_eq!(refused(&file, 29, 1, 4), 12);

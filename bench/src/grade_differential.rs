@@ -14,8 +14,8 @@ use crate::model::Model;
 use crate::oracle;
 use crate::random::Random;
 use crate::reference::{accepting, SMALL};
-use crate::samples::{damage, dirty, random_model, work_len};
-use crate::versions::{Finder, Grader, Proved, SAFE, UNCHECKED};
+use crate::samples::{damage, dirty, dirty_places, random_model, work_len};
+use crate::versions::{Finder, Grader, Proved, PAIRED, SAFE, UNCHECKED};
 
 /// Lists of each kind that are drawn for a file, and for a file of a family.
 const LISTS: usize = 1;
@@ -275,7 +275,7 @@ fn compare(
     if !agrees_in_c(lot, counts, file, call, expected, &work, &work_after) {
         counts.difference("grade: in C", file, call);
     }
-    for version in [&Proved as &dyn Grader, &SAFE, &UNCHECKED] {
+    for version in [&Proved as &dyn Grader, &SAFE, &PAIRED, &UNCHECKED] {
         let mut used = work.clone();
         let got = version.grade(file, call.list, call.k, &mut used);
         if got != expected || used != work_after {
@@ -304,7 +304,7 @@ fn agrees_in_c(
         _ => lot.between(1, 3),
     };
     let mut out = dirty(lot, out_len);
-    let mut place: Vec<usize> = dirty(lot, place_len).into_iter().map(usize::from).collect();
+    let mut place = dirty_places(lot, place_len);
     let mut used = work.to_vec();
     let (mut out_after, mut place_after) = (out.clone(), place.clone());
     let got = grade_into(file, call.list, call.k, &mut place, &mut used, &mut out);

@@ -8,7 +8,7 @@ use crate::grades::{self, Graded, Input, LONG};
 use crate::measure::{least_times, ratio};
 use crate::ported::access::{Counting, Work};
 use crate::ported::grade;
-use crate::versions::{Grader, Proved, SAFE, UNCHECKED};
+use crate::versions::{Grader, Proved, PAIRED, SAFE, UNCHECKED};
 
 /// The entries of a working table that suffices for every model.
 pub const WORK_ENTRIES: usize = 6 * 4096;
@@ -21,7 +21,7 @@ pub fn grade_once(version: &dyn Grader, input: &Input, work: &mut [u16]) -> Grad
 
 /// All versions must give the verdict and the place of the family.
 fn assert_agreed(family: &Graded) {
-    for version in [&Proved as &dyn Grader, &SAFE, &UNCHECKED] {
+    for version in [&Proved as &dyn Grader, &SAFE, &PAIRED, &UNCHECKED] {
         let mut work = [9; WORK_ENTRIES];
         let answer = grade_once(version, &family.input, &mut work);
         assert!(
@@ -34,37 +34,39 @@ fn assert_agreed(family: &Graded) {
     }
 }
 
-fn times(input: &Input) -> [Duration; 3] {
-    let mut works = [[0; WORK_ENTRIES]; 3];
-    let [a, b, c] = &mut works;
+fn times(input: &Input) -> [Duration; 4] {
+    let mut works = [[0; WORK_ENTRIES]; 4];
+    let [a, b, c, d] = &mut works;
     let once = |version: &dyn Grader, work: &mut [u16]| {
         black_box(grade_once(version, black_box(input), work));
     };
     least_times([
         &mut || once(&Proved, a),
         &mut || once(&SAFE, b),
-        &mut || once(&UNCHECKED, c),
+        &mut || once(&PAIRED, c),
+        &mut || once(&UNCHECKED, d),
     ])
 }
 
 /// Measures the families whose names hold a word, and prints the table.
 pub fn run(word: &str) {
     println!("grade, microseconds of processor time\n");
-    println!("| family | entries | verdict | proved | safe | unchecked | proved/safe | proved/unchecked |");
-    println!("|---|---|---|---|---|---|---|---|");
+    println!("| family | entries | verdict | proved | safe | paired | unchecked | proved/safe | proved/paired | proved/unchecked |");
+    println!("|---|---|---|---|---|---|---|---|---|---|");
     for name in grades::names().filter(|name| name.contains(word)) {
         let family = grades::named(&name).expect("it is one of the names");
         assert_agreed(&family);
         let times = times(&family.input);
-        let [proved, safe, unchecked] = times;
+        let [proved, safe, paired, unchecked] = times;
         let micros = times.map(|time| format!("{:.1}", time.as_secs_f64() * 1e6));
         println!(
-            "| {} | {} | {:?} | {} | {:.2} | {:.2} |",
+            "| {} | {} | {:?} | {} | {:.2} | {:.2} | {:.2} |",
             family.name,
             family.input.list.len(),
             family.verdict,
             micros.join(" | "),
             ratio(proved, safe),
+            ratio(proved, paired),
             ratio(proved, unchecked)
         );
     }

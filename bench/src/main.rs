@@ -31,23 +31,23 @@ mod versions;
 use std::path::Path;
 use std::process::ExitCode;
 
-use versions::{Combiner, Finder, Grader, Proved, SAFE, UNCHECKED};
+use versions::{Combiner, Finder, Grader, Proved, PAIRED, SAFE, UNCHECKED};
 
 const USAGE: &str = "\
 fahkelo-bench [WORD]                           measure the families whose names hold the word (default: all)
 fahkelo-bench differential COUNT SEED          compare answers and tables on COUNT files
 fahkelo-bench counts [SIZE]                    the work of a search on each family, by phase
-fahkelo-bench once VERSION FAMILY SIZE         one search, for a profiler (proved, safe, unchecked, textbook)
+fahkelo-bench once VERSION FAMILY SIZE         one search, for a profiler (proved, safe, paired, unchecked, textbook)
 fahkelo-bench families                         the names of the families
 fahkelo-bench files FOLDER                     write the files of all families
 fahkelo-bench combine [WORD]                   measure the combinations whose names hold the word (default: all)
 fahkelo-bench combine-differential COUNT SEED  compare answers and outputs on COUNT combinations
-fahkelo-bench combine-once VERSION FAMILY      one combination, for a profiler (proved, safe, unchecked)
+fahkelo-bench combine-once VERSION FAMILY      one combination, for a profiler (proved, safe, paired, unchecked)
 fahkelo-bench combine-families                 the families of combinations: name, mask tests a pass, blocks
 fahkelo-bench grade [WORD]                     measure the grades whose names hold the word (default: all)
 fahkelo-bench grade-differential COUNT SEED    compare answers and tables on lists for COUNT files
 fahkelo-bench grade-counts                     how the edges of the long lists are looked for
-fahkelo-bench grade-once VERSION FAMILY        one grade, for a profiler (proved, safe, unchecked)
+fahkelo-bench grade-once VERSION FAMILY        one grade, for a profiler (proved, safe, paired, unchecked)
 fahkelo-bench grade-families                   the families of grades";
 
 fn main() -> ExitCode {
@@ -153,7 +153,7 @@ fn status_of(differences: u64) -> ExitCode {
 fn once(version: &str, family: &str, size: &str) -> Option<ExitCode> {
     let states = size.parse().ok()?;
     let file = (families::named(family)?.make)(states).to_bytes();
-    let versions: [&dyn Finder; 3] = [&Proved, &SAFE, &UNCHECKED];
+    let versions: [&dyn Finder; 4] = [&Proved, &SAFE, &PAIRED, &UNCHECKED];
     if version == "textbook" {
         let length = measure::textbook_once(&file).map(|list| list.len() - 1);
         println!("{length:?}");
@@ -166,7 +166,7 @@ fn once(version: &str, family: &str, size: &str) -> Option<ExitCode> {
 
 fn combination(version: &str, family: &str) -> Option<ExitCode> {
     let input = combinations::named(family)?.make();
-    let versions: [&dyn Combiner; 3] = [&Proved, &SAFE, &UNCHECKED];
+    let versions: [&dyn Combiner; 4] = [&Proved, &SAFE, &PAIRED, &UNCHECKED];
     let version = versions.iter().find(|known| known.name() == version)?;
     let mut output = [0; combine_measure::OUTPUT_MOST];
     let answer = combine_measure::combine_once(*version, &input, &mut output);
@@ -176,7 +176,7 @@ fn combination(version: &str, family: &str) -> Option<ExitCode> {
 
 fn grade(version: &str, family: &str) -> Option<ExitCode> {
     let input = grades::named(family)?.input;
-    let versions: [&dyn Grader; 3] = [&Proved, &SAFE, &UNCHECKED];
+    let versions: [&dyn Grader; 4] = [&Proved, &SAFE, &PAIRED, &UNCHECKED];
     let version = versions.iter().find(|known| known.name() == version)?;
     let mut work = [0; grade_measure::WORK_ENTRIES];
     let answer = grade_measure::grade_once(*version, &input, &mut work);

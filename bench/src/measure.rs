@@ -14,7 +14,7 @@ use crate::ported::access::{Counting, Work};
 use crate::ported::finder;
 use crate::reference::{accepting, read};
 use crate::textbook::Textbook;
-use crate::versions::{Finder, Proved, SAFE, UNCHECKED};
+use crate::versions::{Finder, Proved, PAIRED, SAFE, UNCHECKED};
 
 pub const SIZES: [usize; 3] = [256, 1024, 4096];
 const ANSWER_ENTRIES: usize = 4097;
@@ -62,7 +62,7 @@ struct Row {
     edges: usize,
     rounds: u16,
     length: Option<(u16, u16)>,
-    times: [Duration; 4],
+    times: [Duration; 5],
     sheet: Option<(Duration, Duration)>,
     spreads: u64,
 }
@@ -81,10 +81,11 @@ pub fn least_times<const K: usize>(mut versions: [&mut dyn FnMut(); K]) -> [Dura
     least
 }
 
-fn times(file: &[u8], states: usize) -> [Duration; 4] {
+fn times(file: &[u8], states: usize) -> [Duration; 5] {
     least_times([
         &mut || drop(search_once(&Proved, file, states)),
         &mut || drop(search_once(&SAFE, file, states)),
+        &mut || drop(search_once(&PAIRED, file, states)),
         &mut || drop(search_once(&UNCHECKED, file, states)),
         &mut || drop(textbook_once(file)),
     ])
@@ -93,7 +94,7 @@ fn times(file: &[u8], states: usize) -> [Duration; 4] {
 /// All versions must give the same first list.
 fn agreed_answer(file: &[u8], states: usize) -> SearchAnswer {
     let (proved, list) = search_once(&Proved, file, states);
-    for version in [&SAFE as &dyn Finder, &UNCHECKED] {
+    for version in [&SAFE as &dyn Finder, &PAIRED, &UNCHECKED] {
         let other = search_once(version, file, states);
         assert!(
             other == (proved, list.clone()),
@@ -223,8 +224,8 @@ pub fn run(word: &str) {
     let program = desk_sheet();
     let mut rows = Vec::new();
     println!("search, milliseconds of processor time; sheet, milliseconds of the whole program\n");
-    println!("| family | N | M | rounds | L k | proved | safe | unchecked | textbook | proved/safe | proved/unchecked | proved/textbook | sheet | its cpu |");
-    println!("|---|---|---|---|---|---|---|---|---|---|---|---|---|---|");
+    println!("| family | N | M | rounds | L k | proved | safe | paired | unchecked | textbook | proved/safe | proved/paired | proved/unchecked | proved/textbook | sheet | its cpu |");
+    println!("|---|---|---|---|---|---|---|---|---|---|---|---|---|---|---|---|");
     for family in FAMILIES.iter().filter(|family| family.name.contains(word)) {
         for states in SIZES {
             let row = measure(family, states, &folder, &program);
@@ -237,7 +238,7 @@ pub fn run(word: &str) {
 }
 
 fn print_row(row: &Row) {
-    let [proved, safe, unchecked, textbook] = row.times;
+    let [proved, safe, paired, unchecked, textbook] = row.times;
     let figures = match row.length {
         None => "none".to_string(),
         Some((length, k)) => format!("{length} {k}"),
@@ -247,16 +248,18 @@ fn print_row(row: &Row) {
         Some((wall, cpu)) => format!("{:.0} | {:.0}", millis(wall), millis(cpu)),
     };
     println!(
-        "| {} | {} | {} | {} | {figures} | {:.3} | {:.3} | {:.3} | {:.3} | {:.2} | {:.2} | {:.2} | {sheet} |",
+        "| {} | {} | {} | {} | {figures} | {:.3} | {:.3} | {:.3} | {:.3} | {:.3} | {:.2} | {:.2} | {:.2} | {:.2} | {sheet} |",
         row.name,
         row.states,
         row.edges,
         row.rounds,
         millis(proved),
         millis(safe),
+        millis(paired),
         millis(unchecked),
         millis(textbook),
         ratio(proved, safe),
+        ratio(proved, paired),
         ratio(proved, unchecked),
         ratio(proved, textbook)
     );

@@ -29,6 +29,11 @@ impl Random {
         self.below(times) == 0
     }
 
+    /// A number of all 64 bits.
+    pub fn number(&mut self) -> usize {
+        self.next() as usize
+    }
+
     pub fn word(&mut self) -> u16 {
         self.next() as u16
     }

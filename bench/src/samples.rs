@@ -107,6 +107,15 @@ pub fn dirty(lot: &mut Random, len: usize) -> Vec<u16> {
     (0..len).map(|_| lot.word()).collect()
 }
 
+/// A table of places with any numbers of all 64 bits, some of them the greatest.
+pub fn dirty_places(lot: &mut Random, len: usize) -> Vec<usize> {
+    let mut place = || match lot.below(4) {
+        0 => usize::MAX,
+        _ => lot.number(),
+    };
+    (0..len).map(|_| place()).collect()
+}
+
 /// A length of a working table: mostly enough, sometimes short, sometimes longer than needed.
 pub fn work_len(lot: &mut Random, states: usize) -> usize {
     match lot.below(8) {

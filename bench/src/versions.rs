@@ -5,7 +5,7 @@ use std::marker::PhantomData;
 use crate::fahkelo::{
     self, CombineAnswer, GradeAnswer, NextAnswer, Record, SearchAnswer, StepAnswer,
 };
-use crate::ported::access::{Access, Checked, Unchecked};
+use crate::ported::access::{Access, Checked, Paired, Unchecked};
 use crate::ported::{combine, finder, grade};
 
 /// A finder with the three operations.
@@ -110,6 +110,9 @@ pub struct Ported<A>(&'static str, PhantomData<A>);
 
 /// With bounds checks.
 pub const SAFE: Ported<Checked> = Ported("safe", PhantomData);
+
+/// Safe Rust with one check for each 16-bit number of the file.
+pub const PAIRED: Ported<Paired> = Ported("paired", PhantomData);
 
 /// Without bounds checks.
 pub const UNCHECKED: Ported<Unchecked> = Ported("unchecked", PhantomData);

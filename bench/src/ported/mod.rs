@@ -3,7 +3,7 @@
 //! search and next do; its functions are divided otherwise, and lengths are plain numbers here. The combination,
 //! function by function: what the crates property, writer, pair_row, product_file and combine do. The grade, function
 //! by function: what the crates paths and grader do, over the rounds of the search. The text is shared by the versions
-//! with and without bounds checks.
+//! with bounds checks, for each byte or for each 16-bit number of a file, and without them.
 
 pub mod access;
 pub mod combine;

@@ -1,5 +1,7 @@
 //! The model file: its check by the rules 1 to 11, where its tables stand, and the leaves that read it.
 
+#![forbid(unsafe_code)]
+
 use super::access::Access;
 
 /// The fields of an accepted file. `stays`: a state without edges has an implied step to itself.
@@ -11,8 +13,18 @@ pub struct Header {
     pub stays: bool,
 }
 
+/// A 16-bit number by one part of two bytes, with one check.
+#[inline(always)]
+fn pair(file: &[u8], at: usize) -> usize {
+    let bytes = file[at..at + 2].try_into().expect("a part of two bytes");
+    u16::from_le_bytes(bytes) as usize
+}
+
 #[inline]
 pub fn word<A: Access>(file: &[u8], at: usize) -> usize {
+    if A::PAIRED {
+        return pair(file, at);
+    }
     A::get(file, at) as usize + 256 * A::get(file, at + 1) as usize
 }
 

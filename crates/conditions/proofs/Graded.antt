@@ -129,7 +129,7 @@ grades-say f xs k work none-holds =
     let is = is-graded f xs k work clear in
     record {
       false-exactly = (
-        λ (p, e). verdicts .false-exactly xs k .0 (v-of Said.false p e),
+        λ (p, e). verdicts .false-exactly xs k .0 (v-of Said.false _ e),
         λ n. (firstBreak g xs, is Said.false (firstBreak g xs) (verdicts .false-exactly xs k .1 n) refl),
       );
       accepting-exactly = (
@@ -145,7 +145,7 @@ grades-say f xs k work none-holds =
         λ a. is shortest none (verdicts .shortest-in-roll xs k .1 a) (places .accepting-none wf xs (in-roll g wf xs .0 (a .0) .0)),
       );
       place-exactly = λ j. (
-        λ (v, e). places .some-exactly xs j .0 (p-of v (some j) e),
+        λ (v, e). places .some-exactly xs j .0 (p-of v _ e),
         λ b. (verdict g xs k, is (verdict g xs k) (some j) refl (places .some-exactly xs j .1 b)),
       );
       no-place-exactly = (
