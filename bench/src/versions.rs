@@ -111,7 +111,7 @@ pub struct Ported<A>(&'static str, PhantomData<A>);
 /// With bounds checks.
 pub const SAFE: Ported<Checked> = Ported("safe", PhantomData);
 
-/// Safe Rust with one check for each 16-bit number of the file.
+/// Safe Rust with one check for each 16-bit number that is read from the file.
 pub const PAIRED: Ported<Paired> = Ported("paired", PhantomData);
 
 /// Without bounds checks.

@@ -69,7 +69,7 @@ impl Access for Checked {
     }
 }
 
-/// With bounds checks, a 16-bit number of a file by one part of two bytes.
+/// With bounds checks, a 16-bit number that is read from a file by one part of two bytes.
 pub struct Paired;
 
 #[forbid(unsafe_code)]

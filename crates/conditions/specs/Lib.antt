@@ -1,4 +1,5 @@
--- What conditions 1 and 2 say: when a call is refused, and what a search that is not refused says; and how what is found is graded.
+-- What conditions 1 and 2 say: when a call is refused, and what a search that is not refused says; and what a grade says,
+-- also of what is found.
 pub mod Reasons
 pub mod Condition1
 pub mod Condition2
