@@ -14,7 +14,7 @@ pub enum Phase {
 /// A way of access to tables and files.
 pub trait Access {
     /// A 16-bit number of a file is read by one part of two bytes, not byte by byte. It is a constant: where each way of
-    /// access had a function for this, the compiled combination with bounds checks had up to a third more instructions.
+    /// access had a function for this, the compiled combination with bounds checks had up to 36 in 100 more instructions.
     const PAIRED: bool = false;
 
     fn get<T: Copy>(table: &[T], at: usize) -> T;
