@@ -3,7 +3,7 @@
 use Prim.Native.Nat.{ℕ, _*_, _≤_, _<_}
 use mathlib.Core.Path.{_≡_, refl, sym, _∙_, ap}
 use mathlib.Core.Bool.{Bool}
-use mathlib.Core.List.{List, [], _∷_}
+use mathlib.Core.List.{List, [], _∷_, _++_}
 use mathlib.Core.Option.{Option, some, none}
 use mathlib.Core.Logic.{inl, inr}
 use native.Mathlib.Omega.{arith}
@@ -19,7 +19,7 @@ use Rattle.model.specs.declared.Checked.the-variants.{Refused, Accept}
 use Rattle.model.specs.Values.{answerOf, Valid}
 use Rattle.format.proofs.Reasons.{clear-append, broken-append, append-clear}
 use Rattle.model.proofs.Laws.{valid-sizes}
-use Rattle.gate.specs.Gate.{smallTable, commonRules, gateOf, workAfter, workOf, Zeroed, Passed, GateSays}
+use Rattle.gate.specs.Gate.{smallTable, commonRules, ceilingReason, gateOf, workAfter, workOf, Zeroed, Passed, GateSays}
 
 -- the reason that the common table has behind those of the file
 abbrev pub tableReason : List ℕ → ℕ → List Reason
@@ -64,6 +64,20 @@ valid-small {f} v work less = common-small f work (v .accepted) (omega (arith, v
 -- it breaks none of 1 to 12 if the table has that room
 pub valid-clear : {f : List ℕ} {h : Header} → Valid f h → (work : ℕ) → 6 * h .states ≤ work → firstBroken (commonRules f work) ≡ none
 valid-clear {f} v work room = common-clear f work (v .accepted) (valid-room v room)
+
+-- where 1 to 12 do not refuse a call, a ceiling above 4,096 does with 21, whatever comes behind it
+pub ceiling-high : (f : List ℕ) (work ceiling : ℕ) (rest : List Reason) → firstBroken (commonRules f work) ≡ none → 4096 < ceiling
+    → firstBroken (commonRules f work ++ ceilingReason ceiling ∷ rest) ≡ some 21
+ceiling-high f work ceiling rest e high =
+    clear-append (commonRules f work) (ceilingReason ceiling ∷ rest) e
+    ∙ ap (λ (b : Bool). someIf b 21 (firstBroken rest)) (lt-ltb 4096 ceiling high)
+
+-- with a ceiling up to 4,096 the reasons behind it decide
+pub ceiling-low : (f : List ℕ) (work ceiling : ℕ) (rest : List Reason) → firstBroken (commonRules f work) ≡ none → ceiling ≤ 4096
+    → firstBroken (commonRules f work ++ ceilingReason ceiling ∷ rest) ≡ firstBroken rest
+ceiling-low f work ceiling rest e low =
+    clear-append (commonRules f work) (ceilingReason ceiling ∷ rest) e
+    ∙ ap (λ (b : Bool). someIf b 21 (firstBroken rest)) (le-ltb 4096 ceiling low)
 
 -- what the gate answers is so: with a refusal its number is that of the first reason that holds, with a header the call
 -- may go on

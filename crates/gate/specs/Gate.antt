@@ -26,6 +26,14 @@ smallTable f work = ltb work (6 * states f)
 abbrev pub commonRules : List ℕ → ℕ → List Reason
 commonRules f work = rules f ++ record { number = 12; holds = smallTable f work } ∷ []
 
+-- 21. the ceiling is above 4,096
+abbrev pub highCeiling : ℕ → Bool
+highCeiling ceiling = ltb 4096 ceiling
+
+-- the reason 21, which a call that takes a ceiling applies behind 12
+abbrev pub ceilingReason : ℕ → Reason
+ceilingReason ceiling = record { number = 21; holds = highCeiling ceiling }
+
 -- the gate's answer: refused with the number of the first of 1 to 12 that holds, or accepted with the header
 abbrev pub gateOf : List ℕ → ℕ → Checked
 gateOf f work = answerOf (firstBroken (commonRules f work)) f

@@ -1,8 +1,9 @@
-// The gate of every call: the reasons 1 to 12, which concern the file and the working table; and the way out, by which
-// every call that passed the gate leaves the working table.
+// The gate of every call: the reasons 1 to 12, which concern the file and the working table; reason 21, for the calls
+// that take a ceiling; and the way out, by which every call that passed the gate leaves the working table.
 ghost use mathlib.Core.Path.{_≡_};
 ghost use lib.ListN.{length};
-ghost use Rattle.gate.specs.Gate.{gateOf, Zeroed};
+ghost use Rattle.gate.specs.Gate.{gateOf, highCeiling, Zeroed};
+use lasso::Transitions;
 use model::Checked;
 use model::check;
 use table::clear;
@@ -26,6 +27,13 @@ pub fn enter(file: &[u8], work: &[u16]) -> Checked
             checked
         }
     }
+}
+
+// The ceiling is above 4,096: reason 21, which is applied behind 12.
+pub fn ceiling_too_high(ceiling: Transitions) -> bool
+    ensures { λ r. ⌜ r ≡ highCeiling (ceiling .0) ⌝ }
+{
+    4096 < ceiling.0
 }
 
 // Makes every entry of the working table zero, however long it is.
