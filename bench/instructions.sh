@@ -3,6 +3,8 @@
 #   ./instructions.sh [SIZE]    of one search on each family at one size (default 1024)
 #   ./instructions.sh combine   of one combination of each family, and for each mask test more
 #   ./instructions.sh grade     of one grade of each family
+#   ./instructions.sh ceiling   of one proved search without a ceiling and under one far below the length
+#   ./instructions.sh distances of the distances of each family
 cd "$(dirname "$0")" || exit 1
 program=target/release/fahkelo-bench
 
@@ -54,22 +56,38 @@ combinations() {
         before = 1; t = $2; p = $4; s = $5; u = $6 }'
 }
 
-grades() {
-    local family proved safe paired unchecked
+# The table of a function $1 by all versions: $2 is its command, and the words that follow are the families.
+by_all_versions() {
+    local function=$1 command=$2 family proved safe paired unchecked
+    shift 2
     echo "| family | proved | safe | paired | unchecked | proved/safe | proved/paired | proved/unchecked |"
     echo "|---|---|---|---|---|---|---|---|"
-    for family in $("$program" grade-families); do
-        proved=$(count grade_once grade-once proved "$family")
-        safe=$(count grade_once grade-once safe "$family")
-        paired=$(count grade_once grade-once paired "$family")
-        unchecked=$(count grade_once grade-once unchecked "$family")
+    for family in "$@"; do
+        proved=$(count "$function" "$command" proved "$family")
+        safe=$(count "$function" "$command" safe "$family")
+        paired=$(count "$function" "$command" paired "$family")
+        unchecked=$(count "$function" "$command" unchecked "$family")
         awk -v f="$family" -v p="$proved" -v s="$safe" -v w="$paired" -v u="$unchecked" 'BEGIN {
             printf "| %s | %.0f | %.0f | %.0f | %.0f | %.2f | %.2f | %.2f |\n", f, p, s, w, u, p / s, p / w, p / u }'
     done
 }
 
+ceilings() {
+    local family ceiling without under
+    echo "| family | ceiling | proved without | proved under | under/without |"
+    echo "|---|---|---|---|---|"
+    "$program" ceiling-families | while read -r family ceiling; do
+        without=$(count search_once once proved "$family" 4096)
+        under=$(count search_once once proved "$family" 4096 "$ceiling")
+        awk -v f="$family" -v c="$ceiling" -v w="$without" -v u="$under" \
+            'BEGIN { printf "| %s | %d | %.0f | %.0f | %.4f |\n", f, c, w, u, u / w }'
+    done
+}
+
 case ${1:-} in
 combine) combinations ;;
-grade) grades ;;
+grade) by_all_versions grade_once grade-once $("$program" grade-families) ;;
+ceiling) ceilings ;;
+distances) by_all_versions distances_once distances-once $("$program" families) ;;
 *) searches "${1:-1024}" ;;
 esac

@@ -1,12 +1,12 @@
-/* Prints the rounds, a refused step, all shortest runs and three grades of one model, and the shortest run of a rule that a
- * property marks, through the C interface (docs/CAPI.md). */
+/* Prints the rounds, a refused step, all shortest runs, a search under a ceiling, the distances and three grades of one
+ * model, and the shortest run of a rule that a property marks, through the C interface (docs/CAPI.md). */
 #include <stdio.h>
 #include <string.h>
 
 #include "fahkelo.h"
 
-#if FAHKELO_INTERFACE != 4
-#error "this example was written for interface 4"
+#if FAHKELO_INTERFACE != 5
+#error "this example was written for interface 5"
 #endif
 
 /* Five states, 0 to 1 and 2, 1 to 3, 2 to 3, 3 to 1 and 2, 4 to 4; the run starts at 0; 3 and 4 are marked. */
@@ -40,6 +40,7 @@ static uint8_t combined[FAHKELO_FILE_MOST];
 static uint16_t work[FAHKELO_WORK_MOST];
 static uint16_t answer[FAHKELO_ANSWER_MOST];
 static uint16_t earlier[FAHKELO_ANSWER_MOST];
+static uint16_t distances[FAHKELO_STATES_MOST];
 static uint16_t out[FAHKELO_OUT_ENTRIES];
 
 /* Prints the length, the place where the loop starts and the states of the run that was found. */
@@ -50,6 +51,32 @@ static void print_run(void)
     for (i = 0; i <= out[0]; i++)
         printf(" %u", (unsigned)answer[i]);
     printf("\n");
+}
+
+/* Looks for runs of at most 2 transitions, of which there are none. */
+static int print_ceiling(void)
+{
+    uint16_t kind = fahkelo_search(model, sizeof model, 2, 65535, answer, FAHKELO_ANSWER_MOST,
+                                   work, FAHKELO_WORK_MOST, out, FAHKELO_OUT_ENTRIES);
+    if (kind != FAHKELO_NONE_WITHIN)
+        return 0;
+    printf("none within 2, rounds %u\n", (unsigned)out[0]);
+    return 1;
+}
+
+/* Prints the distance of each state from the initial state. */
+static int print_distances(void)
+{
+    size_t s;
+    uint16_t kind = fahkelo_distances(model, sizeof model, FAHKELO_CEILING_MOST, distances, FAHKELO_STATES_MOST,
+                                      work, FAHKELO_WORK_MOST, out, FAHKELO_OUT_ENTRIES);
+    if (kind != FAHKELO_WRITTEN)
+        return 0;
+    printf("distances:");
+    for (s = 0; s < out[0]; s++)
+        printf(" %u", (unsigned)distances[s]);
+    printf("\n");
+    return 1;
 }
 
 /* Grades a list whose loop is said to start at place k, and prints the kind and the place where it leaves the model. */
@@ -67,7 +94,7 @@ static void print_grade(const uint16_t *list, size_t entries, uint16_t k)
 /* Grades the first shortest run, a longer one and a list that is no run. */
 static int print_grades(void)
 {
-    uint16_t kind = fahkelo_search(model, sizeof model, 65535, answer, FAHKELO_ANSWER_MOST,
+    uint16_t kind = fahkelo_search(model, sizeof model, FAHKELO_CEILING_MOST, 65535, answer, FAHKELO_ANSWER_MOST,
                                    work, FAHKELO_WORK_MOST, out, FAHKELO_OUT_ENTRIES);
     if (kind != FAHKELO_FOUND)
         return 0;
@@ -88,7 +115,7 @@ static int print_combined(void)
         return 0;
     bytes = out[0];
     printf("combined: %u bytes\n", (unsigned)bytes);
-    kind = fahkelo_search(combined, bytes, 65535, answer, FAHKELO_ANSWER_MOST,
+    kind = fahkelo_search(combined, bytes, FAHKELO_CEILING_MOST, 65535, answer, FAHKELO_ANSWER_MOST,
                           work, FAHKELO_WORK_MOST, out, FAHKELO_OUT_ENTRIES);
     if (kind != FAHKELO_FOUND)
         return 0;
@@ -109,21 +136,21 @@ int main(void)
     /* One round at a time: each record goes into the next step as it came out. */
     memset(out, 0, sizeof out);
     do {
-        kind = fahkelo_step(model, sizeof model, out[0], (uint8_t)out[1], out[2],
+        kind = fahkelo_step(model, sizeof model, FAHKELO_CEILING_MOST, out[0], (uint8_t)out[1], out[2],
                             work, FAHKELO_WORK_MOST, out, FAHKELO_OUT_ENTRIES);
         printf("step: kind %u, rounds %u, has best %u, best %u\n", (unsigned)kind,
                (unsigned)out[0], (unsigned)out[1], (unsigned)out[2]);
     } while (kind == FAHKELO_ADVANCED);
 
     /* A refused call changes nothing: the record is still in out. Here the last byte of the file is missing. */
-    kind = fahkelo_step(model, sizeof model - 1, out[0], (uint8_t)out[1], out[2],
+    kind = fahkelo_step(model, sizeof model - 1, FAHKELO_CEILING_MOST, out[0], (uint8_t)out[1], out[2],
                         work, FAHKELO_WORK_MOST, out, FAHKELO_OUT_ENTRIES);
     if (kind < FAHKELO_KINDS_FROM)
         printf("refused with %u, rounds %u, has best %u, best %u\n", (unsigned)kind,
                (unsigned)out[0], (unsigned)out[1], (unsigned)out[2]);
 
     /* All shortest runs: the first one, and then the one after each. */
-    kind = fahkelo_search(model, sizeof model, 65535, answer, FAHKELO_ANSWER_MOST,
+    kind = fahkelo_search(model, sizeof model, FAHKELO_CEILING_MOST, 65535, answer, FAHKELO_ANSWER_MOST,
                           work, FAHKELO_WORK_MOST, out, FAHKELO_OUT_ENTRIES);
     while (kind == FAHKELO_FOUND) {
         size_t entries = (size_t)out[0] + 1;
@@ -133,5 +160,7 @@ int main(void)
                             work, FAHKELO_WORK_MOST, out, FAHKELO_OUT_ENTRIES);
     }
     printf("ended with kind %u\n", (unsigned)kind);
-    return kind == FAHKELO_NO_MORE && print_grades() && print_combined() ? 0 : 1;
+    if (kind != FAHKELO_NO_MORE)
+        return 1;
+    return print_ceiling() && print_distances() && print_grades() && print_combined() ? 0 : 1;
 }

@@ -6,9 +6,10 @@
  * Tables. Each table is given as a pointer and a number of entries. Any lengths and any contents are allowed, and any
  * bytes as the file: what does not fit is refused with a number. A pointer whose length is 0 may be NULL; nothing is read
  * or written through it. Every other pointer must have so many entries behind it, aligned as C aligns their type: 16-bit
- * ones at even addresses, those of size_t at multiples of 8. The tables that a call writes (answer, place, work, output,
- * out) must not overlap each other, nor a table that the call reads; those that it only reads may overlap. The library
- * keeps nothing between two calls and allocates nothing; calls on tables of their own may run at the same time.
+ * ones at even addresses, those of size_t at multiples of 8. The tables that a call writes (answer, distances, place,
+ * work, output, out) must not overlap each other, nor a table that the call reads; those that it only reads may
+ * overlap. The library keeps nothing between two calls and allocates nothing; calls on tables of their own may run at
+ * the same time.
  *
  *   file     the bytes of a model file, at most FAHKELO_FILE_MOST (docs/FORMAT.md). Where bytes 6 and 7 are 1, a state
  *            without edges stays where it is: it has an implied step to itself
@@ -17,6 +18,9 @@
  *   answer   the run that is found: entries 0 to L, a run of L transitions having L + 1 states. The run starts at entry 0;
  *            from entry k on it repeats for ever, and entry L equals entry k. FAHKELO_ANSWER_MOST entries do for every
  *            model. Entries past L never change, and no entry does unless the answer is FAHKELO_FOUND
+ *   distances
+ *            the distances from the initial state, entry s for state s; FAHKELO_STATES_MOST entries do for every model.
+ *            Entries past the last state's never change, and no entry does unless the answer is FAHKELO_WRITTEN
  *   place    the first place where a list that is graded leaves the model, at entry 0; at least one entry. Entry 0 changes
  *            only if there is such a place, later entries never
  *   output   the model file that fahkelo_combine writes, from byte 0 on; FAHKELO_FILE_MOST bytes do for every result. Bytes
@@ -24,20 +28,26 @@
  *   out      the figures of the answer: at least FAHKELO_OUT_ENTRIES entries. Entries past the figures never change, and
  *            no entry does after a refusal
  *
+ * Ceiling. fahkelo_step, fahkelo_search and fahkelo_distances take one, 0 to FAHKELO_CEILING_MOST: what is longer does
+ * not count. With FAHKELO_CEILING_MOST everything counts, since no shortest run and no distance of any model is longer.
+ * A ceiling above it is refused with 21.
+ *
  * Answers. What a call returns tells by itself what happened. A value below FAHKELO_KINDS_FROM, `kind < 100`, is a refusal:
- * the value is the number of the first reason that holds, 1 to 18 (docs/REFUSALS.md), and out, answer, place and output are
- * not changed.
+ * the value is the number of the first reason that holds, 1 to 18 or 21 (docs/REFUSALS.md), and out, answer, distances,
+ * place and output are not changed.
  * Every other value is a kind of answer, whose figures are in out, from entry 0 on:
  *
  *   FAHKELO_OUT_TOO_SHORT   (none)              out has fewer than FAHKELO_OUT_ENTRIES entries, or place, where one is lent,
  *                                               has none; nothing at all was done
  *   FAHKELO_STOPPED         rounds, has, best   the allowance is less than the number of rounds of this model
  *   FAHKELO_FOUND           L, k, rounds        (from fahkelo_next: L, k)
- *   FAHKELO_EMPTY           rounds              the model has no accepting run
+ *   FAHKELO_NONE_WITHIN     rounds              the model has no accepting run of as many transitions as the ceiling or
+ *                                               fewer
  *   FAHKELO_NO_MORE         (none)              the earlier list is the last one
  *   FAHKELO_FINISHED        done, has, best     no round is left: the record that was given
  *   FAHKELO_ADVANCED        done, has, best     the record after one more round
- *   FAHKELO_WRITTEN         bytes               the model file has so many bytes
+ *   FAHKELO_WRITTEN         bytes               the model file has so many bytes (from fahkelo_distances: states, the
+ *                                               number of entries written)
  *   FAHKELO_FALSE           has                 the list with that k is no accepting run
  *   FAHKELO_ACCEPTING       has                 it is one, and a shorter one exists
  *   FAHKELO_SHORTEST        has                 it is one, and none is shorter
@@ -52,16 +62,17 @@
 #include <stdint.h>
 
 /* Raised whenever a declaration or a number of this file changes: a caller can ask for the one that it was written for. */
-#define FAHKELO_INTERFACE 4
+#define FAHKELO_INTERFACE 5
 
 /* The kinds of answer start here; what is below is the number of a refusal. */
 #define FAHKELO_KINDS_FROM 100
 
-/* The kinds of answer. */
+/* The kinds of answer. FAHKELO_EMPTY, the name of 103 up to interface 4, is left undefined, so that a caller that was
+ * written for a search without a ceiling does not compile by accident. */
 #define FAHKELO_OUT_TOO_SHORT 100
 #define FAHKELO_STOPPED 101
 #define FAHKELO_FOUND 102
-#define FAHKELO_EMPTY 103
+#define FAHKELO_NONE_WITHIN 103
 #define FAHKELO_NO_MORE 104
 #define FAHKELO_FINISHED 105
 #define FAHKELO_ADVANCED 106
@@ -70,8 +81,13 @@
 #define FAHKELO_ACCEPTING 109
 #define FAHKELO_SHORTEST 110
 
+/* The highest ceiling, and the entry of a state that has no distance up to the ceiling. */
+#define FAHKELO_CEILING_MOST 4096
+#define FAHKELO_NOT_REACHED 65535
+
 /* The entries that out must have, and the table sizes that do for every model. */
 #define FAHKELO_OUT_ENTRIES 4
+#define FAHKELO_STATES_MOST 4096
 #define FAHKELO_FILE_MOST 25114
 #define FAHKELO_PROPERTY_MOST 41498
 #define FAHKELO_WORK_MOST 24576
@@ -83,29 +99,33 @@ extern "C" {
 
 /*
  * One round. The record given is the rounds done and the best length so far; every has_best but 0 says that there is a
- * best length, and with 0 the number best is not looked at. A search starts from done 0 and has_best 0.
- * Returns a refusal (1 to 12), FAHKELO_FINISHED, FAHKELO_ADVANCED or FAHKELO_OUT_TOO_SHORT.
+ * best length, and with 0 the number best is not looked at. A search starts from done 0 and has_best 0. A length above
+ * the ceiling does not count as found; a best length that is given, also one above the ceiling, is kept until a shorter
+ * one is found.
+ * Returns a refusal (1 to 12, 21), FAHKELO_FINISHED, FAHKELO_ADVANCED or FAHKELO_OUT_TOO_SHORT.
  */
 uint16_t fahkelo_step(const uint8_t *file, size_t file_len,
+                      uint16_t ceiling,
                       uint16_t done, uint8_t has_best, uint16_t best,
                       uint16_t *work, size_t work_len,
                       uint16_t *out, size_t out_len);
 
 /*
- * The first of the shortest accepting runs in dictionary order, with at most `allowance` rounds; 65535 is enough for
- * every model.
- * Returns a refusal (1 to 12, 14, 15), FAHKELO_STOPPED, FAHKELO_FOUND with the run in answer, FAHKELO_EMPTY or
- * FAHKELO_OUT_TOO_SHORT.
+ * The first of the shortest accepting runs in dictionary order, if they are not longer than the ceiling, with at most
+ * `allowance` rounds; 65535 is enough for every model. The number of rounds does not depend on the ceiling.
+ * Returns a refusal (1 to 12, 21, 14, 15, in this order), FAHKELO_STOPPED, FAHKELO_FOUND with the run in answer,
+ * FAHKELO_NONE_WITHIN or FAHKELO_OUT_TOO_SHORT.
  */
 uint16_t fahkelo_search(const uint8_t *file, size_t file_len,
-                        uint16_t allowance,
+                        uint16_t ceiling, uint16_t allowance,
                         uint16_t *answer, size_t answer_len,
                         uint16_t *work, size_t work_len,
                         uint16_t *out, size_t out_len);
 
 /*
  * The shortest accepting run that follows an earlier one in dictionary order. `earlier` is a copy of all L + 1 entries of
- * a run that fahkelo_search or fahkelo_next found; any other list is refused with 13.
+ * a run that fahkelo_search or fahkelo_next found; any other list is refused with 13. There is no ceiling: the run has
+ * as many transitions as the earlier one.
  * Returns a refusal (1 to 15), FAHKELO_FOUND with the run in answer, FAHKELO_NO_MORE or FAHKELO_OUT_TOO_SHORT.
  */
 uint16_t fahkelo_next(const uint8_t *file, size_t file_len,
@@ -131,6 +151,18 @@ uint16_t fahkelo_grade(const uint8_t *file, size_t file_len,
                        size_t *place, size_t place_len,
                        uint16_t *work, size_t work_len,
                        uint16_t *out, size_t out_len);
+
+/*
+ * The distances from the initial state: for each state the least number of transitions that lead to it, 0 for the
+ * initial state, if that is not above the ceiling; else FAHKELO_NOT_REACHED.
+ * Returns a refusal (1 to 12, 21, last 15 if `distances` has fewer entries than the model has states), FAHKELO_WRITTEN
+ * with the number of states, or FAHKELO_OUT_TOO_SHORT.
+ */
+uint16_t fahkelo_distances(const uint8_t *file, size_t file_len,
+                           uint16_t ceiling,
+                           uint16_t *distances, size_t distances_len,
+                           uint16_t *work, size_t work_len,
+                           uint16_t *out, size_t out_len);
 
 /*
  * Combines a rule with a property: a model file whose runs are the pairs of a run of the rule and a run of the property

@@ -11,6 +11,7 @@ SMALL = [(1, 4), (2, 128), (3, 12288)]
 RANDOM = [(4, 20000), (5, 20000), (6, 20000), (7, 20000)]
 WORD = (1 << 64) - 1
 NONE = 65536  # the figure of "none", more than every length
+FULL = 4096  # the greatest ceiling
 
 
 def drawn(x):
@@ -82,14 +83,17 @@ def reached(m):
 
 
 class Truth:
-    """The candidates, the length of each round, the least length and all lists that have it."""
+    """The candidates, the length of each round under a ceiling, the least length and all lists that have it."""
 
-    def __init__(self, m):
+    def __init__(self, m, ceiling, paths):
+        """paths are all accepting paths of the model; those that are longer than the ceiling are left out."""
         candidates = sorted(s for s in reached(m) if m.marks[s])
         lengths = {}
         self.least, self.roll = NONE, []
-        for path, loop in accepting(m, [m.initial]):
+        for path, loop in paths:
             transitions = len(path) - 1
+            if transitions > ceiling:
+                continue
             for s in loop:
                 lengths[s] = min(transitions, lengths.get(s, NONE))
             if transitions < self.least:
@@ -106,7 +110,7 @@ class Truth:
         if allowance < len(self.rounds):
             return "stopped"
         if not self.roll:
-            return "empty"
+            return "none within"
         return "refused 15" if room <= self.least else "found"
 
     def next(self, earlier, room):
@@ -115,6 +119,11 @@ class Truth:
         if self.place[earlier] + 1 == len(self.roll):
             return "no more"
         return "refused 15" if room <= self.least else "found"
+
+
+def ceilings(t):
+    """From 0 up to one more than the least length, and 4,096."""
+    return list(range((t.least if t.roll else 0) + 2)) + [FULL]
 
 
 def rooms(t):
@@ -150,22 +159,34 @@ def random_lists(m):
 
 def compared(m, count):
     """Counts the answers of all calls on a model; count(call, answer) is told each of them."""
-    t = Truth(m)
+    paths = list(accepting(m, [m.initial]))
+    t = Truth(m, FULL, paths)
     count("model", f"least {t.least}" if t.roll else "none")
     if m.successors != m.targets:
         count("implied", "any")
     if len(t.roll) > 1:
         count("several", "any")
     counts = list(range(len(t.rounds) + 2)) + [65535]
-    for done in counts:
-        for _ in range(6):
-            count("step", t.step(done))
-        count("step", "refused 12")
-    for allowance in counts:
-        for room in rooms(t):
-            count("search", t.search(allowance, room))
-        count("search", "refused 12")
+    for ceiling in ceilings(t):
+        count("ceiling", "any")
+        within = Truth(m, ceiling, paths)
+        for done in counts:
+            own = t.rounds[done] if done < len(t.rounds) else NONE
+            bests = [NONE, 0, 1, own, own % 65535 + 1, ceiling, ceiling + 1, 65535]
+            for best in bests:
+                count("step", within.step(done))
+                if ceiling < best < NONE:
+                    count("above", "any")
+            count("step", "refused 12")
+        for allowance in counts:
+            for room in rooms(t):
+                count("search", within.search(allowance, room))
+            count("search", "refused 12")
     count("search", t.search(65535, 16))
+    for ceiling in [*range(m.n + 2), FULL, FULL + 1, 65535]:
+        for room in [m.n + 3, m.n, m.n - 1]:
+            count("distance", "refused 21" if ceiling > FULL else "refused 15" if room < m.n else "written")
+        count("distance", "refused 12")
     for path in t.roll:
         count("list", len(path))
         count("next", t.next(path, 16))
@@ -210,16 +231,19 @@ def main():
     for least in range(1, 8):
         print(f"models with a least length of {least}:", total("model", f"least {least}"))
     print("models with several shortest accepting paths:", total("several"))
+    print("ceilings, over all models:", total("ceiling"))
     for call, plural, answers in [
         ("step", "steps", ["advanced", "finished", "refused"]),
-        ("search", "searches", ["found", "empty", "stopped", "refused"]),
+        ("search", "searches", ["found", "none within", "stopped", "refused"]),
         ("next", "nexts", ["found", "no more", "refused"]),
+        ("distance", "distances", ["written", "refused"]),
     ]:
         print(f"{plural}:", total(call))
         for answer in answers:
             print(f"  {answer}:", total(call, answer))
-    for number in [12, 13, 14, 15]:
+    for number in [12, 13, 14, 15, 21]:
         print(f"refused with {number}:", refused(number))
+    print("steps from a best length above the ceiling:", total("above"))
     print("lists received by a search and next in turn:", total("list"))
     print("entries in them:", entries)
     print("differences 0")

@@ -8,7 +8,8 @@ use crate::combine_measure::OUTPUT_MOST;
 use crate::combine_samples::{
     at_limits, damage_input, dirty_bytes, large, middle, output_len, small,
 };
-use crate::differential::{self, compare_roll, verdict_of};
+use crate::counts;
+use crate::differential::{compare_roll, verdict_of};
 use crate::fahkelo::{combine_into, kind, CombineAnswer};
 use crate::model::Model;
 use crate::product::{is_pair_of_paths, product};
@@ -30,7 +31,7 @@ struct Counts {
     largest: (usize, usize),
     paths: u64,
     out_too_short: u64,
-    searches: differential::Counts,
+    searches: counts::Counts,
 }
 
 impl Counts {
@@ -100,7 +101,7 @@ fn print(counts: &Counts) {
         counts.out_too_short
     );
     println!("searches on the results:");
-    differential::print(&counts.searches);
+    counts.searches.print();
 }
 
 /// All comparisons on one input: several outputs, and searches on the result.

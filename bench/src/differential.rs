@@ -1,56 +1,23 @@
 //! The differential run: many files, valid and damaged, and many calls on each, whose answers and tables are compared
-//! with what the reference says. The library is called by its C functions, the safe and the paired
-//! version in Rust beside it.
+//! with what the reference says. The library is called by its C functions, the versions in Rust beside it.
 
-use crate::fahkelo::{
-    kind, next_into, search_into, step_into, NextAnswer, Record, SearchAnswer, StepAnswer,
-};
+use crate::counts::Counts;
+use crate::fahkelo::{Ask, Record, StepAnswer, FULL_CEILING};
 use crate::families::FAMILIES;
 use crate::graph::Graph;
 use crate::model::Model;
 use crate::oracle::{self, Verdict};
 use crate::random::Random;
-use crate::reference::{read, rounds_by_formula, Facts, SMALL};
+use crate::reference::{distances_by_sweeps, read, rounds_by_formula, Facts, SMALL};
 use crate::samples::{
-    answer_len, damage, dirty, random_model, random_record, walk, work_len, wrong_list,
+    answer_len, ceiling_about, damage, random_model, random_record, walk, work_len, wrong_list,
 };
-use crate::textbook::Textbook;
-use crate::versions::{Finder, PAIRED, SAFE};
-use std::collections::BTreeMap;
-use std::ops::Range;
-
-/// The versions in Rust that are held to the reference beside the library.
-const VERSIONS: [&dyn Finder; 2] = [&SAFE, &PAIRED];
+use crate::sequences::compare_sequence;
+use crate::textbook::{Lister, Textbook};
+use crate::trials::{compare_distances, compare_next, compare_search, compare_step};
 
 /// Lists of a larger model's roll that are compared.
 const MOST_LISTS: usize = 60;
-
-/// Counts of a run.
-#[derive(Default)]
-pub struct Counts {
-    small: u64,
-    large: u64,
-    staying: u64,
-    implying: u64,
-    refused_files: [u64; 16],
-    pub damaged: u64,
-    steps: u64,
-    searches: u64,
-    nexts: u64,
-    values: BTreeMap<u16, u64>,
-    lists: u64,
-    out_too_short: u64,
-    pub differences: u64,
-}
-
-impl Counts {
-    pub fn difference(&mut self, what: &str, file: &[u8]) {
-        self.differences += 1;
-        if self.differences <= 10 {
-            println!("difference: {what}\n  file {file:02x?}");
-        }
-    }
-}
 
 /// Runs the comparison on so many files, two of each model: bytes 6–7 are 0 and 1. The number of differences.
 pub fn run(count: u64, seed: u64) -> u64 {
@@ -74,7 +41,7 @@ pub fn run(count: u64, seed: u64) -> u64 {
             compare_family(&mut lot, &mut counts, &model.staying(stays).to_bytes());
         }
     }
-    print(&counts);
+    counts.print();
     counts.differences
 }
 
@@ -88,57 +55,54 @@ fn compare_model(lot: &mut Random, counts: &mut Counts, model: &Model, damaged: 
     compare_file(lot, counts, &file, (!damaged).then_some(model));
 }
 
-/// A search and the lists behind the first, on a file of a measured family.
+/// Searches and steps under some ceilings, the lists behind the first, a sequence and distances, on a file of a measured
+/// family.
 fn compare_family(lot: &mut Random, counts: &mut Counts, file: &[u8]) {
     let verdict = verdict_of(counts, file, None);
     let Ok((graph, facts)) = &verdict else {
         counts.difference("a family's file is refused", file);
         return;
     };
+    let states = graph.states();
+    let needed = facts.length().map_or(1, |length| length + 1);
+    for ceiling in some_ceilings(needed as u16 - 1) {
+        let (answer, work) = (answer_len(lot, needed), work_len(lot, states));
+        let ask = Ask::under(ceiling);
+        compare_search(lot, counts, file, &verdict, ask, answer, work);
+        let record = random_record(lot, facts.candidates.len(), needed, ceiling);
+        compare_step(lot, counts, file, &verdict, ceiling, record, 6 * states);
+    }
     let roll = &facts.roll[..facts.roll.len().min(20)];
-    compare_roll(lot, counts, file, &verdict, roll, graph.states());
+    compare_roll(lot, counts, file, &verdict, roll, states);
+    compare_sequence(lot, counts, file, &verdict);
+    let ceilings = some_ceilings(greatest(&facts.distances));
+    compare_all_distances(lot, counts, file, &verdict, &ceilings, states);
 }
 
-pub fn print(counts: &Counts) {
-    let of_values = |values: Range<u16>| {
-        let shown = counts.values.range(values);
-        let words: Vec<String> = shown.map(|(i, n)| format!("{i}: {n}")).collect();
-        words.join(", ")
-    };
-    print_files(counts);
-    println!(
-        "calls: {} steps, {} searches, {} nexts; lists received: {}",
-        counts.steps, counts.searches, counts.nexts, counts.lists
-    );
-    println!(
-        "answers by kind: {}; of the calls in C, with too short a table for the figures: {}",
-        of_values(kind::FROM..u16::MAX),
-        counts.out_too_short
-    );
-    println!("refusals by reason: {}", of_values(0..kind::FROM));
-    println!("differences {}", counts.differences);
+/// The ceilings that are above 4,096 or just not.
+const HIGH_CEILINGS: [u16; 3] = [4096, 4097, 65535];
+
+/// Every ceiling from 0 to one above a length, and the high ones.
+fn all_ceilings(length: u16) -> Vec<u16> {
+    (0..=length + 1).chain(HIGH_CEILINGS).collect()
 }
 
-/// Prints what the files were.
-pub fn print_files(counts: &Counts) {
-    let rules = counts.refused_files.iter().enumerate();
-    let refused: Vec<String> = rules
-        .filter(|(_, &n)| n != 0)
-        .map(|(i, n)| format!("{i}: {n}"))
-        .collect();
-    println!(
-        "files accepted: {} of up to {SMALL} states (exhaustive), {} larger (textbook)",
-        counts.small, counts.large
-    );
-    println!(
-        "bytes 6–7 are 1 in {} of them, {} with implied steps",
-        counts.staying, counts.implying
-    );
-    println!(
-        "files damaged: {}; refused by rule: {}",
-        counts.damaged,
-        refused.join(", ")
-    );
+/// Some of them, for a great length.
+fn some_ceilings(length: u16) -> Vec<u16> {
+    let about = [
+        0,
+        1,
+        length / 2,
+        length.saturating_sub(1),
+        length,
+        length + 1,
+    ];
+    about.into_iter().chain(HIGH_CEILINGS).collect()
+}
+
+/// The greatest of the lengths that there are, or 0.
+fn greatest(lengths: &[Option<u16>]) -> u16 {
+    lengths.iter().flatten().copied().max().unwrap_or(0)
 }
 
 /// The file's verdict by the reference. A model that was written must be read back.
@@ -165,7 +129,7 @@ pub fn verdict_of(counts: &mut Counts, file: &[u8], written: Option<&Model>) -> 
         return Ok((graph, by_textbook));
     }
     counts.small += 1;
-    let facts = Facts::by_exhaustion(&graph);
+    let facts = Facts::by_exhaustion(&graph, FULL_CEILING);
     if facts.round_lengths != rounds_by_formula(&graph, &facts.candidates) {
         counts.difference("rounds: exhaustive search and formula", file);
     }
@@ -184,7 +148,7 @@ fn textbook_facts(graph: &Graph) -> Facts {
     let textbook = Textbook::new(graph);
     let mut roll = Vec::new();
     let mut cut_off = false;
-    if let Some(mut lister) = textbook.solve() {
+    if let Some(mut lister) = textbook.solve(FULL_CEILING) {
         roll.push(lister.list().to_vec());
         while lister.advance() {
             if roll.len() == MOST_LISTS {
@@ -196,35 +160,58 @@ fn textbook_facts(graph: &Graph) -> Facts {
     }
     Facts {
         candidates: textbook.candidates(),
-        round_lengths: textbook.round_lengths(),
+        round_lengths: textbook.round_lengths(FULL_CEILING),
         roll,
         cut_off,
+        distances: distances_by_sweeps(graph),
+    }
+}
+
+/// What the oracle says of each ceiling must be what the exhaustive search says where an accepting path is one not longer
+/// than the ceiling, on a small model, and what the textbook version says, which does not look for longer ones.
+fn check_ceilings(counts: &mut Counts, file: &[u8], graph: &Graph, facts: &Facts, ceiling: u16) {
+    let lengths: Vec<Option<u16>> = oracle::rounds_within(facts, ceiling).collect();
+    let first = oracle::first_within(facts, ceiling);
+    let textbook = Textbook::new(graph);
+    let lister = textbook.solve(ceiling);
+    if textbook.candidates() != facts.candidates
+        || textbook.round_lengths(ceiling) != lengths
+        || lister.as_ref().map(Lister::list) != first
+    {
+        counts.difference(&format!("the oracle and textbook under {ceiling}"), file);
+    }
+    if graph.states() > SMALL {
+        return;
+    }
+    let within = Facts::by_exhaustion(graph, ceiling);
+    let all_or_none = first.map_or(&[][..], |_| &facts.roll);
+    if within.candidates != facts.candidates
+        || within.round_lengths != lengths
+        || within.roll != all_or_none
+    {
+        counts.difference(&format!("the oracle and exhaustive under {ceiling}"), file);
     }
 }
 
 /// All comparisons on one file.
 fn compare_file(lot: &mut Random, counts: &mut Counts, file: &[u8], written: Option<&Model>) {
     let verdict = verdict_of(counts, file, written);
-    let (states, rounds, needed, roll) = match &verdict {
-        Err(_) => (4, 1, 3, Vec::new()),
+    let (states, needed, roll, ceilings, distance_ceilings) = match &verdict {
+        Err(_) => (4, 3, Vec::new(), all_ceilings(0), all_ceilings(0)),
         Ok((graph, facts)) => (
             graph.states(),
-            facts.candidates.len(),
             facts.length().map_or(1, |length| length + 1),
             facts.roll.clone(),
+            all_ceilings(greatest(&facts.round_lengths)),
+            all_ceilings(greatest(&facts.distances)),
         ),
     };
-    for _ in 0..4 {
-        let record = random_record(lot, rounds, needed);
-        let length = work_len(lot, states);
-        compare_step(lot, counts, file, &verdict, record, length);
+    for ceiling in ceilings {
+        compare_under(lot, counts, file, &verdict, ceiling, states, needed);
     }
-    compare_all_steps(lot, counts, file, &verdict, states);
-    let enough = 65535.min(rounds + lot.below(3)) as u16;
-    for allowance in [enough, 65535, lot.below(rounds + 2) as u16, 0, lot.word()] {
-        let (answer, work) = (answer_len(lot, needed), work_len(lot, states));
-        compare_search(lot, counts, file, &verdict, allowance, answer, work);
-    }
+    compare_all_steps(lot, counts, file, &verdict, states, |lot| {
+        ceiling_about(lot, needed - 1)
+    });
     compare_roll(lot, counts, file, &verdict, &roll, states);
     for _ in 0..6 {
         let earlier = match &verdict {
@@ -235,6 +222,57 @@ fn compare_file(lot: &mut Random, counts: &mut Counts, file: &[u8], written: Opt
         if may_ask(&verdict, &earlier) {
             compare_next(lot, counts, file, &verdict, &earlier, answer, work);
         }
+    }
+    compare_sequence(lot, counts, file, &verdict);
+    compare_all_distances(lot, counts, file, &verdict, &distance_ceilings, states);
+}
+
+/// Steps and searches under one ceiling.
+fn compare_under(
+    lot: &mut Random,
+    counts: &mut Counts,
+    file: &[u8],
+    verdict: &Verdict,
+    ceiling: u16,
+    states: usize,
+    needed: usize,
+) {
+    let mut rounds = 1;
+    if let Ok((graph, facts)) = verdict {
+        rounds = facts.candidates.len();
+        check_ceilings(counts, file, graph, facts, ceiling);
+    }
+    for _ in 0..4 {
+        let record = random_record(lot, rounds, needed, ceiling);
+        let length = work_len(lot, states);
+        compare_step(lot, counts, file, verdict, ceiling, record, length);
+    }
+    compare_all_steps(lot, counts, file, verdict, states, |_| ceiling);
+    let enough = 65535.min(rounds + lot.below(3)) as u16;
+    for allowance in [enough, 65535, lot.below(rounds + 2) as u16, 0, lot.word()] {
+        let (answer, work) = (answer_len(lot, needed), work_len(lot, states));
+        let ask = Ask { ceiling, allowance };
+        compare_search(lot, counts, file, verdict, ask, answer, work);
+    }
+}
+
+/// Distances up to each of some ceilings, in tables with an entry too few, as many as there are states, and three more;
+/// and with tables of any length.
+fn compare_all_distances(
+    lot: &mut Random,
+    counts: &mut Counts,
+    file: &[u8],
+    verdict: &Verdict,
+    ceilings: &[u16],
+    states: usize,
+) {
+    for &ceiling in ceilings {
+        for table in [states - 1, states, states + 3] {
+            let work = 6 * states + lot.below(3);
+            compare_distances(lot, counts, file, verdict, ceiling, table, work);
+        }
+        let (table, work) = (answer_len(lot, states), work_len(lot, states));
+        compare_distances(lot, counts, file, verdict, ceiling, table, work);
     }
 }
 
@@ -252,28 +290,30 @@ fn may_ask(verdict: &Verdict, earlier: &[u16]) -> bool {
     }
 }
 
-/// Steps from the first record until the answer is "finished".
+/// Steps from the first record until the answer is "finished", each under a ceiling that is told.
 fn compare_all_steps(
     lot: &mut Random,
     counts: &mut Counts,
     file: &[u8],
     verdict: &Verdict,
     states: usize,
+    ceiling_of: impl Fn(&mut Random) -> u16,
 ) {
     let mut record = Record {
         done: 0,
         best: None,
     };
     loop {
-        compare_step(lot, counts, file, verdict, record, 6 * states);
-        match oracle::step(verdict, record, 6 * states) {
+        let ceiling = ceiling_of(lot);
+        compare_step(lot, counts, file, verdict, ceiling, record, 6 * states);
+        match oracle::step(verdict, ceiling, record, 6 * states) {
             StepAnswer::Advanced(after) => record = after,
             _ => return,
         }
     }
 }
 
-/// Searches, then asks for the next list until there are no more.
+/// Searches under the full ceiling, then asks for the next list until there are no more.
 pub fn compare_roll(
     lot: &mut Random,
     counts: &mut Counts,
@@ -283,214 +323,12 @@ pub fn compare_roll(
     states: usize,
 ) {
     let needed = roll.first().map_or(1, Vec::len);
-    compare_search(lot, counts, file, verdict, 65535, needed, 6 * states);
+    let ask = Ask::under(FULL_CEILING);
+    compare_search(lot, counts, file, verdict, ask, needed, 6 * states);
     for list in roll {
         if may_ask(verdict, list) {
             let answer = answer_len(lot, needed);
             compare_next(lot, counts, file, verdict, list, answer, 6 * states);
-        }
-    }
-}
-
-/// The value that is returned for an answer and its figures, as the C functions give them: a refusal has none.
-trait Figures {
-    fn figures(&self) -> (u16, Vec<u16>);
-}
-
-fn record_figures(record: &Record) -> Vec<u16> {
-    match record.best {
-        None => vec![record.done, 0, 0],
-        Some(best) => vec![record.done, 1, best],
-    }
-}
-
-impl Figures for StepAnswer {
-    fn figures(&self) -> (u16, Vec<u16>) {
-        match self {
-            StepAnswer::Refused(number) => (*number, vec![]),
-            StepAnswer::Finished(record) => (kind::FINISHED, record_figures(record)),
-            StepAnswer::Advanced(record) => (kind::ADVANCED, record_figures(record)),
-        }
-    }
-}
-
-impl Figures for SearchAnswer {
-    fn figures(&self) -> (u16, Vec<u16>) {
-        match *self {
-            SearchAnswer::Refused(number) => (number, vec![]),
-            SearchAnswer::Stopped(record) => (kind::STOPPED, record_figures(&record)),
-            SearchAnswer::Found {
-                length,
-                loop_start,
-                rounds,
-            } => (kind::FOUND, vec![length, loop_start, rounds]),
-            SearchAnswer::Empty { rounds } => (kind::EMPTY, vec![rounds]),
-        }
-    }
-}
-
-impl Figures for NextAnswer {
-    fn figures(&self) -> (u16, Vec<u16>) {
-        match *self {
-            NextAnswer::Refused(number) => (number, vec![]),
-            NextAnswer::Found { length, loop_start } => (kind::FOUND, vec![length, loop_start]),
-            NextAnswer::NoMore => (kind::NO_MORE, vec![]),
-        }
-    }
-}
-
-/// The tables of one call before it, and what they must hold after it.
-struct Tables {
-    answer: Vec<u16>,
-    answer_after: Vec<u16>,
-    work: Vec<u16>,
-    work_after: Vec<u16>,
-}
-
-impl Tables {
-    fn new(
-        lot: &mut Random,
-        verdict: &Verdict,
-        answer_len: usize,
-        work_len: usize,
-        list: &[u16],
-    ) -> Tables {
-        let answer = dirty(lot, answer_len);
-        let work = dirty(lot, work_len);
-        Tables {
-            answer_after: oracle::answer_after(&answer, list),
-            work_after: oracle::work_after(verdict, &work),
-            answer,
-            work,
-        }
-    }
-
-    /// Calls a version with copies of the tables, and compares its answer and the tables afterwards.
-    fn agree<T: PartialEq>(
-        &self,
-        expected: &T,
-        call: impl FnOnce(&mut [u16], &mut [u16]) -> T,
-    ) -> bool {
-        let (mut answer, mut work) = (self.answer.clone(), self.work.clone());
-        let got = call(&mut answer, &mut work);
-        got == *expected && answer == self.answer_after && work == self.work_after
-    }
-
-    /// The same for a C function: its value, and the table of figures, past which nothing changes.
-    fn agree_in_c(
-        &self,
-        lot: &mut Random,
-        counts: &mut Counts,
-        expected: &impl Figures,
-        call: impl FnOnce(&mut [u16], &mut [u16], &mut [u16]) -> u16,
-    ) -> bool {
-        let (mut answer, mut work) = (self.answer.clone(), self.work.clone());
-        let len = if lot.once_in(12) {
-            lot.below(4)
-        } else {
-            lot.between(4, 6)
-        };
-        let mut out = dirty(lot, len);
-        let mut out_after = out.clone();
-        if len < 4 {
-            counts.out_too_short += 1;
-            let got = call(&mut answer, &mut work, &mut out);
-            return got == kind::OUT_TOO_SHORT
-                && (out, answer, work) == (out_after, self.answer.clone(), self.work.clone());
-        }
-        let (expected_value, figures) = expected.figures();
-        out_after[..figures.len()].copy_from_slice(&figures);
-        let got = call(&mut answer, &mut work, &mut out);
-        got == expected_value
-            && out == out_after
-            && answer == self.answer_after
-            && work == self.work_after
-    }
-}
-
-/// Counts an answer by its value.
-fn count_value(counts: &mut Counts, expected: &impl Figures) {
-    let (value, _) = expected.figures();
-    *counts.values.entry(value).or_default() += 1;
-    if value == kind::FOUND {
-        counts.lists += 1;
-    }
-}
-
-fn compare_step(
-    lot: &mut Random,
-    counts: &mut Counts,
-    file: &[u8],
-    verdict: &Verdict,
-    so_far: Record,
-    work_len: usize,
-) {
-    counts.steps += 1;
-    let expected = oracle::step(verdict, so_far, work_len);
-    count_value(counts, &expected);
-    let tables = Tables::new(lot, verdict, 0, work_len, &[]);
-    if !tables.agree_in_c(lot, counts, &expected, |_, work, out| {
-        step_into(file, so_far, work, out)
-    }) {
-        counts.difference(&format!("step {so_far:?}: proved"), file);
-    }
-    for version in VERSIONS {
-        if !tables.agree(&expected, |_, work| version.step(file, so_far, work)) {
-            counts.difference(&format!("step {so_far:?}: {}", version.name()), file);
-        }
-    }
-}
-
-fn compare_search(
-    lot: &mut Random,
-    counts: &mut Counts,
-    file: &[u8],
-    verdict: &Verdict,
-    allowance: u16,
-    answer_len: usize,
-    work_len: usize,
-) {
-    counts.searches += 1;
-    let (expected, list) = oracle::search(verdict, allowance, answer_len, work_len);
-    count_value(counts, &expected);
-    let tables = Tables::new(lot, verdict, answer_len, work_len, list);
-    if !tables.agree_in_c(lot, counts, &expected, |answer, work, out| {
-        search_into(file, allowance, answer, work, out)
-    }) {
-        counts.difference(&format!("search {allowance}: proved"), file);
-    }
-    for version in VERSIONS {
-        if !tables.agree(&expected, |answer, work| {
-            version.search(file, allowance, answer, work)
-        }) {
-            counts.difference(&format!("search {allowance}: {}", version.name()), file);
-        }
-    }
-}
-
-fn compare_next(
-    lot: &mut Random,
-    counts: &mut Counts,
-    file: &[u8],
-    verdict: &Verdict,
-    earlier: &[u16],
-    answer_len: usize,
-    work_len: usize,
-) {
-    counts.nexts += 1;
-    let (expected, list) = oracle::next(verdict, earlier, answer_len, work_len);
-    count_value(counts, &expected);
-    let tables = Tables::new(lot, verdict, answer_len, work_len, list);
-    if !tables.agree_in_c(lot, counts, &expected, |answer, work, out| {
-        next_into(file, earlier, answer, work, out)
-    }) {
-        counts.difference(&format!("next {earlier:?}: proved"), file);
-    }
-    for version in VERSIONS {
-        if !tables.agree(&expected, |answer, work| {
-            version.next(file, earlier, answer, work)
-        }) {
-            counts.difference(&format!("next {earlier:?}: {}", version.name()), file);
         }
     }
 }

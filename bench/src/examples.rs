@@ -1,19 +1,20 @@
-//! The examples of the contract through the wrapper, for `cargo test`; they show how the calls are used.
+//! The examples of the contract through the wrapper, for `cargo test`; they show how the calls are used. Searches and
+//! steps have the full ceiling here; `ceiling_examples.rs` has others, and distances.
 
 use crate::fahkelo::{
-    combine, combine_into, grade, grade_into, kind, next, search, step, CombineAnswer, GradeAnswer,
-    NextAnswer, Record, SearchAnswer, StepAnswer, Verdict,
+    combine, combine_into, grade, grade_into, kind, next, search, step, Ask, CombineAnswer,
+    GradeAnswer, NextAnswer, Record, SearchAnswer, StepAnswer, Verdict, FULL_CEILING,
 };
 use crate::model::Model;
 use crate::property::Property;
 
-const NOTHING_DONE: Record = Record {
+pub const NOTHING_DONE: Record = Record {
     done: 0,
     best: None,
 };
 
 /// The file of a model from its edges and marks.
-fn file_of(states: usize, edges: &[(usize, usize)], marks: &[usize]) -> Vec<u8> {
+pub fn file_of(states: usize, edges: &[(usize, usize)], marks: &[usize]) -> Vec<u8> {
     let mut model = Model::new(states);
     for &(from, to) in edges {
         model.edge(from, to);
@@ -25,12 +26,12 @@ fn file_of(states: usize, edges: &[(usize, usize)], marks: &[usize]) -> Vec<u8> 
 }
 
 /// The file with another number in bytes 6–7; with 1 a state without edges has an implied step to itself.
-fn with_flag(mut file: Vec<u8>, flag: u16) -> Vec<u8> {
+pub fn with_flag(mut file: Vec<u8>, flag: u16) -> Vec<u8> {
     file[6..8].copy_from_slice(&flag.to_le_bytes());
     file
 }
 
-fn file_a() -> Vec<u8> {
+pub fn file_a() -> Vec<u8> {
     file_of(1, &[], &[0])
 }
 
@@ -38,12 +39,12 @@ fn file_b() -> Vec<u8> {
     file_of(1, &[(0, 0)], &[0])
 }
 
-fn file_d() -> Vec<u8> {
+pub fn file_d() -> Vec<u8> {
     let edges = [(0, 1), (0, 2), (1, 3), (2, 3), (3, 1), (3, 2), (4, 4)];
     file_of(5, &edges, &[3, 4])
 }
 
-fn file_h() -> Vec<u8> {
+pub fn file_h() -> Vec<u8> {
     let edges = [
         (0, 1),
         (0, 5),
@@ -61,14 +62,18 @@ fn file_h() -> Vec<u8> {
 fn searched(file: &[u8], allowance: u16) -> (SearchAnswer, Vec<u16>) {
     let mut answer = [0; 4097];
     let mut work = vec![0; 6 * 4096];
-    let result = search(file, allowance, &mut answer, &mut work);
+    let ask = Ask {
+        ceiling: FULL_CEILING,
+        allowance,
+    };
+    let result = search(file, ask, &mut answer, &mut work);
     match result {
         SearchAnswer::Found { length, .. } => (result, answer[..=length as usize].to_vec()),
         _ => (result, Vec::new()),
     }
 }
 
-fn found(length: u16, loop_start: u16, rounds: u16) -> SearchAnswer {
+pub fn found(length: u16, loop_start: u16, rounds: u16) -> SearchAnswer {
     SearchAnswer::Found {
         length,
         loop_start,
@@ -96,17 +101,17 @@ fn file_d_is_the_printed_one() {
 
 #[test]
 fn searches() {
-    let empty = |rounds| (SearchAnswer::Empty { rounds }, vec![]);
-    assert_eq!(searched(&file_a(), 65535), empty(1));
+    let none_within = |rounds| (SearchAnswer::NoneWithin { rounds }, vec![]);
+    assert_eq!(searched(&file_a(), 65535), none_within(1));
     assert_eq!(searched(&file_b(), 65535), (found(1, 0, 1), vec![0, 0]));
-    assert_eq!(searched(&file_of(1, &[(0, 0)], &[]), 65535), empty(0));
+    assert_eq!(searched(&file_of(1, &[(0, 0)], &[]), 65535), none_within(0));
     assert_eq!(
         searched(&file_d(), 65535),
         (found(3, 1, 1), vec![0, 1, 3, 1])
     );
     assert_eq!(
         searched(&file_of(2, &[(0, 1), (1, 1)], &[0]), 65535),
-        empty(1)
+        none_within(1)
     );
     assert_eq!(
         searched(&file_of(2, &[(0, 1), (1, 0)], &[1]), 65535),
@@ -136,19 +141,19 @@ fn stopped_searches_and_steps() {
     assert_eq!(searched(&file_h(), 1).0, SearchAnswer::Stopped(after_one));
     let mut work = [0; 42];
     assert_eq!(
-        step(&file_h(), NOTHING_DONE, &mut work),
+        step(&file_h(), FULL_CEILING, NOTHING_DONE, &mut work),
         StepAnswer::Advanced(after_one)
     );
     assert_eq!(
-        step(&file_h(), after_one, &mut work),
+        step(&file_h(), FULL_CEILING, after_one, &mut work),
         StepAnswer::Advanced(after_two)
     );
     assert_eq!(
-        step(&file_h(), after_two, &mut work),
+        step(&file_h(), FULL_CEILING, after_two, &mut work),
         StepAnswer::Finished(after_two)
     );
     assert_eq!(
-        step(&file_h(), after_two, &mut work[..41]),
+        step(&file_h(), FULL_CEILING, after_two, &mut work[..41]),
         StepAnswer::Refused(12)
     );
 }
@@ -173,11 +178,11 @@ fn a_state_that_stays() {
     };
     let mut work = [9; 6];
     assert_eq!(
-        step(&file, NOTHING_DONE, &mut work),
+        step(&file, FULL_CEILING, NOTHING_DONE, &mut work),
         StepAnswer::Advanced(after_one)
     );
     assert_eq!(
-        step(&file, after_one, &mut work),
+        step(&file, FULL_CEILING, after_one, &mut work),
         StepAnswer::Finished(after_one)
     );
     assert_eq!(searched(&file, 65535), (found(1, 0, 1), vec![0, 0]));
@@ -194,7 +199,7 @@ fn a_way_to_a_state_that_stays() {
     let file = file_of(2, &[(0, 1)], &[1]);
     assert_eq!(
         searched(&file, 65535),
-        (SearchAnswer::Empty { rounds: 1 }, vec![])
+        (SearchAnswer::NoneWithin { rounds: 1 }, vec![])
     );
     assert_eq!(
         searched(&with_flag(file, 1), 65535),
@@ -211,8 +216,8 @@ fn a_flag_where_every_state_has_edges() {
         }
         let mut work = [0; 42];
         assert_eq!(
-            step(&staying, NOTHING_DONE, &mut work),
-            step(&file, NOTHING_DONE, &mut work)
+            step(&staying, FULL_CEILING, NOTHING_DONE, &mut work),
+            step(&file, FULL_CEILING, NOTHING_DONE, &mut work)
         );
     }
 }
@@ -223,7 +228,10 @@ fn flags_above_1() {
         let file = with_flag(file_a(), flag);
         assert_eq!(searched(&file, 65535).0, SearchAnswer::Refused(5));
         let mut work = [0; 6];
-        assert_eq!(step(&file, NOTHING_DONE, &mut work), StepAnswer::Refused(5));
+        assert_eq!(
+            step(&file, FULL_CEILING, NOTHING_DONE, &mut work),
+            StepAnswer::Refused(5)
+        );
         assert_eq!(
             next(&file, &[0, 0], &mut [0; 2], &mut work),
             NextAnswer::Refused(5)
@@ -241,7 +249,7 @@ fn the_longest_ring() {
     let mut work = vec![0; 6 * 4096];
     let mut short = vec![9; 4096];
     assert_eq!(
-        search(&file, 65535, &mut short, &mut work),
+        search(&file, Ask::under(FULL_CEILING), &mut short, &mut work),
         SearchAnswer::Refused(15)
     );
     assert_eq!(short, vec![9; 4096]);
@@ -478,7 +486,7 @@ fn the_grade_of_a_list_received() {
     let mut work = [0; 42];
     let SearchAnswer::Found {
         length, loop_start, ..
-    } = search(&file_h(), 65535, &mut answer, &mut work)
+    } = search(&file_h(), Ask::under(FULL_CEILING), &mut answer, &mut work)
     else {
         panic!("there is an accepting path");
     };

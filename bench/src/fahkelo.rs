@@ -1,8 +1,8 @@
 //! The proved library, as a Rust program uses it: slices go in, enums come out, and all unsafe code of the use is here.
 //!
 //! Any bytes may be lent as the file and tables of any length as the tables. The working table needs six entries a
-//! state, the answer table one entry more than the path has transitions, the output of a combination the bytes of the
-//! result, at most 25,114; with less the call is refused with its number.
+//! state, the answer table one entry more than the path has transitions, the table of distances one entry a state, the
+//! output of a combination the bytes of the result, at most 25,114; with less the call is refused with its number.
 
 /// The functions of the static library, as `include/fahkelo.h` declares them: a slice is a pointer and a length.
 mod c {
@@ -10,6 +10,7 @@ mod c {
         pub fn fahkelo_step(
             file: *const u8,
             file_len: usize,
+            ceiling: u16,
             done: u16,
             has_best: u8,
             best: u16,
@@ -21,6 +22,7 @@ mod c {
         pub fn fahkelo_search(
             file: *const u8,
             file_len: usize,
+            ceiling: u16,
             allowance: u16,
             answer: *mut u16,
             answer_len: usize,
@@ -66,6 +68,38 @@ mod c {
             out: *mut u16,
             out_len: usize,
         ) -> u16;
+        pub fn fahkelo_distances(
+            file: *const u8,
+            file_len: usize,
+            ceiling: u16,
+            distances: *mut u16,
+            distances_len: usize,
+            work: *mut u16,
+            work_len: usize,
+            out: *mut u16,
+            out_len: usize,
+        ) -> u16;
+    }
+}
+
+/// The greatest ceiling: no shortest accepting path is above it, so that the answers are those of the whole model.
+pub const FULL_CEILING: u16 = 4096;
+
+/// What a search names beside the file and the tables: the length that no path may exceed, at most `FULL_CEILING`, and
+/// the rounds that it is allowed.
+#[derive(Clone, Copy, Debug, PartialEq, Eq)]
+pub struct Ask {
+    pub ceiling: u16,
+    pub allowance: u16,
+}
+
+impl Ask {
+    /// All rounds, whatever the model, under a ceiling.
+    pub fn under(ceiling: u16) -> Ask {
+        Ask {
+            ceiling,
+            allowance: u16::MAX,
+        }
     }
 }
 
@@ -84,7 +118,8 @@ pub enum StepAnswer {
     Advanced(Record),
 }
 
-/// The answer of a search. On `Found` the list stands in the answer table, in `length + 1` entries.
+/// The answer of a search. On `Found` the list stands in the answer table, in `length + 1` entries; on `NoneWithin` no
+/// accepting path has the length of the ceiling or less.
 #[derive(Clone, Copy, Debug, PartialEq, Eq)]
 pub enum SearchAnswer {
     Refused(u16),
@@ -94,7 +129,7 @@ pub enum SearchAnswer {
         loop_start: u16,
         rounds: u16,
     },
-    Empty {
+    NoneWithin {
         rounds: u16,
     },
 }
@@ -129,13 +164,24 @@ pub enum GradeAnswer {
     Graded(Verdict, Option<usize>),
 }
 
+/// The entry of a state that has no distance up to the ceiling.
+pub const NOT_REACHED: u16 = 65535;
+
+/// The answer of a distance call. On `Written` the distances stand in the first so many entries of the table, one for
+/// each state, `NOT_REACHED` where there is none up to the ceiling.
+#[derive(Clone, Copy, Debug, PartialEq, Eq)]
+pub enum DistancesAnswer {
+    Refused(u16),
+    Written(u16),
+}
+
 /// The return values of the C functions: the kinds of answer. A value below them is the number of a refusal.
 pub mod kind {
     pub const FROM: u16 = 100;
     pub const OUT_TOO_SHORT: u16 = 100;
     pub const STOPPED: u16 = 101;
     pub const FOUND: u16 = 102;
-    pub const EMPTY: u16 = 103;
+    pub const NONE_WITHIN: u16 = 103;
     pub const NO_MORE: u16 = 104;
     pub const FINISHED: u16 = 105;
     pub const ADVANCED: u16 = 106;
@@ -146,7 +192,13 @@ pub mod kind {
 }
 
 /// `fahkelo_step` over slices: the kind, with its figures in `out`, or the number of the refusal.
-pub fn step_into(file: &[u8], so_far: Record, work: &mut [u16], out: &mut [u16]) -> u16 {
+pub fn step_into(
+    file: &[u8],
+    ceiling: u16,
+    so_far: Record,
+    work: &mut [u16],
+    out: &mut [u16],
+) -> u16 {
     let (has_best, best) = match so_far.best {
         None => (0, 0),
         Some(best) => (1, best),
@@ -156,6 +208,7 @@ pub fn step_into(file: &[u8], so_far: Record, work: &mut [u16], out: &mut [u16])
         c::fahkelo_step(
             file.as_ptr(),
             file.len(),
+            ceiling,
             so_far.done,
             has_best,
             best,
@@ -170,7 +223,7 @@ pub fn step_into(file: &[u8], so_far: Record, work: &mut [u16], out: &mut [u16])
 /// `fahkelo_search` over slices: the kind, with its figures in `out`, or the number of the refusal.
 pub fn search_into(
     file: &[u8],
-    allowance: u16,
+    ask: Ask,
     answer: &mut [u16],
     work: &mut [u16],
     out: &mut [u16],
@@ -180,7 +233,8 @@ pub fn search_into(
         c::fahkelo_search(
             file.as_ptr(),
             file.len(),
-            allowance,
+            ask.ceiling,
+            ask.allowance,
             answer.as_mut_ptr(),
             answer.len(),
             work.as_mut_ptr(),
@@ -269,6 +323,30 @@ pub fn grade_into(
     }
 }
 
+/// `fahkelo_distances` over slices: the kind, with its figure in `out`, or the number of the refusal.
+pub fn distances_into(
+    file: &[u8],
+    ceiling: u16,
+    distances: &mut [u16],
+    work: &mut [u16],
+    out: &mut [u16],
+) -> u16 {
+    // SAFETY: as in `step_into`.
+    unsafe {
+        c::fahkelo_distances(
+            file.as_ptr(),
+            file.len(),
+            ceiling,
+            distances.as_mut_ptr(),
+            distances.len(),
+            work.as_mut_ptr(),
+            work.len(),
+            out.as_mut_ptr(),
+            out.len(),
+        )
+    }
+}
+
 /// The record that three figures stand for.
 fn record_of(figures: &[u16; 4]) -> Record {
     Record {
@@ -277,10 +355,11 @@ fn record_of(figures: &[u16; 4]) -> Record {
     }
 }
 
-/// The record after one more round; any record may be given.
-pub fn step(file: &[u8], so_far: Record, work: &mut [u16]) -> StepAnswer {
+/// The record after one more round under a ceiling; any record may be given, and its best is kept unless the round finds
+/// a lesser length.
+pub fn step(file: &[u8], ceiling: u16, so_far: Record, work: &mut [u16]) -> StepAnswer {
     let mut out = [0; 4];
-    match step_into(file, so_far, work, &mut out) {
+    match step_into(file, ceiling, so_far, work, &mut out) {
         number if number < kind::FROM => StepAnswer::Refused(number),
         kind::FINISHED => StepAnswer::Finished(record_of(&out)),
         kind::ADVANCED => StepAnswer::Advanced(record_of(&out)),
@@ -288,10 +367,11 @@ pub fn step(file: &[u8], so_far: Record, work: &mut [u16]) -> StepAnswer {
     }
 }
 
-/// The first of the shortest accepting paths, after at most `allowance` rounds.
-pub fn search(file: &[u8], allowance: u16, answer: &mut [u16], work: &mut [u16]) -> SearchAnswer {
+/// The first of the shortest accepting paths, if they are not longer than the ceiling, after at most `ask.allowance`
+/// rounds.
+pub fn search(file: &[u8], ask: Ask, answer: &mut [u16], work: &mut [u16]) -> SearchAnswer {
     let mut out = [0; 4];
-    match search_into(file, allowance, answer, work, &mut out) {
+    match search_into(file, ask, answer, work, &mut out) {
         number if number < kind::FROM => SearchAnswer::Refused(number),
         kind::STOPPED => SearchAnswer::Stopped(record_of(&out)),
         kind::FOUND => SearchAnswer::Found {
@@ -299,7 +379,7 @@ pub fn search(file: &[u8], allowance: u16, answer: &mut [u16], work: &mut [u16])
             loop_start: out[1],
             rounds: out[2],
         },
-        kind::EMPTY => SearchAnswer::Empty { rounds: out[0] },
+        kind::NONE_WITHIN => SearchAnswer::NoneWithin { rounds: out[0] },
         other => unreachable!("a search has no answer of kind {other}"),
     }
 }
@@ -340,4 +420,19 @@ pub fn grade(file: &[u8], list: &[u16], k: u16, work: &mut [u16]) -> GradeAnswer
         other => unreachable!("a grade has no answer of kind {other}"),
     };
     GradeAnswer::Graded(verdict, (out[0] != 0).then_some(place[0]))
+}
+
+/// The distance of each state from the initial state, or `NOT_REACHED` if there is none up to the ceiling.
+pub fn distances(
+    file: &[u8],
+    ceiling: u16,
+    distances: &mut [u16],
+    work: &mut [u16],
+) -> DistancesAnswer {
+    let mut out = [0; 4];
+    match distances_into(file, ceiling, distances, work, &mut out) {
+        number if number < kind::FROM => DistancesAnswer::Refused(number),
+        kind::WRITTEN => DistancesAnswer::Written(out[0]),
+        other => unreachable!("a distance call has no answer of kind {other}"),
+    }
 }

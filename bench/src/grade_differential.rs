@@ -4,8 +4,11 @@
 
 use std::collections::BTreeMap;
 
-use crate::differential::{self, print_files, verdict_of};
-use crate::fahkelo::{grade_into, kind, GradeAnswer, NextAnswer, SearchAnswer, Verdict};
+use crate::counts;
+use crate::differential::verdict_of;
+use crate::fahkelo::{
+    grade_into, kind, Ask, GradeAnswer, NextAnswer, SearchAnswer, Verdict, FULL_CEILING,
+};
 use crate::families::FAMILIES;
 use crate::grade_oracle::{self, is_accepting};
 use crate::grade_samples::{any_list, claim, draw, Kind, KINDS};
@@ -37,7 +40,7 @@ struct Counts {
     long_paths: u64,
     out_too_short: u64,
     place_too_short: u64,
-    files: differential::Counts,
+    files: counts::Counts,
 }
 
 impl Counts {
@@ -100,7 +103,7 @@ fn print(counts: &Counts) {
         .iter()
         .map(|(value, n)| format!("{value}: {n}"))
         .collect();
-    print_files(&counts.files);
+    counts.files.print_files();
     println!("grades by value: {}", words.join(", "));
     println!("\n| lists | false, a place | false, none | accepting | shortest | refused |");
     println!("|---|---|---|---|---|---|");
@@ -198,7 +201,8 @@ fn compare_received(
 ) -> usize {
     let mut answer = vec![0; states + 1];
     let mut work = vec![0; 6 * states];
-    let found = Proved.search(file, 65535, &mut answer, &mut work);
+    let ask = Ask::under(FULL_CEILING);
+    let found = Proved.search(file, ask, &mut answer, &mut work);
     let SearchAnswer::Found {
         length, loop_start, ..
     } = found

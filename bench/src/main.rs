@@ -1,11 +1,16 @@
 //! Compares the proved library with Rust versions: in speed, and in every answer and table.
 
+#[cfg(test)]
+mod ceiling_examples;
+mod ceiling_measure;
 mod clock;
 mod combinations;
 mod combine_differential;
 mod combine_measure;
 mod combine_samples;
+mod counts;
 mod differential;
+mod distances_measure;
 #[cfg(test)]
 mod examples;
 mod fahkelo;
@@ -25,21 +30,30 @@ mod property;
 mod random;
 mod reference;
 mod samples;
+mod sequences;
 mod textbook;
+mod trials;
 mod versions;
 
 use std::path::Path;
 use std::process::ExitCode;
 
-use versions::{Combiner, Finder, Grader, Proved, PAIRED, SAFE, UNCHECKED};
+use fahkelo::FULL_CEILING;
+use versions::{Combiner, DistanceWriter, Finder, Grader, Proved, PAIRED, SAFE, UNCHECKED};
 
 const USAGE: &str = "\
 fahkelo-bench [WORD]                           measure the families whose names hold the word (default: all)
 fahkelo-bench differential COUNT SEED          compare answers and tables on COUNT files
 fahkelo-bench counts [SIZE]                    the work of a search on each family, by phase
-fahkelo-bench once VERSION FAMILY SIZE         one search, for a profiler (proved, safe, paired, unchecked, textbook)
+fahkelo-bench once VERSION FAMILY SIZE [CEILING]
+                                               one search, for a profiler (proved, safe, paired, unchecked, textbook),
+                                               under a ceiling (default: 4096)
 fahkelo-bench families                         the names of the families
 fahkelo-bench files FOLDER                     write the files of all families
+fahkelo-bench ceiling [WORD]                   measure searches under a ceiling far below the length beside whole ones
+fahkelo-bench ceiling-families                 the families measured so at 4,096 states: name, ceiling
+fahkelo-bench distances [WORD]                 measure the distances of the families whose names hold the word
+fahkelo-bench distances-once VERSION FAMILY    the distances of one family, for a profiler (proved, safe, paired, unchecked)
 fahkelo-bench combine [WORD]                   measure the combinations whose names hold the word (default: all)
 fahkelo-bench combine-differential COUNT SEED  compare answers and outputs on COUNT combinations
 fahkelo-bench combine-once VERSION FAMILY      one combination, for a profiler (proved, safe, paired, unchecked)
@@ -58,7 +72,8 @@ fn main() -> ExitCode {
         ["differential", count, seed] => differential(count, seed),
         ["counts"] => counted("4096"),
         ["counts", size] => counted(size),
-        ["once", version, family, size] => once(version, family, size),
+        ["once", version, family, size] => once(version, family, size, "4096"),
+        ["once", version, family, size, ceiling] => once(version, family, size, ceiling),
         ["families"] => {
             for family in families::FAMILIES {
                 println!("{}", family.name);
@@ -69,6 +84,17 @@ fn main() -> ExitCode {
             measure::write_all(Path::new(folder));
             Some(ExitCode::SUCCESS)
         }
+        ["ceiling"] => capped(""),
+        ["ceiling", word] => capped(word),
+        ["ceiling-families"] => {
+            for capped in ceiling_measure::capped() {
+                println!("{} {}", capped.family.name, capped.ceiling);
+            }
+            Some(ExitCode::SUCCESS)
+        }
+        ["distances"] => distances_measured(""),
+        ["distances", word] => distances_measured(word),
+        ["distances-once", version, family] => distances(version, family),
         ["combine"] => combined(""),
         ["combine", word] => combined(word),
         ["combine-differential", count, seed] => combine_differential(count, seed),
@@ -117,6 +143,16 @@ fn counted(size: &str) -> Option<ExitCode> {
     Some(ExitCode::SUCCESS)
 }
 
+fn capped(word: &str) -> Option<ExitCode> {
+    ceiling_measure::run(word);
+    Some(ExitCode::SUCCESS)
+}
+
+fn distances_measured(word: &str) -> Option<ExitCode> {
+    distances_measure::run(word);
+    Some(ExitCode::SUCCESS)
+}
+
 fn combined(word: &str) -> Option<ExitCode> {
     combine_measure::run(word);
     Some(ExitCode::SUCCESS)
@@ -150,17 +186,29 @@ fn status_of(differences: u64) -> ExitCode {
     }
 }
 
-fn once(version: &str, family: &str, size: &str) -> Option<ExitCode> {
+fn once(version: &str, family: &str, size: &str, ceiling: &str) -> Option<ExitCode> {
     let states = size.parse().ok()?;
+    let ceiling = ceiling.parse().ok()?;
     let file = (families::named(family)?.make)(states).to_bytes();
     let versions: [&dyn Finder; 4] = [&Proved, &SAFE, &PAIRED, &UNCHECKED];
     if version == "textbook" {
-        let length = measure::textbook_once(&file).map(|list| list.len() - 1);
+        let length = measure::textbook_once(&file, ceiling).map(|list| list.len() - 1);
         println!("{length:?}");
         return Some(ExitCode::SUCCESS);
     }
     let version = versions.iter().find(|known| known.name() == version)?;
-    println!("{:?}", measure::search_once(*version, &file, states).0);
+    let (answer, _) = measure::search_once(*version, &file, states, ceiling);
+    println!("{answer:?}");
+    Some(ExitCode::SUCCESS)
+}
+
+fn distances(version: &str, family: &str) -> Option<ExitCode> {
+    let file = distances_measure::file_of(families::named(family)?);
+    let versions: [&dyn DistanceWriter; 4] = [&Proved, &SAFE, &PAIRED, &UNCHECKED];
+    let version = versions.iter().find(|known| known.name() == version)?;
+    let mut tables = distances_measure::Tables::filled(0);
+    let answer = distances_measure::distances_once(*version, &file, FULL_CEILING, &mut tables);
+    println!("{answer:?}");
     Some(ExitCode::SUCCESS)
 }
 

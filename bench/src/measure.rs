@@ -6,7 +6,7 @@ use std::process::Command;
 use std::time::{Duration, Instant};
 
 use crate::clock::{children_time, process_time};
-use crate::fahkelo::SearchAnswer;
+use crate::fahkelo::{Ask, SearchAnswer, FULL_CEILING};
 use crate::families::{Family, FAMILIES};
 use crate::graph::Graph;
 use crate::model::Model;
@@ -29,21 +29,26 @@ const BATCH: Duration = Duration::from_millis(5);
 const ALL_BATCHES: Duration = Duration::from_millis(800);
 const BATCHES: u32 = 8;
 
-/// One search by one version, with fresh tables.
+/// One search under a ceiling by one version, with fresh tables.
 #[inline(never)]
-pub fn search_once(version: &dyn Finder, file: &[u8], states: usize) -> (SearchAnswer, Vec<u16>) {
+pub fn search_once(
+    version: &dyn Finder,
+    file: &[u8],
+    states: usize,
+    ceiling: u16,
+) -> (SearchAnswer, Vec<u16>) {
     let mut answer = vec![0; ANSWER_ENTRIES];
     let mut work = vec![0; 6 * states];
-    let result = version.search(file, 65535, &mut answer, &mut work);
+    let result = version.search(file, Ask::under(ceiling), &mut answer, &mut work);
     (result, answer)
 }
 
-/// One search by the textbook version, from the file's bytes to the first list.
+/// One search under a ceiling by the textbook version, from the file's bytes to the first list.
 #[inline(never)]
-pub fn textbook_once(file: &[u8]) -> Option<Vec<u16>> {
+pub fn textbook_once(file: &[u8], ceiling: u16) -> Option<Vec<u16>> {
     let model = read(file).expect("the families are valid files");
     let textbook = Textbook::new(&Graph::of(model));
-    textbook.solve().map(|lister| lister.list().to_vec())
+    textbook.solve(ceiling).map(|lister| lister.list().to_vec())
 }
 
 /// The processor time of one call, from a batch of them.
@@ -67,14 +72,36 @@ struct Row {
     spreads: u64,
 }
 
-/// Measures versions in turn, so that what disturbs one disturbs all, and keeps the least time of each.
-pub fn least_times<const K: usize>(mut versions: [&mut dyn FnMut(); K]) -> [Duration; K] {
+/// So many calls make a batch, if one takes so long.
+fn calls_in_batch(once: Duration) -> u32 {
+    (BATCH.as_nanos() / once.as_nanos().max(1)).clamp(1, 10_000) as u32
+}
+
+/// Measures versions in turn, so that what disturbs one disturbs all, and keeps the least time of each. They take about
+/// as long as each other: the first decides how many calls make a batch.
+pub fn least_times<const K: usize>(versions: [&mut dyn FnMut(); K]) -> [Duration; K] {
     let once = batch_time(1, &mut *versions[0]);
-    let calls = (BATCH.as_nanos() / once.as_nanos().max(1)).clamp(1, 10_000) as u32;
-    let batches = ALL_BATCHES.as_nanos() / (once * calls).as_nanos().max(1);
+    least_of_batches(versions, [calls_in_batch(once); K], once)
+}
+
+/// The same for versions of which the first takes the longest: each has its own number of calls in a batch.
+pub fn least_times_apart<const K: usize>(mut versions: [&mut dyn FnMut(); K]) -> [Duration; K] {
+    let once = versions
+        .each_mut()
+        .map(|version| batch_time(1, &mut **version));
+    least_of_batches(versions, once.map(calls_in_batch), once[0])
+}
+
+/// The least time of one call of each version, in batches of so many calls; one call of the first takes so long.
+fn least_of_batches<const K: usize>(
+    mut versions: [&mut dyn FnMut(); K],
+    calls: [u32; K],
+    once: Duration,
+) -> [Duration; K] {
+    let batches = ALL_BATCHES.as_nanos() / (once * calls[0]).as_nanos().max(1);
     let mut least = [Duration::MAX; K];
     for _ in 0..batches.max(BATCHES.into()) {
-        for (version, least) in versions.iter_mut().zip(&mut least) {
+        for ((version, calls), least) in versions.iter_mut().zip(calls).zip(&mut least) {
             *least = batch_time(calls, version).min(*least);
         }
     }
@@ -83,26 +110,26 @@ pub fn least_times<const K: usize>(mut versions: [&mut dyn FnMut(); K]) -> [Dura
 
 fn times(file: &[u8], states: usize) -> [Duration; 5] {
     least_times([
-        &mut || drop(search_once(&Proved, file, states)),
-        &mut || drop(search_once(&SAFE, file, states)),
-        &mut || drop(search_once(&PAIRED, file, states)),
-        &mut || drop(search_once(&UNCHECKED, file, states)),
-        &mut || drop(textbook_once(file)),
+        &mut || drop(search_once(&Proved, file, states, FULL_CEILING)),
+        &mut || drop(search_once(&SAFE, file, states, FULL_CEILING)),
+        &mut || drop(search_once(&PAIRED, file, states, FULL_CEILING)),
+        &mut || drop(search_once(&UNCHECKED, file, states, FULL_CEILING)),
+        &mut || drop(textbook_once(file, FULL_CEILING)),
     ])
 }
 
-/// All versions must give the same first list.
-fn agreed_answer(file: &[u8], states: usize) -> SearchAnswer {
-    let (proved, list) = search_once(&Proved, file, states);
+/// All versions must give the same first list, or none, under a ceiling.
+pub fn agreed_answer(file: &[u8], states: usize, ceiling: u16) -> SearchAnswer {
+    let (proved, list) = search_once(&Proved, file, states, ceiling);
     for version in [&SAFE as &dyn Finder, &PAIRED, &UNCHECKED] {
-        let other = search_once(version, file, states);
+        let other = search_once(version, file, states, ceiling);
         assert!(
             other == (proved, list.clone()),
             "the {} version differs",
             version.name()
         );
     }
-    let textbook = textbook_once(file);
+    let textbook = textbook_once(file, ceiling);
     let found = match proved {
         SearchAnswer::Found { length, .. } => Some(list[..=length as usize].to_vec()),
         _ => None,
@@ -119,7 +146,7 @@ fn sheet_text(file: &[u8]) -> String {
     let textbook = Textbook::new(&graph);
     let rounds = textbook.candidates().len();
     let head = format!("model {states} {edges}\nrounds {rounds}\n");
-    let Some(mut lister) = textbook.solve() else {
+    let Some(mut lister) = textbook.solve(FULL_CEILING) else {
         return head + "none\n";
     };
     let mut text = format!("{head}shortest {}\n", lister.list().len() - 1);
@@ -166,13 +193,13 @@ fn measure(family: &Family, states: usize, folder: &Path, program: &Path) -> Row
     let model = (family.make)(states);
     let file = model.to_bytes();
     let path = write_file(folder, family.name, &model);
-    let (length, rounds) = match agreed_answer(&file, states) {
+    let (length, rounds) = match agreed_answer(&file, states, FULL_CEILING) {
         SearchAnswer::Found {
             length,
             loop_start,
             rounds,
         } => (Some((length, loop_start)), rounds),
-        SearchAnswer::Empty { rounds } => (None, rounds),
+        SearchAnswer::NoneWithin { rounds } => (None, rounds),
         other => panic!("{}: {other:?}", family.name),
     };
     Row {
@@ -183,7 +210,7 @@ fn measure(family: &Family, states: usize, folder: &Path, program: &Path) -> Row
         length,
         times: times(&file, states),
         sheet: sheet_time(program, &path),
-        spreads: count_work(&file, states).spreads.iter().sum(),
+        spreads: count_work(&file, states, FULL_CEILING).spreads.iter().sum(),
     }
 }
 
@@ -209,7 +236,7 @@ pub fn write_all(folder: &Path) {
     }
 }
 
-fn millis(time: Duration) -> f64 {
+pub fn millis(time: Duration) -> f64 {
     time.as_secs_f64() * 1000.0
 }
 
@@ -298,12 +325,12 @@ fn print_growth(rows: &[Row]) {
     }
 }
 
-/// The work of a search on a file.
-fn count_work(file: &[u8], states: usize) -> Work {
+/// The work of a search on a file under a ceiling.
+pub fn count_work(file: &[u8], states: usize, ceiling: u16) -> Work {
     let mut answer = vec![0; ANSWER_ENTRIES];
     let mut work = vec![0; 6 * states];
     Counting::take();
-    finder::search::<Counting>(file, 65535, &mut answer, &mut work);
+    finder::search::<Counting>(file, Ask::under(ceiling), &mut answer, &mut work);
     Counting::take()
 }
 
@@ -313,7 +340,7 @@ pub fn print_counts(states: usize) {
     println!("|---|---|---|---|---|---|---|");
     for family in FAMILIES {
         let file = (family.make)(states).to_bytes();
-        let Work { spreads, edges, .. } = count_work(&file, states);
+        let Work { spreads, edges, .. } = count_work(&file, states, FULL_CEILING);
         println!(
             "| {} | {} | {} | {} | {} | {} | {} |",
             family.name, spreads[0], spreads[1], spreads[2], edges[0], edges[1], edges[2]

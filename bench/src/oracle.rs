@@ -1,7 +1,8 @@
 //! What each call must answer and leave in its tables, from the facts of a file: the reasons to refuse in order, the
-//! round record, the roll.
+//! round record, the roll, the distances. The facts are those of the whole model; what a ceiling does to them is said
+//! here.
 
-use crate::fahkelo::{NextAnswer, Record, SearchAnswer, StepAnswer};
+use crate::fahkelo::{Ask, DistancesAnswer, NextAnswer, Record, SearchAnswer, StepAnswer};
 use crate::graph::Graph;
 use crate::reference::{accepting, Facts};
 
@@ -13,16 +14,29 @@ fn lesser(a: Option<u16>, b: Option<u16>) -> Option<u16> {
     a.into_iter().chain(b).min()
 }
 
-/// The record after one more round, if a candidate is left.
-fn after_round(facts: &Facts, so_far: Record) -> Option<Record> {
-    let length = facts.round_lengths.get(so_far.done as usize)?;
+/// The length of each round under a ceiling: a round whose least length lies above it has none.
+pub fn rounds_within(facts: &Facts, ceiling: u16) -> impl Iterator<Item = Option<u16>> + '_ {
+    let lengths = facts.round_lengths.iter();
+    lengths.map(move |length| length.filter(|&least| least <= ceiling))
+}
+
+/// The first shortest accepting path, if it is not longer than the ceiling.
+pub fn first_within(facts: &Facts, ceiling: u16) -> Option<&[u16]> {
+    let first = facts.roll.first()?;
+    let steps = first.len() - 1;
+    (steps <= ceiling as usize).then_some(first)
+}
+
+/// The record after one more round under a ceiling, if a candidate is left. The best is kept, also one above the ceiling.
+fn after_round(facts: &Facts, ceiling: u16, so_far: Record) -> Option<Record> {
+    let length = rounds_within(facts, ceiling).nth(so_far.done as usize)?;
     Some(Record {
         done: so_far.done + 1,
-        best: lesser(so_far.best, *length),
+        best: lesser(so_far.best, length),
     })
 }
 
-/// Reason 12, or the reasons 1 to 11 of the file.
+/// The reasons 1 to 11 of the file, then 12.
 pub fn admitted(verdict: &Verdict, work_len: usize) -> Result<&(Graph, Facts), u16> {
     let admitted = verdict.as_ref().map_err(|&number| number)?;
     if work_len < 6 * admitted.0.states() {
@@ -31,10 +45,23 @@ pub fn admitted(verdict: &Verdict, work_len: usize) -> Result<&(Graph, Facts), u
     Ok(admitted)
 }
 
-pub fn step(verdict: &Verdict, so_far: Record, work_len: usize) -> StepAnswer {
-    match admitted(verdict, work_len) {
+/// The reasons 1 to 12, and behind them 21: the ceiling is above 4,096.
+fn admitted_under(
+    verdict: &Verdict,
+    ceiling: u16,
+    work_len: usize,
+) -> Result<&(Graph, Facts), u16> {
+    let admitted = admitted(verdict, work_len)?;
+    if ceiling > 4096 {
+        return Err(21);
+    }
+    Ok(admitted)
+}
+
+pub fn step(verdict: &Verdict, ceiling: u16, so_far: Record, work_len: usize) -> StepAnswer {
+    match admitted_under(verdict, ceiling, work_len) {
         Err(number) => StepAnswer::Refused(number),
-        Ok((_, facts)) => match after_round(facts, so_far) {
+        Ok((_, facts)) => match after_round(facts, ceiling, so_far) {
             None => StepAnswer::Finished(so_far),
             Some(after) => StepAnswer::Advanced(after),
         },
@@ -59,11 +86,12 @@ fn loop_start(graph: &Graph, list: &[u16]) -> u16 {
 /// The answer of a search, and the list that it writes.
 pub fn search(
     verdict: &Verdict,
-    allowance: u16,
+    ask: Ask,
     answer_len: usize,
     work_len: usize,
 ) -> (SearchAnswer, &[u16]) {
-    let (graph, facts) = match admitted(verdict, work_len) {
+    let Ask { ceiling, allowance } = ask;
+    let (graph, facts) = match admitted_under(verdict, ceiling, work_len) {
         Err(number) => return (SearchAnswer::Refused(number), &[]),
         Ok(admitted) => admitted,
     };
@@ -74,13 +102,14 @@ pub fn search(
             best: None,
         };
         for _ in 0..allowance {
-            record = after_round(facts, record).expect("the allowance is below the rounds");
+            record =
+                after_round(facts, ceiling, record).expect("the allowance is below the rounds");
         }
         return (SearchAnswer::Stopped(record), &[]);
     }
     let rounds = rounds as u16;
-    match facts.roll.first() {
-        None => (SearchAnswer::Empty { rounds }, &[]),
+    match first_within(facts, ceiling) {
+        None => (SearchAnswer::NoneWithin { rounds }, &[]),
         Some(first) => match written(first, answer_len) {
             Err(number) => (SearchAnswer::Refused(number), &[]),
             Ok(list) => (
@@ -128,6 +157,29 @@ pub fn next<'a>(
     }
 }
 
+/// The answer of a distance call, and the entries that it writes: the distance of each state if it is not above the
+/// ceiling, else 65,535.
+pub fn distances(
+    verdict: &Verdict,
+    ceiling: u16,
+    table_len: usize,
+    work_len: usize,
+) -> (DistancesAnswer, Vec<u16>) {
+    let (graph, facts) = match admitted_under(verdict, ceiling, work_len) {
+        Err(number) => return (DistancesAnswer::Refused(number), vec![]),
+        Ok(admitted) => admitted,
+    };
+    if table_len < graph.states() {
+        return (DistancesAnswer::Refused(15), vec![]);
+    }
+    let entry = |distance: &Option<u16>| match *distance {
+        Some(distance) if distance <= ceiling => distance,
+        _ => 65535,
+    };
+    let entries = facts.distances.iter().map(entry).collect();
+    (DistancesAnswer::Written(graph.states() as u16), entries)
+}
+
 /// The list is an accepting path of least length.
 pub fn is_shortest(graph: &Graph, facts: &Facts, list: &[u16]) -> bool {
     accepting(graph, list).is_some() && Some(list.len() - 1) == facts.length()
@@ -141,7 +193,7 @@ pub fn work_after(verdict: &Verdict, before: &[u16]) -> Vec<u16> {
     }
 }
 
-/// The answer table afterwards: a list written to its front, the rest unchanged.
+/// The answer table afterwards, or the table of distances: what is written to its front, the rest unchanged.
 pub fn answer_after(before: &[u16], list: &[u16]) -> Vec<u16> {
     let mut after = before.to_vec();
     after[..list.len()].copy_from_slice(list);

@@ -116,9 +116,13 @@ pub fn accepting(graph: &Graph, list: &[u16]) -> Option<usize> {
     marked.then_some(k)
 }
 
-/// All accepting paths of a graph, by trying every path whose states are all different.
-fn all_accepting(graph: &Graph, path: &mut Vec<u16>, found: &mut Vec<Vec<u16>>) {
+/// All accepting paths of a graph that begin with a path and have no more steps than the ceiling, by trying every path
+/// whose states are all different.
+fn all_accepting(graph: &Graph, ceiling: u16, path: &mut Vec<u16>, found: &mut Vec<Vec<u16>>) {
     let last = *path.last().expect("a path has a state");
+    if path.len() > ceiling as usize {
+        return;
+    }
     for t in 0..graph.states() as u16 {
         if !graph.has_step(last, t) {
             continue;
@@ -129,26 +133,28 @@ fn all_accepting(graph: &Graph, path: &mut Vec<u16>, found: &mut Vec<Vec<u16>>) 
                 found.push(path.clone());
             }
         } else {
-            all_accepting(graph, path, found);
+            all_accepting(graph, ceiling, path, found);
         }
         path.pop();
     }
 }
 
-/// What the definitions say of a graph: its candidates, the length of each one's round, and the roll. Of a large graph
-/// the roll may be cut off after some lists.
+/// What the definitions say of a graph: its candidates, the length of each one's round, the roll, and the distance of
+/// each state from the start. Of a large graph the roll may be cut off after some lists.
 pub struct Facts {
     pub candidates: Vec<u16>,
     pub round_lengths: Vec<Option<u16>>,
     pub roll: Vec<Vec<u16>>,
     pub cut_off: bool,
+    pub distances: Vec<Option<u16>>,
 }
 
 impl Facts {
-    /// The facts of a small graph, by trying everything.
-    pub fn by_exhaustion(graph: &Graph) -> Facts {
+    /// The facts of a small graph, by trying everything, where an accepting path is one not longer than the ceiling; the
+    /// candidates and the distances are those of the whole graph.
+    pub fn by_exhaustion(graph: &Graph, ceiling: u16) -> Facts {
         let mut lists = Vec::new();
-        all_accepting(graph, &mut vec![graph.start], &mut lists);
+        all_accepting(graph, ceiling, &mut vec![graph.start], &mut lists);
         let candidates = reached_marks(graph);
         let round_lengths = candidates.iter().map(|&r| {
             let holding = lists.iter().filter(|list| {
@@ -166,6 +172,7 @@ impl Facts {
             round_lengths,
             roll: lists,
             cut_off: false,
+            distances: distances_by_sweeps(graph),
         }
     }
 
@@ -191,6 +198,27 @@ fn reached_marks(graph: &Graph) -> Vec<u16> {
     }
     let states = (0..n).filter(|&s| reached[s] && graph.marks[s]);
     states.map(|s| s as u16).collect()
+}
+
+/// The distance of each state from the start, by sweeps over all edges and implied steps: in a sweep each step brings the
+/// state that it leads to one behind the state that it leaves, if that is less than before. The last sweep changes
+/// nothing.
+pub fn distances_by_sweeps(graph: &Graph) -> Vec<Option<u16>> {
+    let mut distances = vec![None; graph.states()];
+    distances[graph.start as usize] = Some(0);
+    loop {
+        let before = distances.clone();
+        for (s, row) in graph.succs.iter().enumerate() {
+            for &t in row {
+                let known = distances[t as usize];
+                let brought = distances[s].map(|distance: u16| distance + 1);
+                distances[t as usize] = known.into_iter().chain(brought).min();
+            }
+        }
+        if distances == before {
+            return distances;
+        }
+    }
 }
 
 /// The round of each candidate by its formula: the minimum, over states s, of d(i, s) + d(r, s) plus the least length of

@@ -126,6 +126,20 @@ pub fn work_len(lot: &mut Random, states: usize) -> usize {
     }
 }
 
+/// A ceiling about a length, or any: at the length, just above or below it, far below, too high.
+pub fn ceiling_about(lot: &mut Random, length: usize) -> u16 {
+    let ceiling = match lot.below(8) {
+        0 => length.saturating_sub(1),
+        1 => length + 1,
+        2 => lot.below(length + 1),
+        3 => 4097,
+        4 => lot.below(65536),
+        5 => length,
+        _ => 4096,
+    };
+    ceiling as u16
+}
+
 /// A length of an answer table: mostly enough, sometimes one too short, sometimes none.
 pub fn answer_len(lot: &mut Random, needed: usize) -> usize {
     match lot.below(8) {
@@ -136,15 +150,16 @@ pub fn answer_len(lot: &mut Random, needed: usize) -> usize {
     }
 }
 
-/// A record that a search may have produced, or any other.
-pub fn random_record(lot: &mut Random, rounds: usize, needed: usize) -> Record {
+/// A record that a search may have produced, or any other, often with a best at a ceiling or just above it.
+pub fn random_record(lot: &mut Random, rounds: usize, needed: usize, ceiling: u16) -> Record {
     let done = match lot.below(4) {
         0 => lot.word(),
         _ => lot.below(rounds + 2) as u16,
     };
-    let best = match lot.below(5) {
+    let best = match lot.below(6) {
         0 | 1 => None,
         2 => Some(lot.word()),
+        3 => Some(ceiling.saturating_add(lot.below(3) as u16)),
         _ => Some(lot.below(needed + 3) as u16),
     };
     Record { done, best }

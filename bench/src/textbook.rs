@@ -116,22 +116,25 @@ impl Textbook {
             .collect()
     }
 
-    /// All rounds: the least length, and the lister of its lists. Rounds need no length above the best so far.
-    pub fn solve(&self) -> Option<Lister<'_>> {
+    /// All rounds: the least length, if it is not above the ceiling, and the lister of its lists. Rounds need no length
+    /// above the ceiling or the best so far.
+    pub fn solve(&self, ceiling: u16) -> Option<Lister<'_>> {
         let mut rounds = Rounds::new(self);
-        let mut best = NONE - 1;
+        let mut best = None;
         for r in self.candidates() {
-            best = best.min(rounds.length(r, best).unwrap_or(NONE));
+            let limit = best.unwrap_or(u32::from(ceiling));
+            best = rounds.length(r, limit).or(best);
         }
-        (best < NONE - 1).then(|| Lister::new(self, best as usize, rounds.loops))
+        best.map(|length| Lister::new(self, length as usize, rounds.loops))
     }
 
-    /// The length of each candidate's round.
-    pub fn round_lengths(&self) -> Vec<Option<u16>> {
+    /// The length of each candidate's round, if it is not above the ceiling.
+    pub fn round_lengths(&self, ceiling: u16) -> Vec<Option<u16>> {
         let mut rounds = Rounds::new(self);
         let lengths = self.candidates().into_iter();
         lengths
-            .map(|r| rounds.length(r, NONE - 1).map(|length| length as u16))
+            .map(|r| rounds.length(r, u32::from(ceiling)))
+            .map(|length| length.map(|length| length as u16))
             .collect()
     }
 }

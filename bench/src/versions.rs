@@ -3,22 +3,17 @@
 use std::marker::PhantomData;
 
 use crate::fahkelo::{
-    self, CombineAnswer, GradeAnswer, NextAnswer, Record, SearchAnswer, StepAnswer,
+    self, Ask, CombineAnswer, DistancesAnswer, GradeAnswer, NextAnswer, Record, SearchAnswer,
+    StepAnswer,
 };
 use crate::ported::access::{Access, Checked, Paired, Unchecked};
-use crate::ported::{combine, finder, grade};
+use crate::ported::{combine, distances, finder, grade};
 
 /// A finder with the three operations.
 pub trait Finder {
     fn name(&self) -> &'static str;
-    fn step(&self, file: &[u8], so_far: Record, work: &mut [u16]) -> StepAnswer;
-    fn search(
-        &self,
-        file: &[u8],
-        allowance: u16,
-        answer: &mut [u16],
-        work: &mut [u16],
-    ) -> SearchAnswer;
+    fn step(&self, file: &[u8], ceiling: u16, so_far: Record, work: &mut [u16]) -> StepAnswer;
+    fn search(&self, file: &[u8], ask: Ask, answer: &mut [u16], work: &mut [u16]) -> SearchAnswer;
     fn next(
         &self,
         file: &[u8],
@@ -46,8 +41,36 @@ pub trait Grader {
     fn grade(&self, file: &[u8], list: &[u16], k: u16, work: &mut [u16]) -> GradeAnswer;
 }
 
+/// What writes the distances from the initial state.
+pub trait DistanceWriter {
+    fn name(&self) -> &'static str;
+    fn distances(
+        &self,
+        file: &[u8],
+        ceiling: u16,
+        distances: &mut [u16],
+        work: &mut [u16],
+    ) -> DistancesAnswer;
+}
+
 /// The proved library.
 pub struct Proved;
+
+impl DistanceWriter for Proved {
+    fn name(&self) -> &'static str {
+        "proved"
+    }
+
+    fn distances(
+        &self,
+        file: &[u8],
+        ceiling: u16,
+        distances: &mut [u16],
+        work: &mut [u16],
+    ) -> DistancesAnswer {
+        fahkelo::distances(file, ceiling, distances, work)
+    }
+}
 
 impl Grader for Proved {
     fn name(&self) -> &'static str {
@@ -80,18 +103,12 @@ impl Finder for Proved {
         "proved"
     }
 
-    fn step(&self, file: &[u8], so_far: Record, work: &mut [u16]) -> StepAnswer {
-        fahkelo::step(file, so_far, work)
+    fn step(&self, file: &[u8], ceiling: u16, so_far: Record, work: &mut [u16]) -> StepAnswer {
+        fahkelo::step(file, ceiling, so_far, work)
     }
 
-    fn search(
-        &self,
-        file: &[u8],
-        allowance: u16,
-        answer: &mut [u16],
-        work: &mut [u16],
-    ) -> SearchAnswer {
-        fahkelo::search(file, allowance, answer, work)
+    fn search(&self, file: &[u8], ask: Ask, answer: &mut [u16], work: &mut [u16]) -> SearchAnswer {
+        fahkelo::search(file, ask, answer, work)
     }
 
     fn next(
@@ -122,18 +139,12 @@ impl<A: Access> Finder for Ported<A> {
         self.0
     }
 
-    fn step(&self, file: &[u8], so_far: Record, work: &mut [u16]) -> StepAnswer {
-        finder::step::<A>(file, so_far, work)
+    fn step(&self, file: &[u8], ceiling: u16, so_far: Record, work: &mut [u16]) -> StepAnswer {
+        finder::step::<A>(file, ceiling, so_far, work)
     }
 
-    fn search(
-        &self,
-        file: &[u8],
-        allowance: u16,
-        answer: &mut [u16],
-        work: &mut [u16],
-    ) -> SearchAnswer {
-        finder::search::<A>(file, allowance, answer, work)
+    fn search(&self, file: &[u8], ask: Ask, answer: &mut [u16], work: &mut [u16]) -> SearchAnswer {
+        finder::search::<A>(file, ask, answer, work)
     }
 
     fn next(
@@ -170,5 +181,21 @@ impl<A: Access> Grader for Ported<A> {
 
     fn grade(&self, file: &[u8], list: &[u16], k: u16, work: &mut [u16]) -> GradeAnswer {
         grade::grade::<A>(file, list, k, work)
+    }
+}
+
+impl<A: Access> DistanceWriter for Ported<A> {
+    fn name(&self) -> &'static str {
+        self.0
+    }
+
+    fn distances(
+        &self,
+        file: &[u8],
+        ceiling: u16,
+        distances: &mut [u16],
+        work: &mut [u16],
+    ) -> DistancesAnswer {
+        distances::distances::<A>(file, ceiling, distances, work)
     }
 }

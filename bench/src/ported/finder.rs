@@ -1,53 +1,57 @@
 //! The three operations, with every refusal in order.
 
 use super::access::{Access, Phase};
-use super::model::{check, Header};
+use super::gate::{ceiling_too_high, enter};
+use super::model::Header;
 use super::paths::is_lasso;
 use super::places::{advance, first, write_list};
 use super::rounds::{after_round, candidate_at, count_candidates, run_rounds, start_distances};
 use super::spread::{get, put};
 use super::starts::prepare;
-use crate::fahkelo::{NextAnswer, Record, SearchAnswer, StepAnswer};
+use crate::fahkelo::{Ask, NextAnswer, Record, SearchAnswer, StepAnswer, FULL_CEILING};
 
-/// The record after one more round.
-pub fn step<A: Access>(file: &[u8], so_far: Record, work: &mut [u16]) -> StepAnswer {
-    let h = match check::<A>(file) {
+/// The record after one more round under a ceiling.
+pub fn step<A: Access>(file: &[u8], ceiling: u16, so_far: Record, work: &mut [u16]) -> StepAnswer {
+    let h = match enter::<A>(file, work) {
         Err(number) => return StepAnswer::Refused(number),
         Ok(h) => h,
     };
-    if work.len() < 6 * h.states {
-        return StepAnswer::Refused(12);
-    }
-    let answer = step_model::<A>(file, h, so_far, work);
+    let answer = step_model::<A>(file, h, ceiling, so_far, work);
     work.fill(0);
     answer
 }
 
-fn step_model<A: Access>(file: &[u8], h: Header, so_far: Record, work: &mut [u16]) -> StepAnswer {
+fn step_model<A: Access>(
+    file: &[u8],
+    h: Header,
+    ceiling: u16,
+    so_far: Record,
+    work: &mut [u16],
+) -> StepAnswer {
+    if ceiling_too_high(ceiling) {
+        return StepAnswer::Refused(21);
+    }
     start_distances::<A>(file, h, work);
     let place = so_far.done as usize;
     if count_candidates::<A>(file, h, work) <= place {
         return StepAnswer::Finished(so_far);
     }
     let r = candidate_at::<A>(file, h, work, place);
-    StepAnswer::Advanced(after_round::<A>(file, h, work, r, so_far))
+    StepAnswer::Advanced(after_round::<A>(file, h, work, r, ceiling, so_far))
 }
 
-/// The first of the shortest accepting paths, written to the answer table.
+/// The first of the shortest accepting paths, written to the answer table if it is not longer than the ceiling.
 pub fn search<A: Access>(
     file: &[u8],
-    allowance: u16,
+    ask: Ask,
     answer: &mut [u16],
     work: &mut [u16],
 ) -> SearchAnswer {
-    let h = match check::<A>(file) {
+    let h = match enter::<A>(file, work) {
         Err(number) => return SearchAnswer::Refused(number),
         Ok(h) => h,
     };
-    if work.len() < 6 * h.states {
-        return SearchAnswer::Refused(12);
-    }
-    let result = search_model::<A>(file, h, allowance, answer, work);
+    let result = search_model::<A>(file, h, ask, answer, work);
     work.fill(0);
     result
 }
@@ -55,19 +59,23 @@ pub fn search<A: Access>(
 fn search_model<A: Access>(
     file: &[u8],
     h: Header,
-    allowance: u16,
+    ask: Ask,
     answer: &mut [u16],
     work: &mut [u16],
 ) -> SearchAnswer {
+    if ceiling_too_high(ask.ceiling) {
+        return SearchAnswer::Refused(21);
+    }
     A::phase(Phase::Rounds);
     start_distances::<A>(file, h, work);
     let count = count_candidates::<A>(file, h, work);
-    let record = run_rounds::<A>(file, h, work, allowance as usize);
-    if (allowance as usize) < count {
+    let allowed = ask.allowance as usize;
+    let record = run_rounds::<A>(file, h, work, ask.ceiling, allowed);
+    if allowed < count {
         return SearchAnswer::Stopped(record);
     }
     match record.best {
-        None => SearchAnswer::Empty {
+        None => SearchAnswer::NoneWithin {
             rounds: record.done,
         },
         Some(length) => first_list::<A>(file, h, length, record.done, answer, work),
@@ -108,13 +116,10 @@ pub fn next<A: Access>(
     answer: &mut [u16],
     work: &mut [u16],
 ) -> NextAnswer {
-    let h = match check::<A>(file) {
+    let h = match enter::<A>(file, work) {
         Err(number) => return NextAnswer::Refused(number),
         Ok(h) => h,
     };
-    if work.len() < 6 * h.states {
-        return NextAnswer::Refused(12);
-    }
     let result = next_of_model::<A>(file, h, earlier, answer, work);
     work.fill(0);
     result
@@ -129,7 +134,7 @@ fn next_of_model<A: Access>(
 ) -> NextAnswer {
     A::phase(Phase::Rounds);
     start_distances::<A>(file, h, work);
-    match run_rounds::<A>(file, h, work, h.states).best {
+    match run_rounds::<A>(file, h, work, FULL_CEILING, h.states).best {
         None => NextAnswer::Refused(13),
         Some(length) => next_list::<A>(file, h, length, earlier, answer, work),
     }

@@ -1,11 +1,12 @@
 //! The grade of a list with a claimed k, with every refusal in order.
 
 use super::access::Access;
-use super::model::{check, Header};
+use super::gate::enter;
+use super::model::Header;
 use super::paths::{closes_at, first_break};
 use super::rounds::{count_candidates, run_rounds, start_distances};
 use super::spread::{clear, get, put};
-use crate::fahkelo::{GradeAnswer, Verdict};
+use crate::fahkelo::{GradeAnswer, Verdict, FULL_CEILING};
 
 /// An allowance that suffices for every model: the rounds are never stopped.
 const ALL_ROUNDS: usize = 65535;
@@ -42,7 +43,7 @@ fn accepts<A: Access>(file: &[u8], h: Header, list: &[u16], k: usize, work: &mut
 fn is_least<A: Access>(file: &[u8], h: Header, list: &[u16], work: &mut [u16]) -> bool {
     start_distances::<A>(file, h, work);
     let count = count_candidates::<A>(file, h, work);
-    let record = run_rounds::<A>(file, h, work, ALL_ROUNDS);
+    let record = run_rounds::<A>(file, h, work, FULL_CEILING, ALL_ROUNDS);
     if ALL_ROUNDS < count {
         return false;
     }
@@ -85,13 +86,10 @@ fn grade_of_model<A: Access>(
 
 /// Grades a list with a claimed k: false, accepting or shortest, and the first place where the list breaks.
 pub fn grade<A: Access>(file: &[u8], list: &[u16], k: u16, work: &mut [u16]) -> GradeAnswer {
-    let h = match check::<A>(file) {
+    let h = match enter::<A>(file, work) {
         Err(number) => return GradeAnswer::Refused(number),
         Ok(h) => h,
     };
-    if work.len() < 6 * h.states {
-        return GradeAnswer::Refused(12);
-    }
     let answer = grade_of_model::<A>(file, h, list, k as usize, work);
     work.fill(0);
     answer

@@ -61,8 +61,21 @@ fn round<A: Access>(
     spread::<A>(file, h, work, limit, r).map(|length| length as u16)
 }
 
-fn limit_of(best: Option<u16>, n: usize) -> usize {
-    best.map_or(n, |b| n.min(b as usize))
+fn lower(a: usize, b: usize) -> usize {
+    if a < b {
+        a
+    } else {
+        b
+    }
+}
+
+/// The greatest length that a round needs to find. The ceiling acts here and nowhere else.
+fn limit_of(best: Option<u16>, n: usize, ceiling: u16) -> usize {
+    let bound = lower(n, ceiling as usize);
+    match best {
+        None => bound,
+        Some(length) => lower(length as usize, bound),
+    }
 }
 
 fn lesser(a: Option<u16>, b: Option<u16>) -> Option<u16> {
@@ -72,15 +85,17 @@ fn lesser(a: Option<u16>, b: Option<u16>) -> Option<u16> {
     }
 }
 
-/// The record after one more round, the one for candidate r.
+/// The record after one more round under a ceiling, the one for candidate r. The best is kept, also one above the
+/// ceiling.
 pub fn after_round<A: Access>(
     file: &[u8],
     h: Header,
     work: &mut [u16],
     r: usize,
+    ceiling: u16,
     so_far: Record,
 ) -> Record {
-    let limit = limit_of(so_far.best, h.states);
+    let limit = limit_of(so_far.best, h.states, ceiling);
     let length = round::<A>(file, h, work, r, limit);
     Record {
         done: so_far.done + 1,
@@ -88,8 +103,14 @@ pub fn after_round<A: Access>(
     }
 }
 
-/// The record after all rounds that the allowance admits.
-pub fn run_rounds<A: Access>(file: &[u8], h: Header, work: &mut [u16], allowance: usize) -> Record {
+/// The record after all rounds under a ceiling that the allowance admits.
+pub fn run_rounds<A: Access>(
+    file: &[u8],
+    h: Header,
+    work: &mut [u16],
+    ceiling: u16,
+    allowance: usize,
+) -> Record {
     let mut record = Record {
         done: 0,
         best: None,
@@ -99,7 +120,7 @@ pub fn run_rounds<A: Access>(file: &[u8], h: Header, work: &mut [u16], allowance
             return record;
         }
         if is_candidate::<A>(file, h, work, s) {
-            record = after_round::<A>(file, h, work, s, record);
+            record = after_round::<A>(file, h, work, s, ceiling, record);
         }
     }
     record

@@ -10,17 +10,20 @@ use lib.ListN.{getD}
 use lib.Dec.{eqb, ltb}
 use Rattle.lasso.specs.Lists.{pick}
 use Rattle.lasso.specs.Rounds.{Record}
+use Rattle.format.specs.Layout.{states}
 use Rattle.model.specs.Model.{graphOf}
 use Rattle.lasso.specs.Roll.{roll}
 use Rattle.lasso.specs.Following.{following}
 use Rattle.outcomes.specs.Outcome.{Outcome, refused, answered}
 use Rattle.outcomes.specs.Tables.{written}
-use Rattle.step.specs.Step.{Stepped, finished, advanced, stepped}
-use Rattle.search.specs.Search.{Searched, stopped, empty, searched, searchReasons}
+use Rattle.step.specs.Step.{Stepped, finished, advanced, stepped, stepReasons}
+use Rattle.search.specs.Search.{Searched, stopped, noneWithin, searched, searchReasons}
 use Rattle.next.specs.Next.{Followed, noMore, followed, nextReasons}
 use Rattle.grader.specs.Grade.{Said, accepting, shortest, Grade, gradeOf}
+use Rattle.distances.specs.Distances.{distanceReasons}
 use Rattle.gate.specs.Gate.{commonRules}
-use Rattle.answers.specs.Kinds.{Report, isThere, bestFigure, recordGiven, stepReport, searchReport, nextReport, combineReport, verdictKind, gradeReport, placeDue, placeIn}
+use Rattle.answers.specs.Kinds.{Report, isThere, bestFigure, recordGiven, verdictKind, placeDue, placeIn}
+use Rattle.answers.specs.Kinds.{stepReport, searchReport, nextReport, writtenReport, gradeReport}
 use Rattle.answers.specs.NothingLost.{Numbered, NothingLost}
 use Rattle.answers.proofs.Numbers.{broken-numbered}
 
@@ -60,13 +63,13 @@ step-back (answered (advanced rec)) h = ap (λ (x : Record). answered (advanced 
 abbrev searchedIn : Report → Searched
 searchedIn r =
     pick (eqb (r .kind) 101) (stopped (recordIn r))
-    (pick (eqb (r .kind) 102) (Searched.found (reportFigure r 0) (reportFigure r 1) (reportFigure r 2)) (empty (reportFigure r 0)))
+    (pick (eqb (r .kind) 102) (Searched.found (reportFigure r 0) (reportFigure r 1) (reportFigure r 2)) (noneWithin (reportFigure r 0)))
 
 search-back : (o : Outcome Searched) → Numbered 99 o → outcomeBack (searchReport o) (searchedIn (searchReport o)) ≡ o
 search-back (refused n) h = refusal-back n (searchedIn (searchReport (refused n))) h
 search-back (answered (stopped rec)) h = ap (λ (x : Record). answered (stopped x)) (record-back rec)
 search-back (answered (Searched.found l k rounds)) h = refl
-search-back (answered (empty rounds)) h = refl
+search-back (answered (noneWithin rounds)) h = refl
 
 -- the answer of next
 abbrev followedIn : Report → Followed
@@ -77,10 +80,10 @@ next-back (refused n) h = refusal-back n (followedIn (nextReport (refused n))) h
 next-back (answered (Followed.found l k)) h = refl
 next-back (answered noMore) h = refl
 
--- a combination
-combine-back : (o : Outcome ℕ) → Numbered 99 o → outcomeBack (combineReport o) (reportFigure (combineReport o) 0) ≡ o
-combine-back (refused n) h = refusal-back n 0 h
-combine-back (answered bytes) h = refl
+-- the count of bytes or entries written
+written-back : (o : Outcome ℕ) → Numbered 99 o → outcomeBack (writtenReport o) (reportFigure (writtenReport o) 0) ≡ o
+written-back (refused n) h = refusal-back n 0 h
+written-back (answered count) h = refl
 
 -- the verdict of a grade
 abbrev verdictIn : ℕ → Said
@@ -132,7 +135,7 @@ step-kinds (advanced rec) = omega arith
 search-kinds : (a : Searched) → 100 < searchReport (answered a) .kind
 search-kinds (stopped rec) = omega arith
 search-kinds (Searched.found l k rounds) = omega arith
-search-kinds (empty rounds) = omega arith
+search-kinds (noneWithin rounds) = omega arith
 
 next-kinds : (a : Followed) → 100 < nextReport (answered a) .kind
 next-kinds (Followed.found l k) = omega arith
@@ -158,17 +161,20 @@ nothing-lost = record {
     reports = record { refusals = λ n. refl; kinds = next-kinds };
     injective = injective nextReport (λ (r : Report). outcomeBack r (followedIn r)) next-back;
   };
-  combine = record {
-    reports = record { refusals = λ n. refl; kinds = λ bytes. omega arith };
-    injective = injective combineReport (λ (r : Report). outcomeBack r (reportFigure r 0)) combine-back;
+  written = record {
+    reports = record { refusals = λ n. refl; kinds = λ count. omega arith };
+    injective = injective writtenReport (λ (r : Report). outcomeBack r (reportFigure r 0)) written-back;
   };
   grade = record { refusals = λ n. refl; kinds = λ g. grade-kinds (g .verdict) };
   grade-injective = grade-injective;
-  step-numbers = λ f rec work. broken-numbered 12 (stepped (graphOf f) rec) (commonRules f work) tt;
+  step-numbers = λ f ceiling rec work.
+      broken-numbered _ (stepped (graphOf f) ceiling rec) (stepReasons f ceiling work) tt;
   search-numbers = λ f ask answer work.
-      broken-numbered 15 (searched (graphOf f) ask) (searchReasons f ask answer work) tt;
+      broken-numbered _ (searched (graphOf f) ask) (searchReasons f ask answer work) tt;
   next-numbers = λ f earlier answer work.
-      broken-numbered 15 (followed (following earlier (roll (graphOf f)))) (nextReasons f earlier answer work) tt;
-  grade-numbers = λ f xs k work. broken-numbered 12 (gradeOf (graphOf f) xs k) (commonRules f work) tt;
+      broken-numbered _ (followed (following earlier (roll (graphOf f)))) (nextReasons f earlier answer work) tt;
+  grade-numbers = λ f xs k work. broken-numbered _ (gradeOf (graphOf f) xs k) (commonRules f work) tt;
+  distances-numbers = λ f ceiling output work.
+      broken-numbered _ (states f) (distanceReasons f ceiling output work) tt;
   record-back = record-back;
 }

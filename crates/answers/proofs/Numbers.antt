@@ -3,12 +3,11 @@ use Prim.Native.Nat.{ℕ, _≤_}
 use mathlib.Core.Bool.{Bool, true, false, _&&_}
 use mathlib.Core.List.{List, [], _∷_}
 use mathlib.Core.Option.{Option}
-use native.Mathlib.Omega.{arith}
 use lib.Dec.{T, leb, leb→le}
 use Rattle.lasso.specs.Lists.{someIf}
 use Rattle.lasso.proofs.Tests.{fst, snd}
 use Rattle.format.specs.Rules.{Reason, firstBroken}
-use Rattle.outcomes.specs.Outcome.{Outcome, refused, answered, outcome}
+use Rattle.outcomes.specs.Outcome.{outcome}
 use Rattle.answers.specs.NothingLost.{Numbered}
 
 -- the numbers of a table of reasons are from 1 to so many
@@ -32,8 +31,3 @@ module _ {A : Type 0} (most : ℕ) (a : A) where
       first-numbered (r .holds) (r .number) (firstBroken rs)
       (leb→le 1 (r .number) least, leb→le (r .number) most (fst (leb (r .number) most) (numbersb most rs) rest))
       (broken-numbered rs (snd (leb (r .number) most) (numbersb most rs) rest))
-
--- a number from 1 to 15 is one from 1 to 99
-pub below-hundred : {A : Type 0} (most : ℕ) (o : Outcome A) → most ≤ 99 → Numbered most o → Numbered 99 o
-below-hundred most (refused n) h (least, small) = (least, omega arith)
-below-hundred most (answered a) h t = tt

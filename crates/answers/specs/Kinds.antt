@@ -8,7 +8,7 @@ use Rattle.lasso.specs.Rounds.{Record}
 use Rattle.outcomes.specs.Outcome.{Outcome, refused, answered}
 use Rattle.outcomes.specs.Tables.{written}
 use Rattle.step.specs.Step.{Stepped, finished, advanced}
-use Rattle.search.specs.Search.{Searched, stopped, empty}
+use Rattle.search.specs.Search.{Searched, stopped, noneWithin}
 use Rattle.next.specs.Next.{Followed, noMore}
 use Rattle.grader.specs.Grade.{Said, accepting, shortest, Grade}
 
@@ -45,12 +45,12 @@ stepReport (refused n) = refusal n
 stepReport (answered (finished rec)) = record { kind = 105; figures = recordFigures rec }
 stepReport (answered (advanced rec)) = record { kind = 106; figures = recordFigures rec }
 
--- a search: 101 stopped, 102 found (L, k, rounds), 103 empty (rounds)
+-- a search: 101 stopped, 102 found (L, k, rounds), 103 none within the ceiling (rounds)
 abbrev pub searchReport : Outcome Searched → Report
 searchReport (refused n) = refusal n
 searchReport (answered (stopped rec)) = record { kind = 101; figures = recordFigures rec }
 searchReport (answered (Searched.found l k rounds)) = record { kind = 102; figures = l ∷ k ∷ rounds ∷ [] }
-searchReport (answered (empty rounds)) = record { kind = 103; figures = rounds ∷ [] }
+searchReport (answered (noneWithin rounds)) = record { kind = 103; figures = rounds ∷ [] }
 
 -- next: 102 found (L, k), 104 no more
 abbrev pub nextReport : Outcome Followed → Report
@@ -58,10 +58,10 @@ nextReport (refused n) = refusal n
 nextReport (answered (Followed.found l k)) = record { kind = 102; figures = l ∷ k ∷ [] }
 nextReport (answered noMore) = record { kind = 104; figures = [] }
 
--- a combination: 107 written (bytes)
-abbrev pub combineReport : Outcome ℕ → Report
-combineReport (refused n) = refusal n
-combineReport (answered bytes) = record { kind = 107; figures = bytes ∷ [] }
+-- a combination or a distance call: 107 written (bytes of the one, entries of the other)
+abbrev pub writtenReport : Outcome ℕ → Report
+writtenReport (refused n) = refusal n
+writtenReport (answered count) = record { kind = 107; figures = count ∷ [] }
 
 -- the kind of a verdict: 108 false, 109 accepting, 110 shortest
 abbrev pub verdictKind : Said → ℕ

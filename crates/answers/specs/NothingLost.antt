@@ -11,7 +11,9 @@ use Rattle.step.specs.Step.{stepOutcome}
 use Rattle.search.specs.Search.{searchOutcome}
 use Rattle.next.specs.Next.{nextOutcome}
 use Rattle.grader.specs.Grade.{Grade, gradeOutcome}
-use Rattle.answers.specs.Kinds.{Report, isThere, bestFigure, recordGiven, refusal, stepReport, searchReport, nextReport, combineReport, gradeReport, placeIn}
+use Rattle.distances.specs.Distances.{distancesOutcome}
+use Rattle.answers.specs.Kinds.{Report, isThere, bestFigure, recordGiven, refusal, placeIn}
+use Rattle.answers.specs.Kinds.{stepReport, searchReport, nextReport, writtenReport, gradeReport}
 
 -- the number of a refusal is one of 1 to so many
 abbrev pub Numbered : {A : Type 0} → ℕ → Outcome A → Type 0
@@ -28,20 +30,21 @@ pub record Tells {A : Type 0} (report : Outcome A → Report) : Type 0 where
   pub reports : Reports report
   pub injective : (o p : Outcome A) → Numbered 99 o → Numbered 99 p → report o ≡ report p → o ≡ p
 
--- Nothing is lost: so are the reports of all but a grade, whose report does not hold the place where the list breaks. With
--- the first entry of the table that is lent for the place it tells the grade, whatever stood in that table before. Every
--- refusal of a search or next has a number from 1 to 15, a step's and a grade's from 1 to 12, and the record that comes out
--- of a step is the one that its figures give to the next.
+-- Nothing is lost: so are the reports of all but a grade, whose report does not hold the place where the list breaks.
+-- With the first entry of the table that is lent for the place it tells the grade, whatever stood in that table before.
+-- Every refusal of a step, a search or a distance call, which take a ceiling, has a number from 1 to 21, next's from 1
+-- to 15, a grade's from 1 to 12; and the record that comes out of a step is the one that its figures give to the next.
 pub record NothingLost : Type 0 where
   pub step : Tells stepReport
   pub search : Tells searchReport
   pub next : Tells nextReport
-  pub combine : Tells combineReport
+  pub written : Tells writtenReport
   pub grade : Reports gradeReport
   pub grade-injective : (o p : Outcome Grade) (before-o before-p : List ℕ) → Numbered 99 o → Numbered 99 p
       → gradeReport o ≡ gradeReport p → getD (placeIn before-o o) 0 0 ≡ getD (placeIn before-p p) 0 0 → o ≡ p
-  pub step-numbers : (f : List ℕ) (rec : Record) (work : ℕ) → Numbered 12 (stepOutcome f rec work)
-  pub search-numbers : (f : List ℕ) (ask : Ask) (answer work : ℕ) → Numbered 15 (searchOutcome f ask answer work)
+  pub step-numbers : (f : List ℕ) (ceiling : ℕ) (rec : Record) (work : ℕ) → Numbered 21 (stepOutcome f ceiling rec work)
+  pub search-numbers : (f : List ℕ) (ask : Ask) (answer work : ℕ) → Numbered 21 (searchOutcome f ask answer work)
   pub next-numbers : (f earlier : List ℕ) (answer work : ℕ) → Numbered 15 (nextOutcome f earlier answer work)
   pub grade-numbers : (f xs : List ℕ) (k work : ℕ) → Numbered 12 (gradeOutcome f xs k work)
+  pub distances-numbers : (f : List ℕ) (ceiling output work : ℕ) → Numbered 21 (distancesOutcome f ceiling output work)
   pub record-back : (rec : Record) → recordGiven (rec .done) (isThere (rec .best)) (bestFigure (rec .best)) ≡ rec

@@ -10,8 +10,10 @@ ghost use Rattle.step.specs.Step.{stepOutcomeOf};
 ghost use Rattle.search.specs.Search.{searchOutcomeOf};
 ghost use Rattle.next.specs.Next.{nextOutcomeOf};
 ghost use Rattle.grader.specs.Grade.{verdictOf, gradeOutcomeOf};
+ghost use Rattle.distances.specs.Distances.{distancesOutcomeOf};
 ghost use Rattle.answers.specs.Kinds.{recordFigures, stepReport, searchReport, nextReport, figuresIn};
-ghost use Rattle.answers.specs.Kinds.{verdictKind, gradeReport, placeIn};
+ghost use Rattle.answers.specs.Kinds.{verdictKind, gradeReport, placeIn, writtenReport};
+use distances::DistancesAnswer;
 use grader::GradeAnswer;
 use grader::Verdict;
 use lasso::Best;
@@ -26,13 +28,15 @@ const STOPPED: u16 = 101;
 
 const FOUND: u16 = 102;
 
-const EMPTY: u16 = 103;
+const NONE_WITHIN: u16 = 103;
 
 const NO_MORE: u16 = 104;
 
 const FINISHED: u16 = 105;
 
 const ADVANCED: u16 = 106;
+
+pub const WRITTEN: u16 = 107;
 
 const FALSE: u16 = 108;
 
@@ -91,7 +95,7 @@ pub fn report_search(answer: SearchAnswer, out: &mut [u16]) -> u16
         SearchAnswer::Refused(number) => report_figures(number, &[], out),
         SearchAnswer::Stopped(r) => report_record(STOPPED, r, out),
         SearchAnswer::Found(l, k, rounds) => report_figures(FOUND, &[l.0, k, rounds], out),
-        SearchAnswer::Empty(rounds) => report_figures(EMPTY, &[rounds], out),
+        SearchAnswer::NoneWithin(rounds) => report_figures(NONE_WITHIN, &[rounds], out),
     }
 }
 
@@ -144,5 +148,17 @@ pub fn report_grade(answer: GradeAnswer, place: &mut [usize], out: &mut [u16]) -
                 }
             }
         }
+    }
+}
+
+// Reports the answer of a distance call: the number of entries written is the one figure.
+pub fn report_distances(answer: DistancesAnswer, out: &mut [u16]) -> u16
+    requires { ⌜ 1 ≤ length (now out) ⌝ }
+    ensures kind { λ r. ⌜ r ≡ writtenReport (distancesOutcomeOf answer) .kind ⌝ }
+    ensures out { λ _. ⌜ now (out .exit) ≡ figuresIn (now (out .entry)) (writtenReport (distancesOutcomeOf answer)) ⌝ }
+{
+    match answer {
+        DistancesAnswer::Refused(number) => report_figures(number, &[], out),
+        DistancesAnswer::Written(entries) => report_figures(WRITTEN, &[entries], out),
     }
 }

@@ -13,6 +13,7 @@ use Rattle.lasso.specs.Lists.{pick}
 use Rattle.lasso.specs.Roll.{roll}
 use Rattle.lasso.specs.Following.{following}
 use Rattle.model.specs.Model.{graphOf}
+use Rattle.format.specs.Layout.{states}
 use Rattle.format.specs.Rules.{firstBroken}
 use Rattle.outcomes.specs.Outcome.{Outcome, refused, answered, outcome}
 use Rattle.outcomes.specs.Tables.{written, unlessRefused}
@@ -20,8 +21,10 @@ use Rattle.step.specs.Step.{stepOutcome}
 use Rattle.search.specs.Search.{searched, firstDue, searchReasons, searchOutcome}
 use Rattle.next.specs.Next.{followed, nextReasons, nextOutcome}
 use Rattle.grader.specs.Grade.{Grade, gradeOutcome}
+use Rattle.distances.specs.Distances.{distanceTable, distanceReasons, distancesOutcome}
 use Rattle.combine.specs.Combine.{combinedFile, combineReasons, combineBroken, combineOutcome}
-use Rattle.answers.specs.Kinds.{Report, figuresIn, refusal, stepReport, searchReport, nextReport, combineReport, gradeReport, placeIn}
+use Rattle.answers.specs.Kinds.{Report, figuresIn, refusal, placeIn}
+use Rattle.answers.specs.Kinds.{stepReport, searchReport, nextReport, writtenReport, gradeReport}
 use Rattle.answers.specs.NothingLost.{Numbered, Reports}
 use Rattle.answers.proofs.Numbers.{broken-numbered}
 use Rattle.answers.proofs.NothingLost.{nothing-lost}
@@ -117,10 +120,14 @@ place-untold place false (answered g) l = absurd (omega (arith, nothing-lost .gr
 -- a refused call changes nothing that was lent but the working table
 pub refusals-change-nothing : RefusalsChangeNothing
 refusals-change-nothing = record {
-  step = λ f rec w out.
-      value-told 12 (omega arith) (ShortOut out) out stepReport (nothing-lost .step .reports) (outShort out) (out-decides out) (stepOutcome f rec (length w)) (nothing-lost .step-numbers f rec (length w));
+  step = λ f ceiling rec w out.
+      value-told 21 (omega arith) (ShortOut out) out stepReport (nothing-lost .step .reports)
+      (outShort out) (out-decides out)
+      (stepOutcome f ceiling rec (length w))
+      (nothing-lost .step-numbers f ceiling rec (length w));
   search = λ f ask a w out.
-      value-told 15 (omega arith) (ShortOut out) out searchReport (nothing-lost .search .reports) (outShort out) (out-decides out)
+      value-told 21 (omega arith) (ShortOut out) out searchReport (nothing-lost .search .reports)
+      (outShort out) (out-decides out)
       (searchOutcome f ask (length a) (length w))
       (nothing-lost .search-numbers f ask (length a) (length w));
   next = λ f earlier a w out.
@@ -130,8 +137,14 @@ refusals-change-nothing = record {
   grade = λ f xs k place w out.
       value-told 12 (omega arith) (ShortOut out ⊎ (length place < 1)) out gradeReport (nothing-lost .grade) (placeShort place out)
       (place-decides place out) (gradeOutcome f xs k (length w)) (nothing-lost .grade-numbers f xs k (length w));
+  distances = λ f ceiling output w out.
+      value-told 21 (omega arith) (ShortOut out) out writtenReport (nothing-lost .written .reports)
+      (outShort out) (out-decides out)
+      (distancesOutcome f ceiling (length output) (length w))
+      (nothing-lost .distances-numbers f ceiling (length output) (length w));
   combine = λ f letters p output out.
-      value-told 18 (omega arith) (ShortOut out) out combineReport (nothing-lost .combine .reports) (outShort out) (out-decides out)
+      value-told 18 (omega arith) (ShortOut out) out writtenReport (nothing-lost .written .reports)
+      (outShort out) (out-decides out)
       (combineOutcome f letters p (length output))
       (broken-numbered 18 (length (combinedFile f letters p)) (combineReasons f letters p (length output)) tt);
   search-answer = λ f ask a w out.
@@ -141,7 +154,12 @@ refusals-change-nothing = record {
       answer-untold nextReport (nothing-lost .next .reports) (followed (following earlier (roll (graphOf f)))) (following earlier (roll (graphOf f))) a
       (outShort out) (firstBroken (nextReasons f earlier (length a) (length w)));
   grade-place = λ f xs k place w out. place-untold place (placeShort place out) (gradeOutcome f xs k (length w));
+  distances-output = λ f ceiling output w out.
+      answer-untold writtenReport (nothing-lost .written .reports) (states f)
+      (some (distanceTable (graphOf f) ceiling)) output (outShort out)
+      (firstBroken (distanceReasons f ceiling (length output) (length w)));
   combine-output = λ f letters p output out.
-      answer-untold combineReport (nothing-lost .combine .reports) (length (combinedFile f letters p)) (some (combinedFile f letters p)) output
-      (outShort out) (combineBroken f letters p (length output));
+      answer-untold writtenReport (nothing-lost .written .reports) (length (combinedFile f letters p))
+      (some (combinedFile f letters p)) output (outShort out)
+      (combineBroken f letters p (length output));
 }

@@ -12,8 +12,9 @@ use Rattle.step.specs.Step.{stepOutcome}
 use Rattle.search.specs.Search.{searchOutcome, searchAnswer}
 use Rattle.next.specs.Next.{nextOutcome, nextAnswer}
 use Rattle.grader.specs.Grade.{gradeOutcome}
+use Rattle.distances.specs.Distances.{distancesOutcome, distancesOutput}
 use Rattle.combine.specs.Combine.{combineOutcome, combineOutput}
-use Rattle.answers.specs.Kinds.{Report, stepReport, searchReport, nextReport, combineReport, gradeReport, placeIn}
+use Rattle.answers.specs.Kinds.{Report, stepReport, searchReport, nextReport, writtenReport, gradeReport, placeIn}
 
 -- 100, with no figures: a table that every answer needs is too short
 abbrev pub outTooShort : Report
@@ -35,9 +36,9 @@ placeShort place out = outShort out || ltb (length place) 1
 abbrev pub ifPlaceShort : {A : Type 0} → (place out : List ℕ) → A → A → A
 ifPlaceShort place out short enough = pick (placeShort place out) short enough
 
--- the report of a step on a file from a record, lent the working table and `out`
-abbrev pub stepCall : List ℕ → Record → (w out : List ℕ) → Report
-stepCall f rec w out = ifShort out outTooShort (stepReport (stepOutcome f rec (length w)))
+-- the report of a step on a file under a ceiling from a record, lent the working table and `out`
+abbrev pub stepCall : List ℕ → (ceiling : ℕ) → Record → (w out : List ℕ) → Report
+stepCall f ceiling rec w out = ifShort out outTooShort (stepReport (stepOutcome f ceiling rec (length w)))
 
 -- the report of a search, lent the answer table too
 abbrev pub searchCall : List ℕ → Ask → (a w out : List ℕ) → Report
@@ -51,9 +52,15 @@ nextCall f earlier a w out = ifShort out outTooShort (nextReport (nextOutcome f 
 abbrev pub gradeCall : (f xs : List ℕ) → ℕ → (place w out : List ℕ) → Report
 gradeCall f xs k place w out = ifPlaceShort place out outTooShort (gradeReport (gradeOutcome f xs k (length w)))
 
+-- the report of a distance call up to a ceiling, lent the output, the working table and `out`
+abbrev pub distancesCall : List ℕ → (ceiling : ℕ) → (output w out : List ℕ) → Report
+distancesCall f ceiling output w out =
+    ifShort out outTooShort (writtenReport (distancesOutcome f ceiling (length output) (length w)))
+
 -- the report of a combination, lent the output
 abbrev pub combineCall : (f letters p output out : List ℕ) → Report
-combineCall f letters p output out = ifShort out outTooShort (combineReport (combineOutcome f letters p (length output)))
+combineCall f letters p output out =
+    ifShort out outTooShort (writtenReport (combineOutcome f letters p (length output)))
 
 -- the answer table after a search: untouched if `out` is too short
 abbrev pub answerAfterSearch : List ℕ → Ask → (a w out : List ℕ) → List ℕ
@@ -67,11 +74,15 @@ answerAfterNext f earlier a w out = ifShort out a (nextAnswer f earlier a (lengt
 abbrev pub placeAfterGrade : (f xs : List ℕ) → ℕ → (place w out : List ℕ) → List ℕ
 placeAfterGrade f xs k place w out = ifPlaceShort place out place (placeIn place (gradeOutcome f xs k (length w)))
 
+-- the output after a distance call: untouched if `out` is too short
+abbrev pub outputAfterDistances : List ℕ → (ceiling : ℕ) → (output w out : List ℕ) → List ℕ
+outputAfterDistances f ceiling output w out = ifShort out output (distancesOutput f ceiling output (length w))
+
 -- the output after a combination: untouched if `out` is too short
 abbrev pub outputAfterCombine : (f letters p output out : List ℕ) → List ℕ
 outputAfterCombine f letters p output out = ifShort out output (combineOutput f letters p output)
 
--- the working table after step, search and next: untouched if `out` is too short
+-- the working table after step, search, next and a distance call: untouched if `out` is too short
 abbrev pub workAfterCall : (f w out : List ℕ) → List ℕ
 workAfterCall f w out = ifShort out w (workOf f w)
 

@@ -12,10 +12,12 @@ use Rattle.step.specs.Step.{stepOutcome}
 use Rattle.search.specs.Search.{searchOutcome}
 use Rattle.next.specs.Next.{nextOutcome}
 use Rattle.grader.specs.Grade.{gradeOutcome}
+use Rattle.distances.specs.Distances.{distancesOutcome}
 use Rattle.combine.specs.Combine.{combineOutcome}
 use Rattle.answers.specs.Kinds.{Report, figuresIn}
-use Rattle.capi.specs.Interface.{stepCall, searchCall, nextCall, gradeCall, combineCall}
-use Rattle.capi.specs.Interface.{answerAfterSearch, answerAfterNext, placeAfterGrade, outputAfterCombine}
+use Rattle.capi.specs.Interface.{stepCall, searchCall, nextCall, gradeCall, distancesCall, combineCall}
+use Rattle.capi.specs.Interface.{answerAfterSearch, answerAfterNext, placeAfterGrade}
+use Rattle.capi.specs.Interface.{outputAfterDistances, outputAfterCombine}
 
 -- What a report tells, where the finder answers o, refusals having numbers from 1 to `most`, and `out` was lent. A table
 -- that every answer needs is too short if `Short` holds.
@@ -36,17 +38,20 @@ pub record Value {A : Type 0} (most : ℕ) (o : Outcome A) (Short : Type 0) (out
 abbrev pub ShortOut : List ℕ → Type 0
 ShortOut out = length out < 4
 
--- So it is with all five functions, where `out` is too short or, for a grade, the table for the place is; and up to 100 no
--- entry of the answer table and of that for the place, and no byte of the output changes.
+-- So it is with all six functions, where `out` is too short or, for a grade, the table for the place is; and up to 100
+-- no entry of the answer table, of that for the place and of the output changes.
 pub record RefusalsChangeNothing : Type 0 where
-  pub step : (f : List ℕ) (rec : Record) (w out : List ℕ)
-      → Value 12 (stepOutcome f rec (length w)) (ShortOut out) out (stepCall f rec w out)
+  pub step : (f : List ℕ) (ceiling : ℕ) (rec : Record) (w out : List ℕ)
+      → Value 21 (stepOutcome f ceiling rec (length w)) (ShortOut out) out (stepCall f ceiling rec w out)
   pub search : (f : List ℕ) (ask : Ask) (a w out : List ℕ)
-      → Value 15 (searchOutcome f ask (length a) (length w)) (ShortOut out) out (searchCall f ask a w out)
+      → Value 21 (searchOutcome f ask (length a) (length w)) (ShortOut out) out (searchCall f ask a w out)
   pub next : (f earlier a w out : List ℕ)
       → Value 15 (nextOutcome f earlier (length a) (length w)) (ShortOut out) out (nextCall f earlier a w out)
   pub grade : (f xs : List ℕ) (k : ℕ) (place w out : List ℕ)
       → Value 12 (gradeOutcome f xs k (length w)) (ShortOut out ⊎ (length place < 1)) out (gradeCall f xs k place w out)
+  pub distances : (f : List ℕ) (ceiling : ℕ) (output w out : List ℕ)
+      → Value 21 (distancesOutcome f ceiling (length output) (length w)) (ShortOut out) out
+      (distancesCall f ceiling output w out)
   pub combine : (f letters p output out : List ℕ)
       → Value 18 (combineOutcome f letters p (length output)) (ShortOut out) out (combineCall f letters p output out)
   pub search-answer : (f : List ℕ) (ask : Ask) (a w out : List ℕ) → searchCall f ask a w out .kind ≤ 100
@@ -55,5 +60,7 @@ pub record RefusalsChangeNothing : Type 0 where
       → answerAfterNext f earlier a w out ≡ a
   pub grade-place : (f xs : List ℕ) (k : ℕ) (place w out : List ℕ) → gradeCall f xs k place w out .kind ≤ 100
       → placeAfterGrade f xs k place w out ≡ place
+  pub distances-output : (f : List ℕ) (ceiling : ℕ) (output w out : List ℕ)
+      → distancesCall f ceiling output w out .kind ≤ 100 → outputAfterDistances f ceiling output w out ≡ output
   pub combine-output : (f letters p output out : List ℕ) → combineCall f letters p output out .kind ≤ 100
       → outputAfterCombine f letters p output out ≡ output

@@ -1,24 +1,27 @@
-// The C interface: step, search, next, grade and combine under plain names, with answers as numbers. What is returned is
-// the number of the refusal, 1 to 99, or the kind of answer, whose figures go to `out`: a refused call changes nothing
-// there. With fewer than 4 entries in `out` the answer is 100 and nothing at all is done; so it is for a grade whose table
-// for the place has no entry.
+// The C interface: step, search, next, grade, distances and combine under plain names, with answers as numbers. What is
+// returned is the number of the refusal, 1 to 99, or the kind of answer, whose figures go to `out`: a refused call
+// changes nothing there. With fewer than 4 entries in `out` the answer is 100 and nothing at all is done; so it is for
+// a grade whose table for the place has no entry.
 ghost use mathlib.Core.Path.{_≡_};
 ghost use Prim.Native.Nat.{_≤_};
 ghost use lib.ListN.{length};
 ghost use Rattle.lasso.specs.Values.{recordOf};
 ghost use Rattle.combine.specs.Combine.{combineOutcomeOf};
-ghost use Rattle.answers.specs.Kinds.{recordGiven, figuresIn, combineReport};
+ghost use Rattle.answers.specs.Kinds.{recordGiven, figuresIn, writtenReport};
 ghost use Rattle.gate.specs.Gate.{asking};
-ghost use Rattle.capi.specs.Interface.{stepCall, searchCall, nextCall, gradeCall, combineCall};
+ghost use Rattle.capi.specs.Interface.{stepCall, searchCall, nextCall, gradeCall, distancesCall, combineCall};
 ghost use Rattle.capi.specs.Interface.{answerAfterSearch, answerAfterNext, outputAfterCombine, workAfterCall};
-ghost use Rattle.capi.specs.Interface.{placeAfterGrade, workAfterGrade};
+ghost use Rattle.capi.specs.Interface.{placeAfterGrade, workAfterGrade, outputAfterDistances};
 ghost use Rattle.capi.specs.Figures.{FigureFits};
+use answers::WRITTEN;
+use answers::report_distances;
 use answers::report_grade;
 use answers::report_next;
 use answers::report_search;
 use answers::report_step;
 use combine::CombineAnswer;
 use combine::combine;
+use distances::distances;
 use gate::Ask;
 use grader::grade;
 use lasso::Best;
@@ -37,9 +40,6 @@ const PLACE_ENTRIES: usize = 1;
 // The kind of answer if one of them has fewer.
 const OUT_TOO_SHORT: u16 = 100;
 
-// The kind of answer of a combination that was written.
-const WRITTEN: u16 = 107;
-
 // The record that three figures stand for.
 fn record_given(done: u16, has_best: u8, best: u16) -> RoundRecord
     ensures { λ r. ⌜ recordOf r ≡ recordGiven done «has_best» best ⌝ }
@@ -56,19 +56,20 @@ fn record_given(done: u16, has_best: u8, best: u16) -> RoundRecord
     }
 }
 
-// The record after one more round.
+// The record after one more round under a ceiling.
 #[no_mangle]
 pub extern "C" fn fahkelo_step(
     file: &[u8],
+    ceiling: u16,
     done: u16,
     has_best: u8,
     best: u16,
     work: &mut [u16],
     out: &mut [u16],
 ) -> u16
-    ensures value { λ r. ⌜ r ≡ stepCall (now (file .entry)) (recordGiven done «has_best» best)
+    ensures value { λ r. ⌜ r ≡ stepCall (now (file .entry)) ceiling (recordGiven done «has_best» best)
         (now (work .entry)) (now (out .entry)) .kind ⌝ }
-    ensures out { λ _. ⌜ now (out .exit) ≡ figuresIn (now (out .entry)) (stepCall (now (file .entry))
+    ensures out { λ _. ⌜ now (out .exit) ≡ figuresIn (now (out .entry)) (stepCall (now (file .entry)) ceiling
         (recordGiven done «has_best» best) (now (work .entry)) (now (out .entry))) ⌝ }
     ensures work { λ _. ⌜ now (work .exit) ≡ workAfterCall (now (file .entry)) (now (work .entry))
         (now (out .entry)) ⌝ }
@@ -77,25 +78,26 @@ pub extern "C" fn fahkelo_step(
         return OUT_TOO_SHORT;
     }
     let so_far = record_given(done, has_best, best);
-    let stepped = step(file, so_far, work);
+    let stepped = step(file, Transitions(ceiling), so_far, work);
     report_step(stepped, out)
 }
 
-// The first of the shortest accepting paths, written to the answer table.
+// The first of the shortest accepting paths, written to the answer table if it is not longer than the ceiling.
 #[no_mangle]
 pub extern "C" fn fahkelo_search(
     file: &[u8],
+    ceiling: u16,
     allowance: u16,
     answer: &mut [u16],
     work: &mut [u16],
     out: &mut [u16],
 ) -> u16
-    ensures value { λ r. ⌜ r ≡ searchCall (now (file .entry)) (asking allowance)
+    ensures value { λ r. ⌜ r ≡ searchCall (now (file .entry)) (asking ceiling allowance)
         (now (answer .entry)) (now (work .entry)) (now (out .entry)) .kind ⌝ }
     ensures out { λ _. ⌜ now (out .exit) ≡ figuresIn (now (out .entry))
-        (searchCall (now (file .entry)) (asking allowance)
+        (searchCall (now (file .entry)) (asking ceiling allowance)
         (now (answer .entry)) (now (work .entry)) (now (out .entry))) ⌝ }
-    ensures answer { λ _. ⌜ now (answer .exit) ≡ answerAfterSearch (now (file .entry)) (asking allowance)
+    ensures answer { λ _. ⌜ now (answer .exit) ≡ answerAfterSearch (now (file .entry)) (asking ceiling allowance)
         (now (answer .entry)) (now (work .entry)) (now (out .entry)) ⌝ }
     ensures work { λ _. ⌜ now (work .exit) ≡ workAfterCall (now (file .entry)) (now (work .entry))
         (now (out .entry)) ⌝ }
@@ -103,7 +105,10 @@ pub extern "C" fn fahkelo_search(
     if out.len() < OUT_ENTRIES {
         return OUT_TOO_SHORT;
     }
-    let ask = Ask { allowance };
+    let ask = Ask {
+        ceiling: Transitions(ceiling),
+        allowance,
+    };
     let searched = search(file, ask, answer, work);
     report_search(searched, out)
 }
@@ -162,12 +167,37 @@ pub extern "C" fn fahkelo_grade(
     report_grade(graded, place, out)
 }
 
+// The distances from the initial state up to a ceiling, written to the output.
+#[no_mangle]
+pub extern "C" fn fahkelo_distances(
+    file: &[u8],
+    ceiling: u16,
+    output: &mut [u16],
+    work: &mut [u16],
+    out: &mut [u16],
+) -> u16
+    ensures value { λ r. ⌜ r ≡ distancesCall (now (file .entry)) ceiling
+        (now (output .entry)) (now (work .entry)) (now (out .entry)) .kind ⌝ }
+    ensures out { λ _. ⌜ now (out .exit) ≡ figuresIn (now (out .entry)) (distancesCall (now (file .entry)) ceiling
+        (now (output .entry)) (now (work .entry)) (now (out .entry))) ⌝ }
+    ensures output { λ _. ⌜ now (output .exit) ≡ outputAfterDistances (now (file .entry)) ceiling
+        (now (output .entry)) (now (work .entry)) (now (out .entry)) ⌝ }
+    ensures work { λ _. ⌜ now (work .exit) ≡ workAfterCall (now (file .entry)) (now (work .entry))
+        (now (out .entry)) ⌝ }
+{
+    if out.len() < OUT_ENTRIES {
+        return OUT_TOO_SHORT;
+    }
+    let written = distances(file, Transitions(ceiling), output, work);
+    report_distances(written, out)
+}
+
 // Reports the answer of a combination: its number of bytes is the one figure.
 fn report_combine(answer: CombineAnswer, out: &mut [u16]) -> u16
     requires { ⌜ 4 ≤ length (now out) ⌝ }
     requires { ⌜ FigureFits answer ⌝ }
-    ensures kind { λ r. ⌜ r ≡ combineReport (combineOutcomeOf answer) .kind ⌝ }
-    ensures out { λ _. ⌜ now (out .exit) ≡ figuresIn (now (out .entry)) (combineReport (combineOutcomeOf answer)) ⌝ }
+    ensures kind { λ r. ⌜ r ≡ writtenReport (combineOutcomeOf answer) .kind ⌝ }
+    ensures out { λ _. ⌜ now (out .exit) ≡ figuresIn (now (out .entry)) (writtenReport (combineOutcomeOf answer)) ⌝ }
 {
     match answer {
         CombineAnswer::Refused(number) => number,

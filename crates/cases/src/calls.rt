@@ -1,4 +1,4 @@
-// A step, a search and next on a file, each with tables of its own, and their answers in print.
+// A step, a search, next and the distances on a file, each with tables of its own, and their answers in print.
 ghost use Prim.Native.Nat.{_≤_};
 use harness::NO_LENGTH;
 use harness::NONE;
@@ -15,22 +15,26 @@ use table::put;
 use trials::wrong_answer;
 use trials::wrong_work;
 
-// What a case says in numbers: the least and the greatest size of the file that is lent, the search's allowance, the
-// entries of the answer table and of the working table that are lent; and whether the answers are printed.
+// What a case says in numbers: the least and the greatest size of the file that is lent, the ceiling, the best length
+// that a step starts from, the search's allowance, the entries of the answer table, which is also the output for the
+// distances, and of the working table that are lent; and whether the answers are printed.
 pub struct CaseNumbers {
     pub from: usize,
     pub size: usize,
+    pub ceiling: u16,
+    pub best: u64,
     pub allowance: u16,
     pub room: usize,
     pub entries: usize,
     pub shown: bool,
 }
 
-// The answers of the three calls.
+// The answers of the four calls.
 pub struct Answers {
     pub step: u64,
     pub search: u64,
     pub next: u64,
+    pub distances: u64,
 }
 
 // A best length in print.
@@ -49,10 +53,10 @@ fn eight(count: usize) -> usize {
     8
 }
 
-// Prints an answer, and at most eight entries of the list in its answer table.
+// Prints an answer, and at most eight of the entries that it wrote to its table.
 fn show(code: u64, table: &[u16]) {
     say(
-        b" step advanced # #| step finished # #| step refused #||, search found # # # list|, search empty #|, search stopped # #|, search refused #||, next found # # list|, next no more|, next refused #",
+        b" step advanced # #| step finished # #| step refused #||, search found # # # list|, search none within #|, search stopped # #|, search refused #||, next found # # list|, next no more|, next refused #||, distances written # last # list|, distances refused #",
         kind_of(code) as usize,
         &[
             first_of(code) as u64,
@@ -71,12 +75,12 @@ fn told(code: u64, table: &[u16], shown: bool) -> u64 {
     code
 }
 
-// A step from the record that a search starts from.
+// A step from the record before the first round, with a best length.
 fn step(file: &[u8], f: CaseNumbers) -> u64
     requires { ⌜ f .entries ≤ 24576 ⌝ }
 {
     let mut work = [0u16; 24576];
-    let code = trials::step(file, 0, NO_LENGTH, &mut work, f.entries);
+    let code = trials::step(file, f.ceiling, 0, f.best, &mut work, f.entries);
     told(code, &work, f.shown)
 }
 
@@ -86,7 +90,15 @@ fn search(file: &[u8], f: CaseNumbers) -> u64
 {
     let mut answer = [0u16; 4097];
     let mut work = [0u16; 24576];
-    let code = trials::search(file, f.allowance, &mut answer, f.room, &mut work, f.entries);
+    let code = trials::search(
+        file,
+        f.ceiling,
+        f.allowance,
+        &mut answer,
+        f.room,
+        &mut work,
+        f.entries,
+    );
     told(code, &answer, f.shown)
 }
 
@@ -100,16 +112,28 @@ fn next(file: &[u8], earlier: &[u16], f: CaseNumbers) -> u64
     told(code, &answer, f.shown)
 }
 
-// The three calls.
+// The distances.
+fn distances(file: &[u8], f: CaseNumbers) -> u64
+    requires { ⌜ (f .room ≤ 4097) × (f .entries ≤ 24576) ⌝ }
+{
+    let mut output = [0u16; 4097];
+    let mut work = [0u16; 24576];
+    let code = trials::distances(file, f.ceiling, &mut output, f.room, &mut work, f.entries);
+    told(code, &output, f.shown)
+}
+
+// The four calls.
 pub fn try_all(file: &[u8], earlier: &[u16], f: CaseNumbers) -> Answers
     requires { ⌜ (f .room ≤ 4097) × (f .entries ≤ 24576) ⌝ }
 {
     let first = step(file, f);
     let second = search(file, f);
+    let third = next(file, earlier, f);
     Answers {
         step: first,
         search: second,
-        next: next(file, earlier, f),
+        next: third,
+        distances: distances(file, f),
     }
 }
 

@@ -17,12 +17,13 @@ fn sum(count: u64, more: u64) -> u64 {
     count
 }
 
-// With the tables of three calls more: one for the step, two each for the search and for next.
+// With the tables of four calls more: one for the step, two each for the search, for next and for the distances.
 pub fn and(so_far: Judged, answers: Answers) -> Judged {
     let wrong = sum(so_far.wrong, wrong_of(answers.step));
     let also = sum(wrong, wrong_of(answers.search));
+    let third = sum(also, wrong_of(answers.next));
     Judged {
-        looked: sum(so_far.looked, 5),
-        wrong: sum(also, wrong_of(answers.next)),
+        looked: sum(so_far.looked, 7),
+        wrong: sum(third, wrong_of(answers.distances)),
     }
 }

@@ -1,11 +1,14 @@
 // Runs a case that is written as a line: a name, a model, what is changed in its file, the tables and the list that are
-// lent. What a step, a search and next answer is printed, or counted where the line stands for many calls.
+// lent. What a step, a search, next and the distances answer is printed, or counted where the line stands for many
+// calls.
 ghost use Prim.Native.Nat.{_≤_, _<_};
 ghost use lib.ListN.{length};
 use crate::calls::CaseNumbers;
 use crate::judged::Judged;
 use crate::model::File;
 use crate::model::put_model;
+use crate::setting::Setting;
+use crate::setting::is_setting;
 use crate::sweeps::changes;
 use crate::sweeps::lengths;
 use crate::sweeps::once;
@@ -35,8 +38,8 @@ fn within(value: usize, most: usize) -> usize
     most
 }
 
-// A case's size, allowance and entries, from four places of a line.
-fn figures_at(line: &[u8], from: usize, size: usize, shown: bool) -> CaseNumbers
+// A case's size, allowance and entries, from four places of a line, and what it shares with others.
+fn figures_at(line: &[u8], from: usize, size: usize, shown: bool, shared: Setting) -> CaseNumbers
     requires { ⌜ (size ≤ length (now line)) ⌝ }
     ensures { λ r. ⌜ (r .size ≤ 25200) × (r .room ≤ 4097) × (r .entries ≤ 24576) ⌝ }
 {
@@ -47,6 +50,8 @@ fn figures_at(line: &[u8], from: usize, size: usize, shown: bool) -> CaseNumbers
     CaseNumbers {
         from: from,
         size: within(bytes.value, 25200),
+        ceiling: shared.ceiling,
+        best: shared.best,
         allowance: (allowance.value % 65536) as u16,
         room: within(room.value, 4097),
         entries: within(entries.value, 24576),
@@ -218,23 +223,23 @@ fn least_length(line: &[u8], colon: usize, mark: u8) -> NumberRead
 
 // Runs a case whose name ends at a place. Behind the colon a blank stands for one call each, `+` for every length from
 // one up to another, which has one number more, and `*` for every byte changed to every other value.
-fn run_case(line: &[u8], colon: usize, before: Judged) -> Judged
+fn run_case(line: &[u8], colon: usize, shared: Setting, before: Judged) -> Judged
     requires { ⌜ colon ≤ length (now line) ⌝ }
 {
     let mark = byte_behind(line, colon, 1);
     let from = least_length(line, colon, mark);
     text(part(line, 0, colon));
     say(b":|\n", many(mark), &[]);
-    let f = figures_at(line, from.value, from.next, mark == b' ');
+    let f = figures_at(line, from.value, from.next, mark == b' ', shared);
     run_parts(line, colon, behind(line, from.next, 4), f, before)
 }
 
-// Runs a line. One that begins with `#` is printed as it stands.
-pub fn run_line(line: &[u8], before: Judged) -> Judged {
-    if byte_at(line, 0) == b'#' {
+// Runs a line. One that begins with `#`, or says what the cases behind it share, is printed as it stands.
+pub fn run_line(line: &[u8], shared: Setting, before: Judged) -> Judged {
+    if byte_at(line, 0) == b'#' || is_setting(line) {
         text(line);
         text(b"\n");
         return before;
     }
-    run_case(line, find(line, 0, b':'), before)
+    run_case(line, find(line, 0, b':'), shared, before)
 }

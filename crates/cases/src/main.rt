@@ -1,9 +1,10 @@
-// Runs the cases that it reads: prints what step, search and next answer, and how many tables were not as they should be
-// after a call.
+// Runs the cases that it reads: prints what step, search, next and the distances answer, and how many tables were not
+// as they should be after a call.
 mod calls;
 mod judged;
 mod lines;
 mod model;
+mod setting;
 mod sweeps;
 
 use calls::spoilt;
@@ -13,6 +14,8 @@ use harness::say;
 use judged::Judged;
 use libc::STDIN_FILENO;
 use lines::run_line;
+use setting::first_setting;
+use setting::setting_after;
 
 // Runs all lines of a text.
 fn run(script: &[u8]) -> Judged {
@@ -20,17 +23,20 @@ fn run(script: &[u8]) -> Judged {
         looked: 0,
         wrong: 0,
     };
+    let mut shared = first_setting();
     let mut at = 0;
     while at < script.len() {
         let end = find(script, at, b'\n');
-        so_far = run_line(part(script, at, end), so_far);
+        let line = part(script, at, end);
+        shared = setting_after(line, shared);
+        so_far = run_line(line, shared, so_far);
         at = end + 1;
     }
     so_far
 }
 
 fn main() {
-    let mut input = [0u8; 20000];
+    let mut input = [0u8; 40000];
     let got = io::read_full(STDIN_FILENO, &mut input);
     let all = run(&input[..got]);
     say(

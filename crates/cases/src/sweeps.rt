@@ -14,16 +14,16 @@ use harness::refusal_of;
 use harness::say;
 use harness::text;
 
-// Sixteen counts for the step, sixteen for the search, sixteen for next: first the calls that were not refused, then the
-// refusals by their number.
-type Counts = [u64; 48];
+// Twenty-two counts each for the step, the search, next and the distances: first the calls that were not refused, then
+// the refusals by their number.
+type Counts = [u64; 88];
 
 // Counts an answer of the call whose counts begin at a place.
 fn count(counts: &mut Counts, call: usize, code: u64)
-    requires { ⌜ call ≤ 32 ⌝ }
+    requires { ⌜ call ≤ 66 ⌝ }
 {
     let refusal = refusal_of(code);
-    if refusal < 16 {
+    if refusal < 22 {
         let old = counts[call + refusal];
         if old < 1000000000 {
             counts[call + refusal] = old + 1;
@@ -31,11 +31,12 @@ fn count(counts: &mut Counts, call: usize, code: u64)
     }
 }
 
-// Counts the answers of three calls.
+// Counts the answers of four calls.
 fn note(counts: &mut Counts, answers: Answers) {
     count(counts, 0, answers.step);
-    count(counts, 16, answers.search);
-    count(counts, 32, answers.next);
+    count(counts, 22, answers.search);
+    count(counts, 44, answers.next);
+    count(counts, 66, answers.distances);
 }
 
 // 0 for what was not refused, 1 for a refusal.
@@ -43,14 +44,15 @@ fn refused(refusal: usize) -> usize {
     if refusal == 0 { 0 } else { 1 }
 }
 
-// Prints the counts of one number, if it occurs: the step's, the search's and those of next.
+// Prints the counts of one number, if it occurs: the step's, the search's, those of next and of the distances.
 fn show_number(counts: &Counts, refusal: usize)
-    requires { ⌜ refusal < 16 ⌝ }
+    requires { ⌜ refusal < 22 ⌝ }
 {
     let a = counts[refusal];
-    let b = counts[16 + refusal];
-    let c = counts[32 + refusal];
-    if a | b | c == 0 {
+    let b = counts[22 + refusal];
+    let c = counts[44 + refusal];
+    let d = counts[66 + refusal];
+    if a | b | c | d == 0 {
         return;
     }
     say(
@@ -58,19 +60,23 @@ fn show_number(counts: &Counts, refusal: usize)
         refused(refusal),
         &[refusal as u64],
     );
-    say(b": step #, search #, next #\n", 0, &[a, b, c]);
+    say(
+        b": step #, search #, next #, distances #\n",
+        0,
+        &[a, b, c, d],
+    );
 }
 
 // Prints a line for each number that occurs.
 fn show_counts(counts: &Counts) {
     let mut refusal = 0;
-    while refusal < 16 {
+    while refusal < 22 {
         show_number(counts, refusal);
         refusal += 1;
     }
 }
 
-// The three calls on the first bytes of a buffer, on a line.
+// The four calls on the first bytes of a buffer, on a line.
 pub fn once(file: &File, earlier: &[u16], f: CaseNumbers, before: Judged) -> Judged
     requires { ⌜ (f .size ≤ 25200) × (f .room ≤ 4097) × (f .entries ≤ 24576) ⌝ }
 {
@@ -83,7 +89,7 @@ pub fn once(file: &File, earlier: &[u16], f: CaseNumbers, before: Judged) -> Jud
 pub fn lengths(file: &File, earlier: &[u16], f: CaseNumbers, before: Judged) -> Judged
     requires { ⌜ (f .size ≤ 25200) × (f .room ≤ 4097) × (f .entries ≤ 24576) ⌝ }
 {
-    let mut counts = [0u64; 48];
+    let mut counts = [0u64; 88];
     let mut so_far = before;
     let mut size = f.from;
     while size <= f.size {
@@ -96,7 +102,7 @@ pub fn lengths(file: &File, earlier: &[u16], f: CaseNumbers, before: Judged) -> 
     so_far
 }
 
-// The three calls with the byte at a place changed to a value; the old one is put back afterwards.
+// The four calls with the byte at a place changed to a value; the old one is put back afterwards.
 fn with_value(
     file: &mut File,
     at: usize,
@@ -117,7 +123,7 @@ fn with_value(
 pub fn changes(file: &mut File, earlier: &[u16], f: CaseNumbers, before: Judged) -> Judged
     requires { ⌜ (f .size ≤ 25200) × (f .room ≤ 4097) × (f .entries ≤ 24576) ⌝ }
 {
-    let mut counts = [0u64; 48];
+    let mut counts = [0u64; 88];
     let mut so_far = before;
     let mut turn = 0;
     while turn < 256 * f.size {

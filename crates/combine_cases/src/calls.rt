@@ -29,7 +29,7 @@ fn eight(count: usize) -> usize {
 // Prints what a search answered, and at most eight entries of its list.
 fn show_search(code: u64, table: &[u16]) {
     say(
-        b"; found # # # list|; empty #|; stopped # #|; refused #",
+        b"; found # # # list|; none within #|; stopped # #|; refused #",
         (kind_of(code) % 4) as usize,
         &[first_of(code) as u64, second_of(code), third_of(code)],
     );
@@ -42,7 +42,7 @@ fn search(file: &[u8]) -> u64
 {
     let mut answer = [0u16; 4097];
     let mut work = [0u16; 24576];
-    let code = trials::search(file, 65535, &mut answer, 4097, &mut work, 24576);
+    let code = trials::search(file, 4096, 65535, &mut answer, 4097, &mut work, 24576);
     show_search(code, &answer);
     wrong_of(code)
 }

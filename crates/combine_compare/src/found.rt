@@ -37,7 +37,7 @@ pub fn search(m: Model, file: &[u8]) -> Searched
 {
     let mut table = [0u16; 16];
     let mut work = [0u16; 48];
-    let code = trials::search(file, 65535, &mut table, 16, &mut work, 6 * m.states);
+    let code = trials::search(file, 4096, 65535, &mut table, 16, &mut work, 6 * m.states);
     let expected = right(m);
     let listed = begins_with(&table, expected.list, written(code));
     Searched {

@@ -108,7 +108,7 @@ pub fn differs(number: u64, c: Combination, answer: usize, expected: usize, tall
 // Prints all counts.
 pub fn print(tally: &Tally) {
     say(
-        b"combinations #\nwritten #\n  with an implied step of the rule: #\n  with an implied step of the property, not read: #\nedges #\nfound #\nempty #\nrefused 7: #\nrefused 15: #\nrefused 16: #\nrefused 17: #\ndifferences #\n",
+        b"combinations #\nwritten #\n  with an implied step of the rule: #\n  with an implied step of the property, not read: #\nedges #\nfound #\nnone within #\nrefused 7: #\nrefused 15: #\nrefused 16: #\nrefused 17: #\ndifferences #\n",
         0,
         tally,
     );

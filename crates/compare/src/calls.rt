@@ -5,26 +5,26 @@ use crate::tables::put_list;
 use exhaustive::Seen;
 use harness::written;
 
-// A step from a record, with room for so many entries in the working table.
-pub fn step(file: &[u8], done: u16, best: u64, room: usize) -> Seen
+// A step under a ceiling from a record, with room for so many entries in the working table.
+pub fn step(file: &[u8], ceiling: u16, done: u16, best: u64, room: usize) -> Seen
     requires { ⌜ room ≤ 48 ⌝ }
 {
     let mut work = [0u16; 48];
-    let code = trials::step(file, done, best, &mut work, room);
+    let code = trials::step(file, ceiling, done, best, &mut work, room);
     Seen {
         code: code,
         list: 0,
     }
 }
 
-// A search, with room for so many entries in the answer table and in the working table.
-pub fn search(file: &[u8], allowance: u16, space: usize, room: usize) -> Seen
+// A search under a ceiling, with room for so many entries in the answer table and in the working table.
+pub fn search(file: &[u8], ceiling: u16, allowance: u16, space: usize, room: usize) -> Seen
     requires { ⌜ space ≤ 16 ⌝ }
     requires { ⌜ room ≤ 48 ⌝ }
 {
     let mut table = [0u16; 16];
     let mut work = [0u16; 48];
-    let code = trials::search(file, allowance, &mut table, space, &mut work, room);
+    let code = trials::search(file, ceiling, allowance, &mut table, space, &mut work, room);
     Seen {
         code: code,
         list: list_in(&table, written(code)),
@@ -54,4 +54,18 @@ pub fn next(file: &[u8], list: u64, entries: usize, space: usize, room: usize) -
     let mut earlier = [0u16; 16];
     put_list(&mut earlier, list, entries);
     next_with(file, &earlier[..entries], space, room)
+}
+
+// The distances up to a ceiling, with room for so many entries in the output and in the working table.
+pub fn distances(file: &[u8], ceiling: u16, space: usize, room: usize) -> Seen
+    requires { ⌜ space ≤ 16 ⌝ }
+    requires { ⌜ room ≤ 48 ⌝ }
+{
+    let mut output = [0u16; 16];
+    let mut work = [0u16; 48];
+    let code = trials::distances(file, ceiling, &mut output, space, &mut work, room);
+    Seen {
+        code: code,
+        list: list_in(&output, written(code)),
+    }
 }

@@ -1,7 +1,10 @@
-// The calls on one model: steps from many records, searches with every allowance, and next after right and wrong lists.
+// The calls on one model: steps from many records and searches with every allowance under a ceiling, next after right
+// and wrong lists, and distances.
 ghost use Prim.Native.Nat.{_≤_};
 use crate::calls;
+use crate::tally::ABOVE;
 use crate::tally::DIFFERENCES;
+use crate::tally::DISTANCES;
 use crate::tally::ENTRIES;
 use crate::tally::LISTS;
 use crate::tally::NEXTS;
@@ -20,7 +23,8 @@ use exhaustive::random_list;
 use exhaustive::seed_of;
 use exhaustive::tables_for;
 use harness::NEXT_NO_MORE;
-use harness::SEARCH_EMPTY;
+use harness::NO_LENGTH;
+use harness::SEARCH_NONE_WITHIN;
 use harness::brings_list;
 use harness::first_of;
 use harness::kind_of;
@@ -51,39 +55,51 @@ fn count_for(place: usize, end: usize) -> u16 {
     65535
 }
 
-// The best lengths that steps start from: none, 0, 1, the round's own length, one more, and 65,535.
-fn best_for(own: u64, which: usize) -> u64
-    requires { ⌜ own ≤ 65536 ⌝ }
+// The best lengths that steps start from: none, 0, 1, the length that the round has under no ceiling, one more, the
+// ceiling, one more, and 65,535.
+fn best_for(own: u64, ceiling: u64, which: usize) -> u64
+    requires { ⌜ (own ≤ 65536) × (ceiling ≤ 65535) ⌝ }
 {
     match which {
-        0 => 65536,
+        0 => NO_LENGTH,
         1 => 0,
         2 => 1,
         3 => own,
         4 => own % 65535 + 1,
+        5 => ceiling,
+        6 => ceiling + 1,
         _ => 65535,
     }
 }
 
-// One step; the seventh is the one with a working table that is too short.
-fn check_step(t: Truth, file: &[u8], done: u16, which: usize, tally: &mut [u64]) {
-    let short = which == 6;
-    let best = best_for(exhaustive::round_at(t, done as usize), which);
-    let seen = calls::step(file, done, best, room(t.states, short, which));
-    compare(
-        tally,
-        STEPS,
-        seen,
-        exhaustive::of_step(t, done, best, short),
-    );
+// One step on a model under a ceiling, up to which the exhaustive search found what is passed; the ninth is the one with
+// a working table that is too short.
+fn check_step(
+    t: Truth,
+    within: Truth,
+    ceiling: u16,
+    file: &[u8],
+    done: u16,
+    which: usize,
+    tally: &mut [u64],
+) {
+    let short = which == 8;
+    let own = exhaustive::round_at(t, done as usize);
+    let best = best_for(own, ceiling as u64, which);
+    let seen = calls::step(file, ceiling, done, best, room(t.states, short, which));
+    let expected = exhaustive::of_step(within, done, best, short);
+    compare(tally, STEPS, seen, expected);
+    let above = (ceiling as u64) < best && best < NO_LENGTH;
+    add_if(tally, ABOVE, above && !short);
 }
 
-// Steps from every count up to one more than the candidates, and from 65,535.
-pub fn check_steps(t: Truth, file: &[u8], tally: &mut [u64]) {
+// Steps under a ceiling from every count up to one more than the candidates, and from 65,535.
+pub fn check_steps(t: Truth, within: Truth, ceiling: u16, file: &[u8], tally: &mut [u64]) {
     let end = exhaustive::rounds(t) + 2;
     let mut turn = 0;
-    while turn < 7 * (end + 1) {
-        check_step(t, file, count_for(turn / 7, end), turn % 7, tally);
+    while turn < 9 * (end + 1) {
+        let done = count_for(turn / 9, end);
+        check_step(t, within, ceiling, file, done, turn % 9, tally);
         turn += 1;
     }
 }
@@ -103,10 +119,13 @@ fn space(least: usize, which: usize) -> usize
     }
 }
 
-// One search; the fifth is the one with a working table that is too short.
+// One search on a model under a ceiling, up to which the exhaustive search found what is passed; the fifth is the one
+// with a working table that is too short.
 fn check_search(
     t: Truth,
+    within: Truth,
     roll: &[u64],
+    ceiling: u16,
     file: &[u8],
     allowance: u16,
     which: usize,
@@ -114,22 +133,27 @@ fn check_search(
 ) -> Seen {
     let short = which == 4;
     let entries = space(t.least, which);
-    let seen = calls::search(file, allowance, entries, room(t.states, short, which));
-    compare(
-        tally,
-        SEARCHES,
-        seen,
-        exhaustive::of_search(t, roll, allowance, entries, short),
-    );
+    let lent = room(t.states, short, which);
+    let seen = calls::search(file, ceiling, allowance, entries, lent);
+    let expected = exhaustive::of_search(within, roll, allowance, entries, short);
+    compare(tally, SEARCHES, seen, expected);
     seen
 }
 
-// Searches with every allowance up to one more than the candidates, and with 65,535.
-pub fn check_searches(t: Truth, roll: &[u64], file: &[u8], tally: &mut [u64]) {
+// Searches under a ceiling with every allowance up to one more than the candidates, and with 65,535.
+pub fn check_searches(
+    t: Truth,
+    within: Truth,
+    roll: &[u64],
+    ceiling: u16,
+    file: &[u8],
+    tally: &mut [u64],
+) {
     let end = exhaustive::rounds(t) + 2;
     let mut turn = 0;
     while turn < 5 * (end + 1) {
-        check_search(t, roll, file, count_for(turn / 5, end), turn % 5, tally);
+        let allowance = count_for(turn / 5, end);
+        check_search(t, within, roll, ceiling, file, allowance, turn % 5, tally);
         turn += 1;
     }
 }
@@ -232,7 +256,7 @@ fn copy_of(s: Seen) -> Earlier
 // Whether an answer says that there are no more lists, or none.
 fn ends(code: u64) -> bool {
     let kind = kind_of(code);
-    kind == NEXT_NO_MORE || kind == SEARCH_EMPTY
+    kind == NEXT_NO_MORE || kind == SEARCH_NONE_WITHIN
 }
 
 // Counts a list that was received, and a difference if it is not the one at its place of the roll.
@@ -242,7 +266,7 @@ fn received(copy: Earlier, right: u64, tally: &mut [u64]) {
     add_if(tally, DIFFERENCES, copy.list != right);
 }
 
-// Counts a difference if the lists ended at another place than the roll, or with another answer than no more or empty.
+// Counts a difference if the lists ended at another place than the roll, or with another answer than no more or none.
 fn ended(lists: usize, code: u64, got: usize, tally: &mut [u64]) {
     add_if(tally, DIFFERENCES, got != lists);
     add_if(tally, DIFFERENCES, !ends(code));
@@ -250,7 +274,7 @@ fn ended(lists: usize, code: u64, got: usize, tally: &mut [u64]) {
 
 // A search and then next with the copy last received, until there are no more lists: the whole roll in order, each once.
 pub fn check_sequence(t: Truth, roll: &[u64], file: &[u8], tally: &mut [u64]) {
-    let mut s = check_search(t, roll, file, 65535, 0, tally);
+    let mut s = check_search(t, t, roll, 4096, file, 65535, 0, tally);
     let mut got = 0;
     while got < 1000 {
         if !brings_list(s.code) {
@@ -262,4 +286,67 @@ pub fn check_sequence(t: Truth, roll: &[u64], file: &[u8], tally: &mut [u64]) {
         got += 1;
     }
     add(tally, DIFFERENCES, 1);
+}
+
+// The ceilings of the distance calls: 0 up to one more than there are states, 4,096, and two that are too high.
+fn distance_ceiling(place: usize, states: usize) -> u16
+    requires { ⌜ states ≤ 7 ⌝ }
+{
+    if place < states + 2 {
+        return place as u16;
+    }
+    if place == states + 2 {
+        return 4096;
+    }
+    if place == states + 3 {
+        return 4097;
+    }
+    65535
+}
+
+// The output's length for so many states: three entries more than needed, as many, or one too few.
+fn output_space(states: usize, which: usize) -> usize
+    requires { ⌜ states ≤ 7 ⌝ }
+    ensures { λ r. ⌜ r ≤ 16 ⌝ }
+{
+    if states == 0 {
+        return 0;
+    }
+    match which {
+        1 => states,
+        2 => states - 1,
+        _ => states + 3,
+    }
+}
+
+// One distance call; the fourth is the one with a working table that is too short.
+fn check_distance(
+    m: Model,
+    states: usize,
+    right: u64,
+    file: &[u8],
+    ceiling: u16,
+    which: usize,
+    tally: &mut [u64],
+)
+    requires { ⌜ states ≤ 7 ⌝ }
+{
+    let short = which == 3;
+    let entries = output_space(states, which);
+    let seen = calls::distances(file, ceiling, entries, room(states, short, which));
+    let expected = exhaustive::of_distances(m, right, ceiling, entries, short);
+    compare(tally, DISTANCES, seen, expected);
+}
+
+// Distances up to every ceiling.
+pub fn check_distances(m: Model, states: usize, file: &[u8], tally: &mut [u64])
+    requires { ⌜ states ≤ 7 ⌝ }
+{
+    let right = exhaustive::distances(m);
+    let mut turn = 0;
+    while turn < 4 * (states + 5) {
+        let ceiling = distance_ceiling(turn / 4, states);
+        check_distance(m, states, right, file, ceiling, turn % 4, tally);
+        turn += 1;
+    }
 }

@@ -4,8 +4,9 @@ use harness::kind_of;
 use harness::refusal_of;
 
 // Places in the tally, in the order in which they are printed: models by their number of states, models with an implied
-// step, models by the least length, models with several lists, steps, searches and nexts with the kinds of their answers
-// after each, refusals with 12 to 15, lists and entries received, differences.
+// step, models by the least length, models with several lists, ceilings, steps, searches, nexts and distances with the
+// kinds of their answers after each, refusals with 12 to 15 and 21, steps from a best above the ceiling, lists and
+// entries received, differences.
 pub const MODELS: usize = 0;
 
 pub const IMPLIED: usize = 7;
@@ -14,21 +15,27 @@ pub const LENGTHS: usize = 8;
 
 pub const SEVERAL: usize = 16;
 
-pub const STEPS: usize = 17;
+pub const CEILINGS: usize = 17;
 
-const KINDS: usize = 18;
+pub const STEPS: usize = 18;
 
-pub const SEARCHES: usize = 21;
+const KINDS: usize = 19;
 
-pub const NEXTS: usize = 26;
+pub const SEARCHES: usize = 22;
 
-pub const REFUSED: usize = 30;
+pub const NEXTS: usize = 27;
 
-pub const LISTS: usize = 34;
+pub const DISTANCES: usize = 31;
 
-pub const ENTRIES: usize = 35;
+const REFUSED: usize = 34;
 
-pub const DIFFERENCES: usize = 36;
+pub const ABOVE: usize = 39;
+
+pub const LISTS: usize = 40;
+
+pub const ENTRIES: usize = 41;
+
+pub const DIFFERENCES: usize = 42;
 
 // Adds a small number at a place.
 pub fn add(tally: &mut [u64], at: usize, more: usize) {
@@ -54,12 +61,20 @@ fn same(a: Seen, b: Seen) -> bool {
     a.code == b.code && a.list == b.list
 }
 
+// The place of a refusal.
+fn refused_at(refusal: usize) -> usize {
+    if refusal == 21 {
+        return REFUSED + 4;
+    }
+    REFUSED + refusal % 4
+}
+
 // Counts a call's answer, and a difference if it is not the one that it must be.
 pub fn compare(tally: &mut [u64], calls: usize, seen: Seen, expected: Seen) {
     let code = seen.code;
     let refusal = refusal_of(code);
     add(tally, calls, 1);
     add(tally, KINDS + kind_of(code) as usize, 1);
-    add_if(tally, REFUSED + refusal % 4, refusal != 0);
+    add_if(tally, refused_at(refusal), refusal != 0);
     add_if(tally, DIFFERENCES, !same(seen, expected));
 }

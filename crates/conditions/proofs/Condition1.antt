@@ -1,26 +1,28 @@
 -- Condition 1 holds: every call is refused with the first reason that holds, and leaves the tables as the contract says.
 use Prim.Native.Nat.{ℕ}
 use mathlib.Core.Path.{_≡_, refl, sym, _∙_, ap}
-use mathlib.Core.List.{List, [], _++_}
+use mathlib.Core.List.{List, [], _∷_, _++_}
 use mathlib.Core.Option.{Option, some, none}
 use native.Mathlib.Omega.{arith}
-use lib.ListN.{length, replicate}
+use lib.ListN.{length, drop, replicate}
 use lib.Dec.{T}
 use Rattle.lasso.specs.Lists.{differentb}
 use Rattle.lasso.specs.Following.{following}
 use Rattle.lasso.specs.Roll.{roll}
+use Rattle.format.specs.Layout.{states}
 use Rattle.model.specs.Model.{graphOf}
 use Rattle.format.specs.Rules.{Reason, firstBroken}
 use Rattle.outcomes.specs.Outcome.{refused, answered, outcome}
 use Rattle.outcomes.specs.Tables.{written, listReasons, unlessRefused}
-use Rattle.step.specs.Step.{stepped}
+use Rattle.step.specs.Step.{stepped, stepReasons}
 use Rattle.search.specs.Search.{searched, firstDue, searchReasons}
 use Rattle.next.specs.Next.{followed, dueReasons, nextReasons}
 use Rattle.grader.specs.Grade.{gradeOf}
+use Rattle.distances.specs.Distances.{distanceTable, distanceReasons}
 use Rattle.combine.specs.Combine.{combinedFile, combineReasons}
-use Rattle.gate.specs.Gate.{commonRules, workAfter, workOf}
+use Rattle.gate.specs.Gate.{commonRules, ceilingReason, workAfter, workOf}
 use Rattle.conditions.specs.Reasons.{numbersOf}
-use Rattle.conditions.specs.Condition1.{stepNumbers, searchNumbers, nextNumbers, gradeNumbers, combineNumbers, Refuses, AnswerKept, WorkLeft, Condition1Holds}
+use Rattle.conditions.specs.Condition1.{stepNumbers, searchNumbers, nextNumbers, gradeNumbers, distanceNumbers, combineNumbers, Refuses, AnswerKept, WorkLeft, Condition1Holds}
 use Rattle.conditions.proofs.FirstLaws.{noneHolds-firstBroken, clear-none, broken-first, first-broken, betweenb, broken-between, refused-some, answered-none}
 use Rattle.format.proofs.Reasons.{clear-append, broken-append}
 
@@ -52,14 +54,14 @@ answer-kept o x due a n e = ap (λ (p : Option ℕ). written (unlessRefused p du
 
 -- the reasons 1 to 12 stand in front of those above 12: the first of the former decides about the working table
 first-decides : {A : Type 0} (w : List ℕ) (common : List Reason) → T (betweenb 1 12 (numbersOf common)) → (rest : List Reason)
-    → T (betweenb 13 15 (numbersOf rest)) → (x : A) (o : Option ℕ) → firstBroken common ≡ o
+    → T (betweenb 13 21 (numbersOf rest)) → (x : A) (o : Option ℕ) → firstBroken common ≡ o
     → WorkLeft (outcome (firstBroken (common ++ rest)) x) w (workAfter (firstBroken common) w)
 first-decides w common early rest late x none q =
     let zero : workAfter (firstBroken common) w ≡ replicate (length w) 0 = ap (λ (o : Option ℕ). workAfter o w) q in
     record {
       untouched = λ n e small.
           let found : firstBroken rest ≡ some n = sym (clear-append common rest q) ∙ refused-some (firstBroken (common ++ rest)) x n e in
-          absurd (omega (arith, broken-between 13 15 rest late n found));
+          absurd (omega (arith, broken-between 13 21 rest late n found));
       zero-refused = λ n e big. zero;
       zero-answered = λ y e. zero;
     }
@@ -79,7 +81,7 @@ first-decides w common early rest late x (some m) q =
     }
 
 -- so it is with a call's own reasons behind the common ones
-work-left-behind : {A : Type 0} (f w : List ℕ) (rest : List Reason) (x : A) → T (betweenb 13 15 (numbersOf rest))
+work-left-behind : {A : Type 0} (f w : List ℕ) (rest : List Reason) (x : A) → T (betweenb 13 21 (numbersOf rest))
     → WorkLeft (outcome (firstBroken (commonRules f (length w) ++ rest)) x) w (workOf f w)
 work-left-behind f w rest x late =
     first-decides w (commonRules f (length w)) tt rest late x (firstBroken (commonRules f (length w))) refl
@@ -87,9 +89,9 @@ work-left-behind f w rest x late =
 -- condition 1
 pub condition-1 : Condition1Holds
 condition-1 = record {
-  step = λ f rec w. record {
-    refuses = refuses (commonRules f (length w)) stepNumbers (stepped (graphOf f) rec) refl tt;
-    work = work-left-behind f w [] (stepped (graphOf f) rec) tt;
+  step = λ f ceiling rec w. record {
+    refuses = refuses (stepReasons f ceiling (length w)) stepNumbers (stepped (graphOf f) ceiling rec) refl tt;
+    work = work-left-behind f w (ceilingReason ceiling ∷ []) (stepped (graphOf f) ceiling rec) tt;
   };
   search = λ f ask a w.
       let x = searched (graphOf f) ask in
@@ -97,7 +99,7 @@ condition-1 = record {
       record {
         refuses = refuses reasons searchNumbers x refl tt;
         answer = answer-kept (firstBroken reasons) x (firstDue (graphOf f) ask) a;
-        work = work-left-behind f w (listReasons f (firstDue (graphOf f) ask) (length a)) x tt;
+        work = work-left-behind f w (ceilingReason (ask .ceiling .0) ∷ listReasons f (firstDue (graphOf f) ask) (length a)) x tt;
       };
   next = λ f earlier a w.
       let due = following earlier (roll (graphOf f)) in
@@ -111,6 +113,13 @@ condition-1 = record {
     refuses = refuses (commonRules f (length w)) gradeNumbers (gradeOf (graphOf f) xs k) refl tt;
     work = work-left-behind f w [] (gradeOf (graphOf f) xs k) tt;
   };
+  distances = λ f ceiling output w.
+      let reasons = distanceReasons f ceiling (length output) (length w) in
+      record {
+        refuses = refuses reasons distanceNumbers (states f) refl tt;
+        kept = answer-kept (firstBroken reasons) (states f) (some (distanceTable (graphOf f) ceiling)) output;
+        work = work-left-behind f w (drop 12 reasons) (states f) tt;
+      };
   combine = λ f letters p output.
       let file = combinedFile f letters p in
       let reasons = combineReasons f letters p (length output) in

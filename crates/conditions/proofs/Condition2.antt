@@ -1,24 +1,25 @@
 -- Condition 2 holds: a search for which no reason holds answers and writes what the contract says.
 use Prim.Native.Nat.{ℕ, _+_, _*_, _≤_, _<_}
-use mathlib.Core.Path.{_≡_, refl, sym, _∙_, ap, subst}
+use mathlib.Core.Path.{_≡_, sym, _∙_, ap, subst}
 use mathlib.Core.Bool.{false}
 use mathlib.Core.Logic.{inl, inr}
 use mathlib.Core.List.{List, [], _∷_, _++_, head?, List·Memᴰ, List·Memᴰ·cases-cons}
-use mathlib.Core.Option.{Option, some, none}
+use mathlib.Core.Option.{Option, some}
 use native.Mathlib.Omega.{arith}
 use borrow.Author.Tests.{ltb-false}
 use lib.ListN.{length, getD, drop}
 use lib.Dec.{T, eqb→eq}
 use Rattle.lasso.specs.Lists.{below}
 use Rattle.lasso.specs.Graph.{Graph, WellFormed, edges, loopsb, acceptingb, loopStart}
-use Rattle.lasso.specs.Roll.{leastLength, roll}
+use Rattle.lasso.specs.Roll.{roll, rollWithin}
 use Rattle.lasso.specs.Rounds.{Record, candidates}
-use Rattle.lasso.proofs.Least.{IsLeast}
-use Rattle.lasso.proofs.Lasso.{AcceptingLength, loop-start}
+use Rattle.lasso.specs.Ceiling.{PathWithin}
+use Rattle.lasso.proofs.Lasso.{loop-start}
 use Rattle.lasso.proofs.Sorted.{Sorted, all-mem}
 use Rattle.lasso.proofs.Tests.{parts, lt-or-ge, anyb-some, below-lt, head-mem}
 use Rattle.lasso.proofs.OrderLaws.{Before}
-use Rattle.lasso.proofs.RollLaws.{leastLength-least, in-roll, roll-strict}
+use Rattle.lasso.proofs.RollLaws.{in-roll, roll-strict}
+use Rattle.lasso.proofs.CeilingLaws.{RollCut, whole, no-path, longer, roll-cut, roll-within, ceiling-shown}
 use Rattle.lasso.proofs.RoundLaws.{afterRounds-done}
 use Rattle.gate.specs.declared.Ask.{Ask}
 use Rattle.format.specs.Layout.{states}
@@ -28,11 +29,11 @@ use Rattle.model.proofs.Laws.{accepted-well-formed}
 use Rattle.outcomes.specs.Outcome.{answered}
 use Rattle.outcomes.specs.Tables.{noRoom, lengthDue, listReasons}
 use Rattle.outcomes.proofs.OutcomeLaws.{call-answer}
-use Rattle.search.specs.Search.{Searched, stopped, empty, searched, firstDue, searchReasons}
-use Rattle.search.proofs.SearchLaws.{SearchIs, search-stopped, search-empty, search-found, search-goes-on, roll-first}
-use Rattle.gate.specs.Gate.{commonRules}
+use Rattle.search.specs.Search.{Searched, stopped, noneWithin, searched, firstDue, searchReasons}
+use Rattle.search.proofs.SearchLaws.{SearchIs, search-stopped, search-none, search-found, search-goes-on, roll-first}
+use Rattle.gate.specs.Gate.{commonRules, ceilingReason}
 use Rattle.conditions.specs.Reasons.{NoneHolds}
-use Rattle.conditions.specs.Condition2.{SomePath, FirstShortest, Searches, SearchPasses, SearchPassesExactly, Condition2Holds}
+use Rattle.conditions.specs.Condition2.{FirstShortest, Searches, SearchPasses, SearchPassesExactly, Condition2Holds}
 use Rattle.gate.proofs.GateLaws.{tableReason}
 use Rattle.conditions.proofs.FirstLaws.{noneHolds-firstBroken, clear-none, none-parts, answered-none}
 
@@ -48,11 +49,13 @@ head-before (r ∷ rs) xs ys s e m apart =
     ]
 
 -- the first of the roll is the first of the shortest accepting paths
-pub roll-firstShortest : (g : Graph) → WellFormed g → (xs : List ℕ) → head? (roll g) ≡ some xs → FirstShortest g xs
-roll-firstShortest g wf xs e =
+pub roll-firstShortest : (g : Graph) → WellFormed g → (ceiling : ℕ) (xs : List ℕ) → head? (roll g) ≡ some xs → edges xs ≤ ceiling
+    → FirstShortest g ceiling xs
+roll-firstShortest g wf ceiling xs e within =
     let (accepting, shortest) = in-roll g wf xs .0 (head-mem (roll g) xs e) in
     record {
       accepting = accepting;
+      within = within;
       shortest = shortest;
       first = λ ys path same apart.
           let m : List·Memᴰ ys (roll g) = in-roll g wf ys .1 (path, λ zs p. omega (arith, shortest zs p)) in
@@ -69,49 +72,50 @@ accepting-loops g xs h =
     let same : some-k .0 ≡ loopStart xs = only (some-k .0) (below-lt (edges xs) (some-k .1)) (sym last) in
     (low, subst (λ (k : ℕ). T (loopsb g xs k)) same at-k)
 
--- "empty", "found" and "stopped" are different answers
-empty-found : {r L k rounds : ℕ} → answered (empty r) ≡ answered (Searched.found L k rounds) → ⊥
-empty-found e = let z : _≡_ {A = ℕ} 0 1 = cc in omega arith
+-- "none within the ceiling", "found" and "stopped" are different answers
+none-found : {r L k rounds : ℕ} → answered (noneWithin r) ≡ answered (Searched.found L k rounds) → ⊥
+none-found e = let z : _≡_ {A = ℕ} 0 1 = cc in omega arith
 
 stopped-found : {r : Record} {L k rounds : ℕ} → answered (stopped r) ≡ answered (Searched.found L k rounds) → ⊥
 stopped-found e = let z : _≡_ {A = ℕ} 0 1 = cc in omega arith
 
-stopped-empty : {r : Record} {rounds : ℕ} → answered (stopped r) ≡ answered (empty rounds) → ⊥
-stopped-empty e = let z : _≡_ {A = ℕ} 0 1 = cc in omega arith
+stopped-none : {r : Record} {rounds : ℕ} → answered (stopped r) ≡ answered (noneWithin rounds) → ⊥
+stopped-none e = let z : _≡_ {A = ℕ} 0 1 = cc in omega arith
 
-module _ (f : List ℕ) (accepted : Accepted f) (ask : Ask) (a : List ℕ) (work : ℕ) (room : 6 * states f ≤ work) where
-  -- the allowance suffices, and no accepting path exists
-  searches-none : length (candidates (graphOf f)) ≤ ask .allowance → leastLength (graphOf f) ≡ none → Searches f ask a work
+module _ (f : List ℕ) (accepted : Accepted f) (ask : Ask) (a : List ℕ) (work : ℕ) (room : 6 * states f ≤ work) (low : ask .ceiling .0 ≤ 4096) where
+  -- the allowance suffices, and no accepting path is within the ceiling
+  searches-none : length (candidates (graphOf f)) ≤ ask .allowance → rollWithin (graphOf f) (ask .ceiling .0) ≡ [] → Searches f ask a work
   searches-none enough e =
       let g : Graph = graphOf f in
       let n : ℕ = length (candidates g) in
-      let is = search-empty f accepted ask (length a) work room enough e in
-      let least : IsLeast (AcceptingLength g) none = rw e at (leastLength-least g (accepted-well-formed f accepted)) in
-      let no-path : SomePath g → ⊥ = λ p. least (edges (p .0)) (p .0, p .1, refl) in
+      let is = search-none f accepted ask (length a) work room low enough e in
+      let no-path : PathWithin g (ask .ceiling .0) → ⊥ = ceiling-shown g (accepted-well-formed f accepted) (ask .ceiling .0) .empty-exactly .0 e in
       record {
         answers = inr (n, is .outcome-is);
-        not-stopped = λ r q. stopped-empty (sym q ∙ is .outcome-is);
-        found-exactly = (λ p. absurd (empty-found (sym (is .outcome-is) ∙ p .3)), λ p. absurd (no-path p));
-        found-says = λ L k rounds q. absurd (empty-found (sym (is .outcome-is) ∙ q));
-        empty-exactly = (λ p. no-path, λ p. (n, is .outcome-is));
-        empty-says = λ rounds q.
-            let same : answered (empty rounds) ≡ answered (empty n) = sym q ∙ is .outcome-is in
+        not-stopped = λ r q. stopped-none (sym q ∙ is .outcome-is);
+        found-exactly = (λ p. absurd (none-found (sym (is .outcome-is) ∙ p .3)), λ p. absurd (no-path p));
+        found-says = λ L k rounds q. absurd (none-found (sym (is .outcome-is) ∙ q));
+        none-exactly = (λ p. no-path, λ p. (n, is .outcome-is));
+        none-says = λ rounds q.
+            let same : answered (noneWithin rounds) ≡ answered (noneWithin n) = sym q ∙ is .outcome-is in
             record { unwritten = call-answer a is; rounds-are = cc };
       }
 
-  -- the allowance suffices, an accepting path exists, and the answer table has room for the first of the roll
+  -- the allowance suffices, an accepting path is within the ceiling, and the answer table has room for the first of the roll
   searches-some : length (candidates (graphOf f)) ≤ ask .allowance → (xs : List ℕ) → head? (roll (graphOf f)) ≡ some xs
+      → rollWithin (graphOf f) (ask .ceiling .0) ≡ roll (graphOf f) → edges xs ≤ ask .ceiling .0
       → edges xs + 1 ≤ length a → Searches f ask a work
-  searches-some enough xs first fits =
+  searches-some enough xs first whole-roll within fits =
       let g : Graph = graphOf f in
       let n : ℕ = length (candidates g) in
-      let is = search-found f accepted ask (length a) work room enough xs first fits in
-      let best : FirstShortest g xs = roll-firstShortest g (accepted-well-formed f accepted) xs first in
+      let is = search-found f accepted ask (length a) work room low enough xs (ap (λ (rs : List (List ℕ)). head? rs) whole-roll ∙ first) fits in
+      let best : FirstShortest g (ask .ceiling .0) xs = roll-firstShortest g (accepted-well-formed f accepted) (ask .ceiling .0) xs first within in
+      let path : PathWithin g (ask .ceiling .0) = (xs, best .accepting, within) in
       let (low, closed) = accepting-loops g xs (best .accepting) in
       record {
         answers = inl (edges xs, loopStart xs, n, is .outcome-is);
         not-stopped = λ r q. stopped-found (sym q ∙ is .outcome-is);
-        found-exactly = (λ p. (xs, best .accepting), λ p. (edges xs, loopStart xs, n, is .outcome-is));
+        found-exactly = (λ p. path, λ p. (edges xs, loopStart xs, n, is .outcome-is));
         found-says = λ L k rounds q.
             let same : answered (Searched.found L k rounds) ≡ answered (Searched.found (edges xs) (loopStart xs) n) = sym q ∙ is .outcome-is in
             let at-L : edges xs ≡ L = cc in
@@ -128,8 +132,8 @@ module _ (f : List ℕ) (accepted : Accepted f) (ask : Ask) (a : List ℕ) (work
               loops = subst (λ (j : ℕ). T (loopsb g xs j)) at-k closed;
               rounds-are = cc;
             };
-        empty-exactly = (λ p. absurd (empty-found (sym (p .1) ∙ is .outcome-is)), λ p. absurd (p (xs, best .accepting)));
-        empty-says = λ rounds q. absurd (empty-found (sym q ∙ is .outcome-is));
+        none-exactly = (λ p. absurd (none-found (sym (p .1) ∙ is .outcome-is)), λ p. absurd (p path));
+        none-says = λ rounds q. absurd (none-found (sym q ∙ is .outcome-is));
       }
 
 -- no reason of a search holds: what that says
@@ -137,16 +141,19 @@ noneHolds-says : (f : List ℕ) (ask : Ask) (answer work : ℕ) → NoneHolds (s
     → SearchPasses f ask answer work
 noneHolds-says f ask answer work h =
     let g : Graph = graphOf f in
-    let (common, list) = none-parts (commonRules f work) (listReasons f (firstDue g ask) answer) h in
+    let (common, (ceiling, list)) = none-parts (commonRules f work) (ceilingReason (ask .ceiling .0) ∷ listReasons f (firstDue g ask) answer) h in
+    let low : ask .ceiling .0 ≤ 4096 = ltb-false 4096 (ask .ceiling .0) ceiling in
     let (file, table) = none-parts (rules f) (tableReason f work) common in
     let accepted : Accepted f = noneHolds-firstBroken (rules f) file in
     let room : 6 * states f ≤ work = ltb-false work (6 * states f) (table .0) in
     record {
       accepted = accepted;
       room = room;
-      fits = λ enough l least.
+      ceiling-low = low;
+      fits = λ enough l least within.
           let (xs, first, long) = roll-first g l least in
-          let due : firstDue g ask ≡ some xs = search-goes-on f accepted ask answer work room enough .1 ∙ first in
+          let due : firstDue g ask ≡ some xs =
+          search-goes-on f accepted ask answer work room low enough .1 ∙ ap (λ (rs : List (List ℕ)). head? rs) (roll-within g l (ask .ceiling .0) least within) ∙ first in
           let free : noRoom (some (edges xs)) answer ≡ false = sym (ap (λ (d : Option (List ℕ)). noRoom (lengthDue d) answer) due) ∙ list .1 .0 in
           omega (arith, ltb-false answer (edges xs + 1) free);
     }
@@ -156,8 +163,8 @@ passes-none : (f : List ℕ) (ask : Ask) (answer work : ℕ) → SearchPasses f 
     → NoneHolds (searchReasons f ask answer work)
 passes-none f ask answer work passes =
     elim (lt-or-ge (ask .allowance) (length (candidates (graphOf f)))) [
-      | inl less ↦ not-refused (search-stopped f (passes .accepted) ask answer work (passes .room) less)
-      | inr enough ↦ by-least enough (leastLength (graphOf f)) refl
+      | inl less ↦ not-refused (search-stopped f (passes .accepted) ask answer work (passes .room) (passes .ceiling-low) less)
+      | inr enough ↦ by-roll enough (roll-cut (graphOf f) (ask .ceiling .0))
     ]
   where
     not-refused : {s : Searched} {due : Option (List ℕ)} → SearchIs f ask answer work (answered s) due
@@ -166,12 +173,17 @@ passes-none f ask answer work passes =
         let reasons = searchReasons f ask answer work in
         clear-none reasons (answered-none (firstBroken reasons) (searched (graphOf f) ask) s (is .outcome-is))
 
-    by-least : length (candidates (graphOf f)) ≤ ask .allowance → (o : Option ℕ) → leastLength (graphOf f) ≡ o
+    none-there : length (candidates (graphOf f)) ≤ ask .allowance → rollWithin (graphOf f) (ask .ceiling .0) ≡ []
         → NoneHolds (searchReasons f ask answer work)
-    by-least enough none e = not-refused (search-empty f (passes .accepted) ask answer work (passes .room) enough e)
-    by-least enough (some l) e =
+    none-there enough q = not-refused (search-none f (passes .accepted) ask answer work (passes .room) (passes .ceiling-low) enough q)
+
+    by-roll : length (candidates (graphOf f)) ≤ ask .allowance → RollCut (graphOf f) (ask .ceiling .0)
+        → NoneHolds (searchReasons f ask answer work)
+    by-roll enough (no-path e q) = none-there enough q
+    by-roll enough (longer l e high q) = none-there enough q
+    by-roll enough (whole l e le q) =
         let (xs, first, long) = roll-first (graphOf f) l e in
-        not-refused (search-found f (passes .accepted) ask answer work (passes .room) enough xs first (omega (arith, passes .fits enough l e)))
+        not-refused (search-found f (passes .accepted) ask answer work (passes .room) (passes .ceiling-low) enough xs (ap (λ (rs : List (List ℕ)). head? rs) q ∙ first) (omega (arith, passes .fits enough l e le)))
 
 -- when no reason of a search holds
 pub passes-exactly : SearchPassesExactly
@@ -182,21 +194,22 @@ pub condition-2 : Condition2Holds
 condition-2 f ask a work h =
     let passes : SearchPasses f ask (length a) work = noneHolds-says f ask (length a) work h in
     record {
-      suffices = λ enough. by-least passes enough (leastLength (graphOf f)) refl;
+      suffices = λ enough. by-roll passes enough (roll-cut (graphOf f) (ask .ceiling .0));
       short = λ less.
-          let is = search-stopped f (passes .accepted) ask (length a) work (passes .room) less in
+          let is = search-stopped f (passes .accepted) ask (length a) work (passes .room) (passes .ceiling-low) less in
           record {
             stopped-with = is .outcome-is;
-            rounds-done = afterRounds-done (graphOf f) (ask .allowance);
+            rounds-done = afterRounds-done (graphOf f) (ask .ceiling .0) (ask .allowance);
             not-found = λ p. stopped-found (sym (is .outcome-is) ∙ p .3);
-            not-empty = λ p. stopped-empty (sym (is .outcome-is) ∙ p .1);
+            not-none = λ p. stopped-none (sym (is .outcome-is) ∙ p .1);
             unwritten = call-answer a is;
           };
     }
   where
-    by-least : SearchPasses f ask (length a) work → length (candidates (graphOf f)) ≤ ask .allowance → (o : Option ℕ)
-        → leastLength (graphOf f) ≡ o → Searches f ask a work
-    by-least passes enough none e = searches-none f (passes .accepted) ask a work (passes .room) enough e
-    by-least passes enough (some l) e =
+    by-roll : SearchPasses f ask (length a) work → length (candidates (graphOf f)) ≤ ask .allowance
+        → RollCut (graphOf f) (ask .ceiling .0) → Searches f ask a work
+    by-roll passes enough (no-path e q) = searches-none f (passes .accepted) ask a work (passes .room) (passes .ceiling-low) enough q
+    by-roll passes enough (longer l e high q) = searches-none f (passes .accepted) ask a work (passes .room) (passes .ceiling-low) enough q
+    by-roll passes enough (whole l e le q) =
         let (xs, first, long) = roll-first (graphOf f) l e in
-        searches-some f (passes .accepted) ask a work (passes .room) enough xs first (omega (arith, passes .fits enough l e))
+        searches-some f (passes .accepted) ask a work (passes .room) (passes .ceiling-low) enough xs first q (omega arith) (omega (arith, passes .fits enough l e le))

@@ -9,14 +9,15 @@ use lib.ListN.{length, take, drop}
 use lib.Seq.{take-append-seam}
 use Rattle.lasso.specs.Lists.{pick}
 use Rattle.lasso.specs.Graph.{Graph, edges, loopStart}
-use Rattle.lasso.specs.Roll.{roll}
+use Rattle.lasso.specs.Roll.{roll, rollWithin}
 use Rattle.lasso.specs.Rounds.{Record, candidates, afterRounds}
 use Rattle.lasso.specs.Following.{following}
 use Rattle.lasso.proofs.Tests.{head-mem}
 use Rattle.lasso.proofs.OrderLaws.{following-mem}
 use Rattle.lasso.proofs.RollLaws.{accepting-lasso, lasso-edges, in-roll}
+use Rattle.lasso.proofs.CeilingLaws.{within-roll}
 use Rattle.format.specs.Rules.{Reason, firstBroken, Accepted}
-use Rattle.gate.specs.Gate.{commonRules}
+use Rattle.gate.specs.Gate.{commonRules, ceilingReason}
 use Rattle.gate.proofs.GateLaws.{common-clear, clear-common}
 use Rattle.model.specs.Model.{graphOf}
 use Rattle.model.proofs.Laws.{accepted-well-formed}
@@ -79,6 +80,17 @@ search-found-in (xs ∷ rest) false rec n L k rounds e = record {
   in-rs = head-mem (xs ∷ rest) xs refl;
   length-is = cc;
   start-is = cc;
+}
+
+-- a list of the roll within a ceiling is one of the roll
+found-whole : (g : Graph) (ceiling : ℕ) {due : Option (List ℕ)} {L k : ℕ} → FoundIn (rollWithin g ceiling) due L k
+    → FoundIn (roll g) due L k
+found-whole g ceiling F = record {
+  list = F .list;
+  due-is = F .due-is;
+  in-rs = within-roll g ceiling (F .list) (F .in-rs);
+  length-is = F .length-is;
+  start-is = F .start-is;
 }
 
 -- a next that answers "found" has found a list of the roll
@@ -161,8 +173,9 @@ found-is-shortest = record {
       let due : Option (List ℕ) = firstDue g ask in
       let reasons : List Reason = searchReasons f ask (length a) work in
       let clear = answered-none (firstBroken reasons) _ _ e in
-      let accepted = passed-accepted f work (listReasons f due (length a)) clear in
-      let found = search-found-in (roll g) (stopsb g (ask .allowance)) (afterRounds g (ask .allowance)) (length (candidates g)) L k rounds (answered-is (firstBroken reasons) _ _ e) in
+      let accepted = passed-accepted f work (ceilingReason (ask .ceiling .0) ∷ listReasons f due (length a)) clear in
+      let within = search-found-in (rollWithin g (ask .ceiling .0)) (stopsb g (ask .allowance)) (afterRounds g (ask .ceiling .0) (ask .allowance)) (length (candidates g)) L k rounds (answered-is (firstBroken reasons) _ _ e) in
+      let found : FoundIn (roll g) due L k = found-whole g (ask .ceiling .0) within in
       subst (λ (o : Option ℕ). GradedShortest f (take (L + 1) (written (unlessRefused o due) a)) k) (sym clear) (found-graded f accepted due a L k found);
   next = λ f earlier a work L k e.
       let g : Graph = graphOf f in

@@ -10,26 +10,31 @@ use Rattle.lasso.specs.Rounds.{Record}
 use Rattle.gate.specs.declared.Ask.{Ask}
 use Rattle.format.specs.Rules.{Reason}
 use Rattle.outcomes.specs.Outcome.{Outcome, refused, answered}
-use Rattle.step.specs.Step.{stepOutcome}
+use Rattle.step.specs.Step.{stepReasons, stepOutcome}
 use Rattle.search.specs.Search.{searchReasons, searchOutcome, searchAnswer}
 use Rattle.next.specs.Next.{nextReasons, nextOutcome, nextAnswer}
 use Rattle.grader.specs.Grade.{gradeOutcome}
+use Rattle.distances.specs.Distances.{distanceReasons, distancesOutcome, distancesOutput}
 use Rattle.combine.specs.Combine.{combineReasons, combineOutcome, combineOutput}
 use Rattle.gate.specs.Gate.{commonRules, workOf}
 use Rattle.conditions.specs.Reasons.{numbersOf, NoneHolds, FirstHolds}
 
--- the numbers of the reasons that each call applies: a step and the grader go no further than 12, a search skips 13
+-- the numbers of the reasons that each call applies: a step, a search and a distance call apply 21 behind 12, a search
+-- skips 13, the grader goes no further than 12
 abbrev pub stepNumbers : List ℕ
-stepNumbers = upFrom 1 12
+stepNumbers = upFrom 1 12 ++ 21 ∷ []
 
 abbrev pub searchNumbers : List ℕ
-searchNumbers = upFrom 1 12 ++ 14 ∷ 15 ∷ []
+searchNumbers = upFrom 1 12 ++ 21 ∷ 14 ∷ 15 ∷ []
 
 abbrev pub nextNumbers : List ℕ
 nextNumbers = upFrom 1 15
 
 abbrev pub gradeNumbers : List ℕ
 gradeNumbers = upFrom 1 12
+
+abbrev pub distanceNumbers : List ℕ
+distanceNumbers = upFrom 1 12 ++ 21 ∷ 15 ∷ []
 
 -- a combination applies 1 to 11 to its rule, then 16, 17 and 18, last 15
 abbrev pub combineNumbers : List ℕ
@@ -56,9 +61,9 @@ pub record WorkLeft {A : Type 0} (o : Outcome A) (w w' : List ℕ) : Type 0 wher
   pub zero-answered : (x : A) → o ≡ answered x → w' ≡ replicate (length w) 0
 
 -- a step, which is lent no answer table
-pub record StepCondition1 (f : List ℕ) (rec : Record) (w : List ℕ) : Type 0 where
-  pub refuses : Refuses (commonRules f (length w)) stepNumbers (stepOutcome f rec (length w))
-  pub work : WorkLeft (stepOutcome f rec (length w)) w (workOf f w)
+pub record StepCondition1 (f : List ℕ) (ceiling : ℕ) (rec : Record) (w : List ℕ) : Type 0 where
+  pub refuses : Refuses (stepReasons f ceiling (length w)) stepNumbers (stepOutcome f ceiling rec (length w))
+  pub work : WorkLeft (stepOutcome f ceiling rec (length w)) w (workOf f w)
 
 -- a search
 pub record SearchCondition1 (f : List ℕ) (ask : Ask) (a w : List ℕ) : Type 0 where
@@ -79,6 +84,14 @@ pub record GradeCondition1 (f xs : List ℕ) (k : ℕ) (w : List ℕ) : Type 0 w
   pub refuses : Refuses (commonRules f (length w)) gradeNumbers (gradeOutcome f xs k (length w))
   pub work : WorkLeft (gradeOutcome f xs k (length w)) w (workOf f w)
 
+-- a distance call, which is lent an output and a working table
+pub record DistancesCondition1 (f : List ℕ) (ceiling : ℕ) (output w : List ℕ) : Type 0 where
+  pub refuses : Refuses (distanceReasons f ceiling (length output) (length w)) distanceNumbers
+      (distancesOutcome f ceiling (length output) (length w))
+  pub kept : AnswerKept (distancesOutcome f ceiling (length output) (length w)) output
+      (distancesOutput f ceiling output (length w))
+  pub work : WorkLeft (distancesOutcome f ceiling (length output) (length w)) w (workOf f w)
+
 -- a combination, which is lent an output and no tables
 pub record CombineCondition1 (f letters p output : List ℕ) : Type 0 where
   pub refuses : Refuses (combineReasons f letters p (length output)) combineNumbers
@@ -87,8 +100,9 @@ pub record CombineCondition1 (f letters p output : List ℕ) : Type 0 where
 
 -- condition 1: for every call, whatever is given and lent
 pub record Condition1Holds : Type 0 where
-  pub step : (f : List ℕ) (rec : Record) (w : List ℕ) → StepCondition1 f rec w
+  pub step : (f : List ℕ) (ceiling : ℕ) (rec : Record) (w : List ℕ) → StepCondition1 f ceiling rec w
   pub search : (f : List ℕ) (ask : Ask) (a w : List ℕ) → SearchCondition1 f ask a w
   pub next : (f earlier a w : List ℕ) → NextCondition1 f earlier a w
   pub grade : (f xs : List ℕ) (k : ℕ) (w : List ℕ) → GradeCondition1 f xs k w
+  pub distances : (f : List ℕ) (ceiling : ℕ) (output w : List ℕ) → DistancesCondition1 f ceiling output w
   pub combine : (f letters p output : List ℕ) → CombineCondition1 f letters p output

@@ -10,22 +10,20 @@ use Rattle.lasso.specs.Graph.{Graph, edges, loopsb, acceptingb}
 use Rattle.lasso.specs.Order.{beforeb}
 use Rattle.lasso.specs.Roll.{leastLength}
 use Rattle.lasso.specs.Rounds.{Record, candidates, afterRounds}
+use Rattle.lasso.specs.Ceiling.{PathWithin}
 use Rattle.gate.specs.declared.Ask.{Ask}
 use Rattle.format.specs.Layout.{states}
 use Rattle.model.specs.Model.{graphOf}
 use Rattle.format.specs.Rules.{Accepted}
 use Rattle.outcomes.specs.Outcome.{answered}
-use Rattle.search.specs.Search.{Searched, stopped, empty, searchReasons, searchOutcome, searchAnswer}
+use Rattle.search.specs.Search.{Searched, stopped, noneWithin, searchReasons, searchOutcome, searchAnswer}
 use Rattle.conditions.specs.Reasons.{NoneHolds}
 
--- an accepting path exists
-abbrev pub SomePath : Graph → Type 0
-SomePath g = (ys : List ℕ) × T (acceptingb g ys)
-
--- the first of the shortest accepting paths: no accepting path is shorter, and every other one of the same length comes
--- after it in dictionary order
-pub record FirstShortest (g : Graph) (xs : List ℕ) : Type 0 where
+-- the first of the shortest accepting paths: it is not longer than the ceiling, no accepting path is shorter, and every
+-- other one of the same length comes after it in dictionary order
+pub record FirstShortest (g : Graph) (ceiling : ℕ) (xs : List ℕ) : Type 0 where
   pub accepting : T (acceptingb g xs)
+  pub within : edges xs ≤ ceiling
   pub shortest : (ys : List ℕ) → T (acceptingb g ys) → edges xs ≤ edges ys
   pub first : (ys : List ℕ) → T (acceptingb g ys) → edges ys ≡ edges xs → (ys ≡ xs → ⊥) → T (beforeb xs ys)
 
@@ -33,9 +31,9 @@ pub record FirstShortest (g : Graph) (xs : List ℕ) : Type 0 where
 abbrev pub IsFound : List ℕ → Ask → List ℕ → ℕ → ℕ → ℕ → ℕ → Type 0
 IsFound f ask a work L k rounds = searchOutcome f ask (length a) work ≡ answered (Searched.found L k rounds)
 
--- the answer is "empty" (rounds)
-abbrev pub IsEmpty : List ℕ → Ask → List ℕ → ℕ → ℕ → Type 0
-IsEmpty f ask a work rounds = searchOutcome f ask (length a) work ≡ answered (empty rounds)
+-- the answer is "none within the ceiling" (rounds)
+abbrev pub IsNoneWithin : List ℕ → Ask → List ℕ → ℕ → ℕ → Type 0
+IsNoneWithin f ask a work rounds = searchOutcome f ask (length a) work ≡ answered (noneWithin rounds)
 
 -- the answer is "stopped" with a record
 abbrev pub IsStopped : List ℕ → Ask → List ℕ → ℕ → Record → Type 0
@@ -45,16 +43,16 @@ IsStopped f ask a work r = searchOutcome f ask (length a) work ≡ answered (sto
 abbrev pub Finds : List ℕ → Ask → List ℕ → ℕ → Type 0
 Finds f ask a work = (L : ℕ) × (k : ℕ) × (rounds : ℕ) × IsFound f ask a work L k rounds
 
--- the answer is "empty", with some figure
-abbrev pub Empties : List ℕ → Ask → List ℕ → ℕ → Type 0
-Empties f ask a work = (rounds : ℕ) × IsEmpty f ask a work rounds
+-- the answer is "none within the ceiling", with some figure
+abbrev pub FindsNone : List ℕ → Ask → List ℕ → ℕ → Type 0
+FindsNone f ask a work = (rounds : ℕ) × IsNoneWithin f ask a work rounds
 
 -- what "found" (L, k, rounds) says: the first of the shortest accepting paths stands in entries 0 to L of the answer
 -- table, and what lies past them is as before; from k on, which is below L, it is a closed walk with a mark; and all
 -- rounds are done
 pub record FoundSays (f : List ℕ) (ask : Ask) (a : List ℕ) (work L k rounds : ℕ) : Type 0 where
   pub list : List ℕ
-  pub first-shortest : FirstShortest (graphOf f) list
+  pub first-shortest : FirstShortest (graphOf f) (ask .ceiling .0) list
   pub length-is : edges list ≡ L
   pub entries-are : length list ≡ L + 1
   pub fits : L + 1 ≤ length a
@@ -63,28 +61,29 @@ pub record FoundSays (f : List ℕ) (ask : Ask) (a : List ℕ) (work L k rounds 
   pub loops : T (loopsb (graphOf f) list k)
   pub rounds-are : rounds ≡ length (candidates (graphOf f))
 
--- what "empty" (rounds) says: nothing is written, and all rounds are done
-pub record EmptySays (f : List ℕ) (ask : Ask) (a : List ℕ) (work rounds : ℕ) : Type 0 where
+-- what "none within the ceiling" (rounds) says: nothing is written, and all rounds are done
+pub record NoneSays (f : List ℕ) (ask : Ask) (a : List ℕ) (work rounds : ℕ) : Type 0 where
   pub unwritten : searchAnswer f ask a work ≡ a
   pub rounds-are : rounds ≡ length (candidates (graphOf f))
 
--- with an allowance not below the number of candidates: the answer is "found" or "empty" and not "stopped"; "found"
--- exactly if an accepting path exists, "empty" exactly if none does
+-- with an allowance not below the number of candidates: the answer is "found" or "none within the ceiling" and not
+-- "stopped"; "found" exactly if an accepting path not longer than the ceiling exists, "none within the ceiling" exactly if
+-- no accepting path has that length or less
 pub record Searches (f : List ℕ) (ask : Ask) (a : List ℕ) (work : ℕ) : Type 0 where
-  pub answers : Finds f ask a work ⊎ Empties f ask a work
+  pub answers : Finds f ask a work ⊎ FindsNone f ask a work
   pub not-stopped : (r : Record) → IsStopped f ask a work r → ⊥
-  pub found-exactly : Finds f ask a work ↔ SomePath (graphOf f)
+  pub found-exactly : Finds f ask a work ↔ PathWithin (graphOf f) (ask .ceiling .0)
   pub found-says : (L k rounds : ℕ) → IsFound f ask a work L k rounds → FoundSays f ask a work L k rounds
-  pub empty-exactly : Empties f ask a work ↔ (SomePath (graphOf f) → ⊥)
-  pub empty-says : (rounds : ℕ) → IsEmpty f ask a work rounds → EmptySays f ask a work rounds
+  pub none-exactly : FindsNone f ask a work ↔ (PathWithin (graphOf f) (ask .ceiling .0) → ⊥)
+  pub none-says : (rounds : ℕ) → IsNoneWithin f ask a work rounds → NoneSays f ask a work rounds
 
--- with a smaller allowance: "stopped" with the record after that many rounds, claiming neither "found" nor "empty", and
--- nothing is written
+-- with a smaller allowance: "stopped" with the record after that many rounds, claiming neither "found" nor "none within the
+-- ceiling", and nothing is written
 pub record Stops (f : List ℕ) (ask : Ask) (a : List ℕ) (work : ℕ) : Type 0 where
-  pub stopped-with : IsStopped f ask a work (afterRounds (graphOf f) (ask .allowance))
-  pub rounds-done : afterRounds (graphOf f) (ask .allowance) .done ≡ ask .allowance
+  pub stopped-with : IsStopped f ask a work (afterRounds (graphOf f) (ask .ceiling .0) (ask .allowance))
+  pub rounds-done : afterRounds (graphOf f) (ask .ceiling .0) (ask .allowance) .done ≡ ask .allowance
   pub not-found : Finds f ask a work → ⊥
-  pub not-empty : Empties f ask a work → ⊥
+  pub not-none : FindsNone f ask a work → ⊥
   pub unwritten : searchAnswer f ask a work ≡ a
 
 -- a search: by whether the allowance suffices
@@ -92,13 +91,14 @@ pub record Condition2 (f : List ℕ) (ask : Ask) (a : List ℕ) (work : ℕ) : T
   pub suffices : length (candidates (graphOf f)) ≤ ask .allowance → Searches f ask a work
   pub short : ask .allowance < length (candidates (graphOf f)) → Stops f ask a work
 
--- what it says that no reason of a search holds: the file breaks none of 1 to 11, the working table has 6 × N entries, and
--- the answer table has L + 1 entries if a list is to be written
+-- what it says that no reason of a search holds: the file breaks none of 1 to 11, the working table has 6 × N entries, the
+-- ceiling is at most 4,096, and the answer table has L + 1 entries if a list is to be written
 pub record SearchPasses (f : List ℕ) (ask : Ask) (answer work : ℕ) : Type 0 where
   pub accepted : Accepted f
   pub room : 6 * states f ≤ work
+  pub ceiling-low : ask .ceiling .0 ≤ 4096
   pub fits : length (candidates (graphOf f)) ≤ ask .allowance
-      → (l : ℕ) → leastLength (graphOf f) ≡ some l → l + 1 ≤ answer
+      → (l : ℕ) → leastLength (graphOf f) ≡ some l → l ≤ ask .ceiling .0 → l + 1 ≤ answer
 
 -- no reason of a search holds exactly if that is so
 abbrev pub SearchPassesExactly : Type 0
@@ -106,7 +106,8 @@ SearchPassesExactly =
     (f : List ℕ) (ask : Ask) (answer work : ℕ)
     → NoneHolds (searchReasons f ask answer work) ↔ SearchPasses f ask answer work
 
--- condition 2: for every search, whatever its file, allowance, answer table and working table, for which no reason holds
+-- condition 2: for every search, whatever its file, ceiling, allowance, answer table and working table, for which no reason
+-- holds
 abbrev pub Condition2Holds : Type 0
 Condition2Holds =
     (f : List ℕ) (ask : Ask) (a : List ℕ) (work : ℕ) → NoneHolds (searchReasons f ask (length a) work)

@@ -28,33 +28,42 @@ use table::put;
 // An allowance that suffices for every model: the rounds are never stopped.
 pub const ALL_ROUNDS: u16 = 65535;
 
+// A ceiling that no model's shortest accepting path is above: under it the rounds are those of the whole model.
+pub const FULL_CEILING: u16 = 4096;
+
 // What the rounds come to: stopped with the record, or all done, with the length of the shortest accepting paths, if
-// there is one, and the number of rounds.
+// there is one within the ceiling, and the number of rounds.
 pub enum Begun {
     Stopped(RoundRecord),
-    Empty(u16),
+    NoneWithin(u16),
     Length(Transitions, u16),
 }
 
-// Does the rounds that the allowance admits.
-pub fn begin(file: &[u8], h: Header, allowance: u16, work: &mut [u16]) -> Begun
+// Does the rounds under a ceiling that the allowance admits.
+pub fn begin(
+    file: &[u8],
+    h: Header,
+    ceiling: Transitions,
+    allowance: u16,
+    work: &mut [u16],
+) -> Begun
     requires { ⌜ Valid (now file) h ⌝ }
     requires { ⌜ 6 * h .states ≤ lib.ListN.length (now work) ⌝ }
-    ensures says { λ r. ⌜ BegunSays (graphIn (now (file .entry)) h) allowance r ⌝ }
+    ensures says { λ r. ⌜ BegunSays (graphIn (now (file .entry)) h) (ceiling .0) allowance r ⌝ }
     ensures ready { λ _. ⌜ RoundsReady (now (file .entry)) h (now (work .exit)) ⌝ }
     ensures kept { λ _. ⌜ lib.ListN.length (now (work .exit)) ≡ lib.ListN.length (now (work .entry)) ⌝ }
 {
     start_distances(file, h, work);
     let count = count_candidates(file, h, work);
     let allowed = allowance as usize;
-    let record = run_rounds(file, h, work, allowed);
+    let record = run_rounds(file, h, work, ceiling, allowed);
     if allowed < count {
         return Begun::Stopped(record);
     }
     let rounds = record.done;
     let best = record.best;
     match best {
-        Best::None => Begun::Empty(rounds),
+        Best::None => Begun::NoneWithin(rounds),
         Best::Length(length) => Begun::Length(length, rounds),
     }
 }

@@ -1,24 +1,24 @@
--- The program's tables suffice for every file: 12, 14 and 15 never hold.
+-- The program's tables suffice for every file, and its ceiling is not too high: 12, 21, 14 and 15 never hold.
 use Prim.Native.Nat.{ℕ, _*_, _≤_}
-use mathlib.Core.Path.{_≡_, refl, sym, _∙_}
-use mathlib.Core.List.{List}
+use mathlib.Core.Path.{_≡_, refl, sym, _∙_, ap}
+use mathlib.Core.List.{List, _∷_, head?}
 use mathlib.Core.Option.{Option, some, none}
 use native.Mathlib.Omega.{arith}
 use Rattle.lasso.specs.Roll.{leastLength}
-use Rattle.lasso.proofs.RollLaws.{leastLength-range}
+use Rattle.lasso.proofs.RollLaws.{leastLength-range, roll-empty}
 use Rattle.text.specs.Decimal.{decimal}
 use Rattle.format.specs.Layout.{states}
 use Rattle.model.specs.Model.{graphOf}
 use Rattle.format.specs.Rules.{rules, firstBroken, Accepted}
 use Rattle.model.proofs.Laws.{accepted-facts}
-use Rattle.gate.specs.Gate.{commonRules}
+use Rattle.gate.specs.Gate.{commonRules, ceilingReason}
 use Rattle.outcomes.specs.Tables.{listReasons}
 use Rattle.search.specs.Search.{searched, firstDue}
-use Rattle.search.proofs.SearchLaws.{search-empty, search-found, roll-first}
+use Rattle.search.proofs.SearchLaws.{search-none, search-found, roll-first}
 use Rattle.format.proofs.Reasons.{broken-append, broken-number}
 use Rattle.gate.proofs.GateLaws.{common-refused}
 use Rattle.sheet_text.specs.SheetText.{sheetAsk}
-use Rattle.sheet_text.proofs.SheetLaws.{outcome-answered, enough-rounds}
+use Rattle.sheet_text.proofs.SheetLaws.{outcome-answered, enough-rounds, whole-roll}
 use Rattle.desk.specs.Desk.{answerEntries, workEntries, inputRefusal}
 use Rattle.desk.specs.Sizes.{OnlyTheFileRefuses, RefusedUpToEleven, EmptyRefused}
 
@@ -33,19 +33,21 @@ module _ (f : List ℕ) (accepted : Accepted f) where
     where
       go : (o : Option ℕ) → leastLength (graphOf f) ≡ o → inputRefusal f ≡ none
       go none e =
-          let is = search-empty f accepted sheetAsk answerEntries workEntries work-enough (enough-rounds f accepted answerEntries workEntries work-enough) e in
+          let none-left = whole-roll f accepted answerEntries workEntries work-enough ∙ roll-empty (graphOf f) .1 e in
+          let is = search-none f accepted sheetAsk answerEntries workEntries work-enough (omega arith) (enough-rounds f accepted answerEntries workEntries work-enough) none-left in
           outcome-answered (inputRefusal f) (searched (graphOf f) sheetAsk) _ (is .outcome-is)
       go (some l) e =
           let facts = accepted-facts f accepted in
           let (xs, first, long) = roll-first (graphOf f) l e in
-          let is = search-found f accepted sheetAsk answerEntries workEntries work-enough (enough-rounds f accepted answerEntries workEntries work-enough) xs first
+          let is = search-found f accepted sheetAsk answerEntries workEntries work-enough (omega arith) (enough-rounds f accepted answerEntries workEntries work-enough) xs
+          (ap (λ (rs : List (List ℕ)). head? rs) (whole-roll f accepted answerEntries workEntries work-enough) ∙ first)
           (omega (arith, leastLength-range (graphOf f) l e, facts .states-range)) in
           outcome-answered (inputRefusal f) (searched (graphOf f) sheetAsk) _ (is .outcome-is)
 
 -- a refused file is refused with its own number
 input-refused : (f : List ℕ) (n : ℕ) → firstBroken (rules f) ≡ some n → inputRefusal f ≡ some n
 input-refused f n e =
-    broken-append (commonRules f workEntries) (listReasons f (firstDue (graphOf f) sheetAsk) answerEntries) n (common-refused f workEntries n e)
+    broken-append (commonRules f workEntries) (ceilingReason (sheetAsk .ceiling .0) ∷ listReasons f (firstDue (graphOf f) sheetAsk) answerEntries) n (common-refused f workEntries n e)
 
 -- an input is refused exactly as its file is
 pub only-the-file-refuses : OnlyTheFileRefuses

@@ -1,4 +1,5 @@
-// What the calls must answer, from what the exhaustive search found.
+// What the calls must answer, from what the exhaustive search found. Under a ceiling that is what it found among the
+// accepting paths up to the ceiling.
 ghost use Prim.Native.Nat.{_≤_};
 use crate::digits::digit;
 use crate::digits::front;
@@ -10,8 +11,8 @@ use harness::NEXT_FOUND;
 use harness::NEXT_NO_MORE;
 use harness::NEXT_REFUSED;
 use harness::NO_LENGTH;
-use harness::SEARCH_EMPTY;
 use harness::SEARCH_FOUND;
+use harness::SEARCH_NONE_WITHIN;
 use harness::SEARCH_REFUSED;
 use harness::SEARCH_STOPPED;
 use harness::STEP_ADVANCED;
@@ -63,7 +64,7 @@ fn best_after(t: Truth, count: usize) -> u64 {
 }
 
 // An answer that writes no list.
-fn plain(kind: u64, first: u64, second: u64) -> Seen {
+pub fn plain(kind: u64, first: u64, second: u64) -> Seen {
     Seen {
         code: code_of(kind, first, second, 0),
         list: 0,
@@ -113,7 +114,7 @@ pub fn of_search(t: Truth, roll: &[u64], allowance: u16, space: usize, short: bo
         return plain(SEARCH_STOPPED, count as u64, best_after(t, count));
     }
     if t.least == 0 {
-        return plain(SEARCH_EMPTY, rounds(t) as u64, 0);
+        return plain(SEARCH_NONE_WITHIN, rounds(t) as u64, 0);
     }
     if space <= t.least {
         return plain(SEARCH_REFUSED, 15, 0);

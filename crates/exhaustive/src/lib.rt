@@ -1,12 +1,13 @@
 // A search written apart, which shares nothing with the finder but the bytes of the file: small models as sets in one
-// number, their files, all their accepting paths, found by following every path without repeated states, and what the
-// calls must answer.
+// number, their files, all their accepting paths, found by following every path without repeated states, their
+// distances, found by sweeps over all edges, and what the calls must answer.
 mod digits;
 mod expected;
 mod files;
 mod lists;
 mod models;
 mod search;
+mod sweeps;
 
 pub use digits::and;
 pub use digits::digit;
@@ -31,3 +32,6 @@ pub use models::how_many;
 pub use models::numbered;
 pub use search::Truth;
 pub use search::explore;
+pub use search::explore_within;
+pub use sweeps::distances;
+pub use sweeps::of_distances;

@@ -13,8 +13,9 @@ use crate::models::explicit;
 use crate::models::has_edge;
 use crate::models::successors;
 
-// What the search finds in a model: the least length of an accepting path (0 if there is none), how many have it, the
-// least length for each state that the loop may hold (one digit each, 0 if there is none), and the candidates.
+// What the search finds in a model among the accepting paths up to a ceiling: the least length of one (0 if there is
+// none), how many have it, the least length for each state that the loop may hold (one digit each, 0 if there is none);
+// and the candidates of the model.
 pub struct Truth {
     pub states: usize,
     pub least: usize,
@@ -144,9 +145,13 @@ fn kept(t: Truth, list: u64, count: usize, lengths: u64, roll: &mut [u64]) -> Tr
     }
 }
 
-// What is known after the trail's next state has been tried as a way back.
-fn closed(m: Model, trail: Trail, t: Truth, roll: &mut [u64]) -> Truth {
+// What is known after the trail's next state has been tried as a way back. A path that is longer than the ceiling is
+// not there.
+fn closed(m: Model, ceiling: usize, trail: Trail, t: Truth, roll: &mut [u64]) -> Truth {
     let count = trail.count;
+    if ceiling < count {
+        return t;
+    }
     let next = trail.next;
     let list = trail.list;
     if !holds(trail.passed, next) {
@@ -183,14 +188,17 @@ fn left(trail: Trail) -> Trail {
     }
 }
 
-// The trail after one more turn of the enumeration.
-fn moved(m: Model, trail: Trail) -> Trail {
+// The trail after one more turn of the enumeration. One that has more states than the ceiling has transitions is left.
+fn moved(m: Model, ceiling: usize, trail: Trail) -> Trail {
     let count = trail.count;
     let next = trail.next;
     if 7 < next {
         return left(trail);
     }
     if 15 < count {
+        return left(trail);
+    }
+    if ceiling < count {
         return left(trail);
     }
     if has_edge(m, digit(trail.list, 0), next) && !holds(trail.passed, next) {
@@ -230,10 +238,10 @@ fn start(m: Model) -> Trail {
     }
 }
 
-// Follows all paths of a model whose steps are all edges, in dictionary order among those of one length; the shortest
-// accepting ones go to the roll. It has far more turns than it needs; should they not be enough, it answers more lists than
-// the roll has room for.
-fn follow_all(m: Model, roll: &mut [u64]) -> Truth {
+// Follows all paths up to a ceiling of a model whose steps are all edges, in dictionary order among those of one
+// length; the shortest accepting ones go to the roll. It has far more turns than it needs; should they not be enough, it
+// answers more lists than the roll has room for.
+fn follow_all(m: Model, ceiling: usize, roll: &mut [u64]) -> Truth {
     let mut trail = start(m);
     let mut t = nothing(m);
     let mut turns: usize = 0;
@@ -241,8 +249,8 @@ fn follow_all(m: Model, roll: &mut [u64]) -> Truth {
         if trail.count == 0 {
             return t;
         }
-        t = closed(m, trail, t, roll);
-        trail = moved(m, trail);
+        t = closed(m, ceiling, trail, t, roll);
+        trail = moved(m, ceiling, trail);
         turns += 1;
     }
     Truth {
@@ -254,7 +262,13 @@ fn follow_all(m: Model, roll: &mut [u64]) -> Truth {
     }
 }
 
-// Follows all paths of a model, along its edges and its implied steps; the shortest accepting ones go to the roll.
+// Follows all paths of a model up to a ceiling, along its edges and its implied steps; the shortest accepting ones go
+// to the roll.
+pub fn explore_within(m: Model, ceiling: usize, roll: &mut [u64]) -> Truth {
+    follow_all(explicit(m), ceiling, roll)
+}
+
+// Follows all paths of a model: all are shorter than this ceiling.
 pub fn explore(m: Model, roll: &mut [u64]) -> Truth {
-    follow_all(explicit(m), roll)
+    explore_within(m, 4096, roll)
 }

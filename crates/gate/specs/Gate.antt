@@ -1,4 +1,4 @@
--- The reasons 1 to 12, which every call applies, and the working table after a call.
+-- The reasons 1 to 12, which every call applies, reason 21, and the working table after a call.
 use Prim.Native.Nat.{ℕ, _*_, _≤_}
 use mathlib.Core.Path.{_≡_}
 use mathlib.Core.Bool.{Bool}
@@ -14,9 +14,9 @@ use Rattle.model.specs.declared.Header.{Header}
 use Rattle.model.specs.declared.Checked.{Checked}
 use Rattle.model.specs.declared.Checked.the-variants.{Refused, Accept}
 
--- what a call asks that names this allowance
-abbrev pub asking : ℕ → Ask
-asking allowance = record { allowance = allowance }
+-- what a search asks that names this ceiling and this allowance
+abbrev pub asking : (ceiling allowance : ℕ) → Ask
+asking ceiling allowance = record { ceiling = record { 0 = ceiling }; allowance = allowance }
 
 -- 12. the working table has fewer than 6 × N entries
 abbrev pub smallTable : List ℕ → ℕ → Bool

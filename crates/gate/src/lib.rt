@@ -8,8 +8,10 @@ use model::Checked;
 use model::check;
 use table::clear;
 
-// What a call names beside the file and the tables: the rounds that a search is allowed.
+// What a search names beside the file and the tables: the length that no list may exceed, and the rounds that it is
+// allowed.
 pub struct Ask {
+    pub ceiling: Transitions,
     pub allowance: u16,
 }
 

@@ -44,7 +44,7 @@ pub fn search(file: &[u8], table: &mut Table, states: usize) -> u64
     requires { ⌜ states ≤ 7 ⌝ }
 {
     let mut work = [0u16; 48];
-    trials::search(file, 65535, table, 8, &mut work, 6 * states)
+    trials::search(file, 4096, 65535, table, 8, &mut work, 6 * states)
 }
 
 // Next after the list in the table, which an answer brought.

@@ -14,10 +14,12 @@ ghost use Rattle.gate.specs.Gate.{workOf};
 ghost use Rattle.grader.specs.Grade.{acceptsAt, leastb, verdict, verdictOf, gradeOutcomeOf, gradeOutcome};
 use cursor::ALL_ROUNDS;
 use cursor::Begun;
+use cursor::FULL_CEILING;
 use cursor::begin;
 use gate::enter;
 use gate::leave;
 use lasso::Entries;
+use lasso::Transitions;
 use model::Checked;
 use model::Header;
 use paths::FirstBreak;
@@ -96,10 +98,10 @@ fn is_least(file: &[u8], h: Header, list: &[u16], work: &mut [u16]) -> bool
     ensures tells { λ r. ⌜ r ≡ leastb (leastLength (graphIn (now (file .entry)) h)) (edges (now (list .entry))) ⌝ }
     ensures kept { λ _. ⌜ length (now (work .exit)) ≡ length (now (work .entry)) ⌝ }
 {
-    let begun = begin(file, h, ALL_ROUNDS, work);
+    let begun = begin(file, h, Transitions(FULL_CEILING), ALL_ROUNDS, work);
     match begun {
         Begun::Stopped(_) => false,
-        Begun::Empty(_) => false,
+        Begun::NoneWithin(_) => false,
         Begun::Length(length, _) => {
             let entries = length.entries();
             let given = Entries(list.len());

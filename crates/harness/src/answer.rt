@@ -9,7 +9,7 @@ pub const STEP_REFUSED: u64 = 2;
 
 pub const SEARCH_FOUND: u64 = 4;
 
-pub const SEARCH_EMPTY: u64 = 5;
+pub const SEARCH_NONE_WITHIN: u64 = 5;
 
 pub const SEARCH_STOPPED: u64 = 6;
 
@@ -20,6 +20,10 @@ pub const NEXT_FOUND: u64 = 9;
 pub const NEXT_NO_MORE: u64 = 10;
 
 pub const NEXT_REFUSED: u64 = 11;
+
+pub const DISTANCES_WRITTEN: u64 = 13;
+
+pub const DISTANCES_REFUSED: u64 = 14;
 
 // The figure of no best length: more than every length.
 pub const NO_LENGTH: u64 = 65536;
@@ -70,7 +74,7 @@ pub fn refusal_of(code: u64) -> usize
     ensures { λ r. ⌜ r ≤ 131071 ⌝ }
 {
     match kind_of(code) {
-        2 | 7 | 11 => first_of(code),
+        2 | 7 | 11 | 14 => first_of(code),
         _ => 0,
     }
 }
@@ -81,10 +85,13 @@ pub fn brings_list(code: u64) -> bool {
     kind == SEARCH_FOUND || kind == NEXT_FOUND
 }
 
-// The entries of the list that an answer brings, 0 for an answer that brings none.
+// The entries that were written: those of the list that an answer brings, or the distances; 0 for any other answer.
 pub fn written(code: u64) -> usize {
     if brings_list(code) {
         return first_of(code) + 1;
+    }
+    if kind_of(code) == DISTANCES_WRITTEN {
+        return first_of(code);
     }
     0
 }

@@ -6,12 +6,14 @@ mod print;
 mod reading;
 mod tables;
 
+pub use answer::DISTANCES_REFUSED;
+pub use answer::DISTANCES_WRITTEN;
 pub use answer::NEXT_FOUND;
 pub use answer::NEXT_NO_MORE;
 pub use answer::NEXT_REFUSED;
 pub use answer::NO_LENGTH;
-pub use answer::SEARCH_EMPTY;
 pub use answer::SEARCH_FOUND;
+pub use answer::SEARCH_NONE_WITHIN;
 pub use answer::SEARCH_REFUSED;
 pub use answer::SEARCH_STOPPED;
 pub use answer::STEP_ADVANCED;

@@ -1,6 +1,7 @@
 -- The laws of paths, lassos, distances and rounds, from tests and lists up.
 pub mod Tests
 pub mod Range
+pub mod BelowLaws
 pub mod Ascending
 pub mod Least
 pub mod UnderLaws
@@ -15,4 +16,5 @@ pub mod RollLaws
 pub mod PlaceByPlace
 pub mod Extend
 pub mod RoundLaws
+pub mod CeilingLaws
 pub mod ShownLaws

@@ -5,22 +5,25 @@ use mathlib.Core.Path.{_≡_, refl, sym, _∙_, ap, subst}
 use mathlib.Core.Logic.{inl, inr}
 use mathlib.Core.Bool.{Bool, true, false, _&&_}
 use mathlib.Core.List.{List, List·Memᴰ}
+use mathlib.Core.Option.{some}
 use native.Mathlib.Omega.{arith}
 use lib.ListN.{length, getD, take, length-take, length-drop}
 use lib.Seq.{getD-take, getD-drop, take-suc, take-length}
 use lib.Dec.{T}
 use Rattle.lasso.specs.Lists.{memb, keep, consIf, upFrom, below, isSome}
 use Rattle.lasso.specs.Graph.{Graph, WellFormed, edges, acceptingb, loopStart, loop}
+use Rattle.lasso.specs.Limit.{under}
 use Rattle.lasso.specs.Distance.{dist, distPlus}
 use Rattle.lasso.specs.Roll.{leastLength}
-use Rattle.lasso.specs.Rounds.{candidateb, candidates, sum, leastOf, roundLength, bestLength, afterRounds}
+use Rattle.lasso.specs.Rounds.{candidateb, candidates, sum, lesser, leastOf, roundLength, roundWithin, Record, bestLength, afterRound, afterRounds}
 use Rattle.lasso.proofs.Tests.{join, fst, memb-at, at-memb, memb-mem, mem-memb, keep-mem, mem-keep, below-lt, lt-below, lt-or-ge}
-use Rattle.lasso.proofs.Least.{IsLeast, isLeast-unique, Sums, OfEntry, isLeast-bounds, isLeast-iff, sum-least, leastOf-least, leastOf-append, lesser-none}
+use Rattle.lasso.proofs.Least.{IsLeast, isLeast-le, isLeast-has, isLeast-unique, Sums, OfEntry, isLeast-bounds, isLeast-iff, sum-least, leastOf-least, leastOf-append, lesser-none}
 use Rattle.lasso.proofs.Walk.{Walk, walk-here, walk-append, walk-end-state, walk-zero, walk-length, walk-to}
 use Rattle.lasso.proofs.Distance.{dist-least, distPlus-least, dist-le}
-use Rattle.lasso.proofs.Lasso.{Lasso, Knot, AcceptingLength, walk-ends, lasso→knot, knot→lasso, accepting-iff, loop-start}
+use Rattle.lasso.proofs.Lasso.{Lasso, Knot, AcceptingLength, walk-ends, lasso→knot, knot→lasso, through-length, accepting-iff, loop-start}
 use Rattle.lasso.proofs.Cut.{lasso-accepting-through}
 use Rattle.lasso.proofs.RollLaws.{leastLength-least}
+use Rattle.lasso.proofs.UnderLaws.{leastOf-under}
 
 -- the lengths of walks from the initial state to s and from r to s, put together
 abbrev Ways : Graph → ℕ → ℕ → ℕ → Type 0
@@ -193,20 +196,36 @@ rounds-least {g} wf =
 pub rounds-leastLength : {g : Graph} → WellFormed g → leastOf (roundLength g) (candidates g) ≡ leastLength g
 rounds-leastLength {g} wf = isLeast-unique (AcceptingLength g) _ _ (rounds-least wf) (leastLength-least g wf)
 
+-- a round's length is at most the number of states
+pub roundLength-le : {g : Graph} → WellFormed g → (r l : ℕ) → r < g .size → roundLength g r ≡ some l → l ≤ g .size
+roundLength-le {g} wf r l low e =
+    let least : IsLeast (λ n. Knot g r n) (roundLength g r) = round-knot-least wf r low in
+    let (xs, lasso, same) = knot→lasso (isLeast-has (λ n. Knot g r n) (roundLength g r) least l e) in
+    let (ys, through, shorter) = lasso-accepting-through lasso in
+    let (m, found, le) = isLeast-le (λ n. Knot g r n) (roundLength g r) least (edges ys) (lasso→knot (through .0)) in
+    let q : m ≡ l = cc in
+    omega (arith, through-length wf through)
+
+-- the best after one more round: the one in the record is kept, whatever the ceiling
+pub best-kept : (g : Graph) (ceiling : ℕ) (rec : Record)
+    → bestLength (afterRound g ceiling rec) ≡ lesser (bestLength rec) (roundWithin g ceiling (getD (candidates g) (rec .done) 0))
+best-kept g ceiling rec = refl
+
 -- the record after n rounds counts n
-pub afterRounds-done : (g : Graph) (n : ℕ) → (afterRounds g n) .done ≡ n
-afterRounds-done g zero = refl
-afterRounds-done g (suc n) = omega (arith, afterRounds-done g n)
+pub afterRounds-done : (g : Graph) (ceiling n : ℕ) → (afterRounds g ceiling n) .done ≡ n
+afterRounds-done g ceiling zero = refl
+afterRounds-done g ceiling (suc n) = omega (arith, afterRounds-done g ceiling n)
 
--- the record after n rounds holds the least of the first n candidates' round lengths
-pub afterRounds-bestLength : (g : Graph) (n : ℕ) → n ≤ length (candidates g)
-    → bestLength (afterRounds g n) ≡ leastOf (roundLength g) (take n (candidates g))
-afterRounds-bestLength g zero h = refl
-afterRounds-bestLength g (suc n) h =
-    rw (take-suc (candidates g) n 0 (omega arith), leastOf-append, lesser-none, afterRounds-done g n, afterRounds-bestLength g n (omega arith))
+-- the record after n rounds holds the least of the first n candidates' round lengths under the ceiling
+pub afterRounds-bestLength : (g : Graph) (ceiling n : ℕ) → n ≤ length (candidates g)
+    → bestLength (afterRounds g ceiling n) ≡ leastOf (roundWithin g ceiling) (take n (candidates g))
+afterRounds-bestLength g ceiling zero h = refl
+afterRounds-bestLength g ceiling (suc n) h =
+    rw (take-suc (candidates g) n 0 (omega arith), leastOf-append, lesser-none, afterRounds-done g ceiling n, afterRounds-bestLength g ceiling n (omega arith))
 
--- the record after all rounds holds the least length of an accepting path
-pub afterRounds-leastLength : {g : Graph} → WellFormed g
-    → bestLength (afterRounds g (length (candidates g))) ≡ leastLength g
-afterRounds-leastLength {g} wf =
-    rw (afterRounds-bestLength g (length (candidates g)) (omega arith), take-length) (rounds-leastLength wf)
+-- the record after all rounds holds the least length of an accepting path, if it is not above the ceiling
+pub afterRounds-leastLength : {g : Graph} → WellFormed g → (ceiling : ℕ)
+    → bestLength (afterRounds g ceiling (length (candidates g))) ≡ under (suc ceiling) (leastLength g)
+afterRounds-leastLength {g} wf ceiling =
+    rw (afterRounds-bestLength g ceiling (length (candidates g)) (omega arith), take-length)
+    (leastOf-under (suc ceiling) (roundLength g) (candidates g) ∙ ap (under (suc ceiling)) (rounds-leastLength wf))

@@ -1,8 +1,8 @@
 -- What was to be shown about paths is so.
-use Prim.Native.Nat.{ℕ, _+_, _-_, _≤_, _<_}
+use Prim.Native.Nat.{ℕ, suc, _+_, _-_, _≤_, _<_}
 use mathlib.Core.Path.{_≡_, refl, sym, _∙_, ap, subst}
 use mathlib.Core.Logic.{inl, inr}
-use mathlib.Core.List.{List, [], List·Memᴰ}
+use mathlib.Core.List.{List, [], _∷_, List·Memᴰ}
 use mathlib.Core.Option.{Option}
 use native.Mathlib.Omega.{arith}
 use lib.ListN.{getD}
@@ -10,10 +10,12 @@ use lib.Dec.{T, eqb}
 use Rattle.lasso.specs.Lists.{memb, anyb, upFrom}
 use Rattle.lasso.specs.Graph.{Graph, edgeb, pathb, edges, loopsb, lassob, acceptingb, loopStart}
 use Rattle.lasso.specs.Roll.{leastLength}
-use Rattle.lasso.specs.Shown.{HasLength, OfLeastLength, ToBeShown, NoEdgeOut}
+use Rattle.lasso.specs.Distance.{dist}
+use Rattle.lasso.specs.Shown.{HasLength, OfLeastLength, ToBeShown, NoEdgeOut, PathLength, DistanceShown}
 use Rattle.lasso.proofs.Tests.{parts, join, memb-at, eq→eqb, eq-or-apart, range-upFrom, some-anyb}
-use Rattle.lasso.proofs.Least.{IsLeast, isLeast-by, isLeast-bounds}
-use Rattle.lasso.proofs.Walk.{walk-uncons, walk-length, path-segment}
+use Rattle.lasso.proofs.Least.{IsLeast, isLeast-by, isLeast-bounds, isLeast-iff}
+use Rattle.lasso.proofs.Walk.{Walk, walk-from, walk-to, walk-length, walk-uncons, run-path, run-last, path-segment}
+use Rattle.lasso.proofs.Distance.{dist-least}
 use Rattle.lasso.proofs.Lasso.{Lasso, accepting-iff, accepting-length, loop-start}
 use Rattle.lasso.proofs.Cut.{lasso-accepting, least-lasso-accepting}
 use Rattle.lasso.proofs.RollLaws.{accepting-lasso, leastLength-least}
@@ -111,3 +113,18 @@ no-edge-out g s none = record {
       let l : Lasso g s xs = loop-lasso s xs acc m in
       path-ends g s none xs (l .path) (l .r) (l .holds) (l .r-lt);
 }
+
+-- the states of a walk are a path with as many edges
+walk-path : (g : Graph) (s t n : ℕ) → Walk g s t n → PathLength g s t n
+walk-path g s t n (us, run, e) =
+    (s ∷ us, run-path run, ap suc e, refl, ap (λ (i : ℕ). getD (s ∷ us) i 0) (sym e) ∙ run-last run)
+
+-- a path is a walk with as many edges
+path-walk : (g : Graph) (s t n : ℕ) → PathLength g s t n → Walk g s t n
+path-walk g s t n (xs, path, long, first, last) =
+    let w = path-segment g xs path 0 n (omega arith) (omega arith) in
+    walk-from (sym first) (walk-to (walk-length (omega arith) w) last)
+
+pub distance-shown : DistanceShown
+distance-shown g wf s t l =
+    isLeast-iff (Walk g s t) (PathLength g s t) (dist g s t) (walk-path g s t) (path-walk g s t) (dist-least wf s t l)

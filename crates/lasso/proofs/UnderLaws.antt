@@ -1,13 +1,15 @@
 -- Laws of numbers under a limit: when one is there, that the least one stays the least, and limits one after another.
-use Prim.Native.Nat.{ℕ, _≤_, _<_}
+use Prim.Native.Nat.{ℕ, _≤_, _<_, min}
 use mathlib.Core.Path.{_≡_, refl, sym, _∙_, ap}
 use mathlib.Core.Logic.{inl, inr}
+use mathlib.Core.List.{List, [], _∷_}
 use mathlib.Core.Option.{Option, some, none}
 use native.Mathlib.Omega.{arith}
 use borrow.Author.Tests.{lt-ltb, le-ltb}
 use Rattle.lasso.proofs.Tests.{lt-or-ge}
-use Rattle.lasso.proofs.Least.{IsLeast, isLeast-own}
+use Rattle.lasso.proofs.Least.{IsLeast, isLeast-own, lesser-none}
 use Rattle.lasso.specs.Limit.{under}
+use Rattle.lasso.specs.Rounds.{lesser, leastOf}
 
 -- a number below the limit stays
 pub under-lt : (limit k : ℕ) → k < limit → under limit (some k) ≡ some k
@@ -47,3 +49,31 @@ under-under limit bound (some k) l =
 pub under-all : (limit : ℕ) (a : Option ℕ) → ((k : ℕ) → a ≡ some k → k < limit) → under limit a ≡ a
 under-all limit none h = refl
 under-all limit (some k) h = under-lt limit k (h k refl)
+
+-- the lesser of two numbers under a limit is the lesser of them under it
+pub lesser-under : (limit : ℕ) (a b : Option ℕ) → lesser (under limit a) (under limit b) ≡ under limit (lesser a b)
+lesser-under limit none b = refl
+lesser-under limit (some a) none = lesser-none (under limit (some a))
+lesser-under limit (some a) (some b) =
+    elim (lt-or-ge a limit) [
+      | inl low ↦ elim (lt-or-ge b limit) [
+        | inl l ↦
+            rw (under-lt limit a low, under-lt limit b l) (sym (under-lt limit (min a b) (omega arith)))
+        | inr g ↦
+            let e : min a b ≡ a = omega arith in
+            rw (under-lt limit a low, under-ge limit b g, e) (sym (under-lt limit a low))
+      ]
+      | inr high ↦ elim (lt-or-ge b limit) [
+        | inl l ↦
+            let e : min a b ≡ b = omega arith in
+            rw (under-ge limit a high, e)
+        | inr g ↦
+            rw (under-ge limit a high, under-ge limit b g) (sym (under-ge limit (min a b) (omega arith)))
+      ]
+    ]
+
+-- the least of the numbers under a limit is the least of them under it
+pub leastOf-under : (limit : ℕ) (f : ℕ → Option ℕ) (xs : List ℕ) → leastOf (λ x. under limit (f x)) xs ≡ under limit (leastOf f xs)
+leastOf-under limit f [] = refl
+leastOf-under limit f (x ∷ xs) =
+    ap (lesser (under limit (f x))) (leastOf-under limit f xs) ∙ lesser-under limit (f x) (leastOf f xs)

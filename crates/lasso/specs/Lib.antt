@@ -11,3 +11,4 @@ pub mod Distance
 pub mod Rounds
 pub mod Values
 pub mod Shown
+pub mod Ceiling

@@ -3,6 +3,7 @@ use Prim.Native.Nat.{ℕ, suc}
 use mathlib.Core.List.{List, []}
 use mathlib.Core.Option.{Option, some, none}
 use Rattle.lasso.specs.Lists.{keep, seek, nonEmptyb}
+use Rattle.lasso.specs.Limit.{under}
 use Rattle.lasso.specs.Graph.{Graph, acceptingb}
 use Rattle.lasso.specs.Order.{lists}
 
@@ -22,3 +23,7 @@ ofLeast g (some l) = ofLength g l
 -- the roll: all accepting paths of least length, each once, in dictionary order
 abbrev pub roll : Graph → List (List ℕ)
 roll g = ofLeast g (leastLength g)
+
+-- the roll if its lists are not longer than the ceiling, otherwise no list
+abbrev pub rollWithin : Graph → (ceiling : ℕ) → List (List ℕ)
+rollWithin g ceiling = ofLeast g (under (suc ceiling) (leastLength g))

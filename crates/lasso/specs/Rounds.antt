@@ -6,6 +6,7 @@ use mathlib.Core.Option.{Option, some, none}
 use lib.ListN.{length, getD}
 use lib.Dec.{leb}
 use Rattle.lasso.specs.Lists.{keep, below, isSome}
+use Rattle.lasso.specs.Limit.{under}
 use Rattle.lasso.specs.Graph.{Graph}
 use Rattle.lasso.specs.Distance.{dist, distPlus}
 
@@ -40,6 +41,10 @@ abbrev pub roundLength : Graph → ℕ → Option ℕ
 roundLength g r =
     leastOf (λ s. sum (sum (dist g (g .start) s) (dist g r s)) (distPlus g s r)) (below (g .size))
 
+-- a round's length under a ceiling: a round whose least length lies above the ceiling has no length
+abbrev pub roundWithin : Graph → (ceiling r : ℕ) → Option ℕ
+roundWithin g ceiling r = under (suc ceiling) (roundLength g r)
+
 -- the round record: the number of rounds done, and the best length so far
 pub record Record : Type 0 where
   pub done : ℕ
@@ -57,15 +62,15 @@ withRound rec length = record { done = rec .done + 1; best = lesser (rec .best) 
 abbrev pub finishedb : Graph → Record → Bool
 finishedb g rec = leb (length (candidates g)) (rec .done)
 
--- the record after the round for the candidate whose place is the count
-abbrev pub afterRound : Graph → Record → Record
-afterRound g rec = withRound rec (roundLength g (getD (candidates g) (rec .done) 0))
+-- the record after the round, under a ceiling, for the candidate whose place is the count
+abbrev pub afterRound : Graph → (ceiling : ℕ) → Record → Record
+afterRound g ceiling rec = withRound rec (roundWithin g ceiling (getD (candidates g) (rec .done) 0))
 
--- the record after n rounds of a search, which starts from count 0 and best none
-abbrev pub afterRounds : Graph → ℕ → Record
-afterRounds g zero = record { done = 0; best = none }
-afterRounds g (suc n) = afterRound g (afterRounds g n)
+-- the record after n rounds of a search under a ceiling, which starts from count 0 and best none
+abbrev pub afterRounds : Graph → (ceiling n : ℕ) → Record
+afterRounds g ceiling zero = record { done = 0; best = none }
+afterRounds g ceiling (suc n) = afterRound g ceiling (afterRounds g ceiling n)
 
 -- the record of a search after all rounds that the allowance admits
-abbrev pub afterAllowed : Graph → ℕ → Record
-afterAllowed g allowance = afterRounds g (min allowance (length (candidates g)))
+abbrev pub afterAllowed : Graph → (ceiling allowance : ℕ) → Record
+afterAllowed g ceiling allowance = afterRounds g ceiling (min allowance (length (candidates g)))

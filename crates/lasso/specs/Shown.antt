@@ -1,17 +1,18 @@
 -- What the contract asks to be shown about paths: statements, each proved for every well-formed graph. No length in them
 -- is bounded.
-use Prim.Native.Nat.{ℕ, _≤_, _<_}
+use Prim.Native.Nat.{ℕ, suc, _≤_, _<_}
 use mathlib.Core.Path.{_≡_}
 use mathlib.Core.Logic.{_↔_}
 use mathlib.Core.Bool.{Bool}
 use mathlib.Core.List.{List, []}
 use mathlib.Core.Option.{Option}
-use lib.ListN.{getD, take}
+use lib.ListN.{length, getD, take}
 use lib.Dec.{T}
 use Rattle.lasso.specs.Lists.{memb, differentb}
 use Rattle.lasso.specs.Least.{IsLeast}
 use Rattle.lasso.specs.Graph.{Graph, WellFormed, pathb, edges, loopsb, lassob, acceptingb, loopStart, loop}
 use Rattle.lasso.specs.Roll.{leastLength}
+use Rattle.lasso.specs.Distance.{dist}
 
 -- some list passes the test
 abbrev pub Exists : (List ℕ → Bool) → Type 0
@@ -66,3 +67,12 @@ pub record EndsRun (g : Graph) (s : ℕ) : Type 0 where
 -- `RunEndsExactly` of the crate model)
 abbrev pub NoEdgeOut : Type 0
 NoEdgeOut = (g : Graph) (s : ℕ) → g .succs s ≡ [] → EndsRun g s
+
+-- some path with n edges leads from s to t
+abbrev pub PathLength : Graph → ℕ → ℕ → ℕ → Type 0
+PathLength g s t n =
+    (xs : List ℕ) × T (pathb g xs) × (length xs ≡ suc n) × (getD xs 0 0 ≡ s) × (getD xs n 0 ≡ t)
+
+-- d(s, t) is the least length of a path from s to t; it is none if there is no such path
+abbrev pub DistanceShown : Type 0
+DistanceShown = (g : Graph) → WellFormed g → (s t : ℕ) → s < g .size → IsLeast (PathLength g s t) (dist g s t)

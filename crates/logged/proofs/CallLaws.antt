@@ -11,12 +11,13 @@ use lib.Seq.{sets-eq}
 use Rattle.gate.specs.declared.Ask.{Ask}
 use Rattle.lasso.specs.Lists.{pick, someIf}
 use Rattle.lasso.specs.Graph.{Graph, edges}
-use Rattle.lasso.specs.Roll.{leastLength, roll}
+use Rattle.lasso.specs.Roll.{leastLength, roll, rollWithin}
 use Rattle.lasso.specs.Rounds.{Record, candidates, afterRounds}
 use Rattle.lasso.specs.declared.Transitions.{Transitions}
 use Rattle.lasso.specs.Following.{following}
 use Rattle.lasso.proofs.OrderLaws.{following-mem}
 use Rattle.lasso.proofs.RollLaws.{roll-empty, roll-lasso}
+use Rattle.lasso.proofs.CeilingLaws.{within-roll}
 use Rattle.model.specs.Model.{graphOf}
 use Rattle.format.specs.Rules.{Reason, firstBroken}
 use Rattle.outcomes.specs.Outcome.{answered, outcome}
@@ -27,7 +28,7 @@ use Rattle.search.specs.declared.SearchAnswer.{SearchAnswer}
 use Rattle.search.specs.declared.SearchAnswer.the-variants as SearchAnswers
 use Rattle.next.specs.declared.NextAnswer.{NextAnswer}
 use Rattle.next.specs.declared.NextAnswer.the-variants as NextAnswers
-use Rattle.gate.specs.Gate.{commonRules}
+use Rattle.gate.specs.Gate.{commonRules, highCeiling, ceilingReason}
 use Rattle.answers.specs.Kinds.{figuresIn}
 use Rattle.sequence.specs.Calls.{Call, search, next, Answer, ofSearch, ofNext, finderAt, foundLength}
 use Rattle.logged.specs.Log.{reportOf, reportRow, callRow, entriesOf, Made}
@@ -97,7 +98,7 @@ due-fits f xs answer clear m = go (leastLength (graphOf f)) refl
         let long : edges xs ≡ l = roll-lasso (graphOf f) l e xs m .1 in
         (omega arith, omega arith)
 
--- the first of the roll has room, if it is what a search brings
+-- the first of the lists has room, if it is what a search brings
 searched-fits : (rs : List (List ℕ)) (stops : Bool) (rec : Record) (rounds answer : ℕ)
     → ((xs : List ℕ) → pick stops none (head? rs) ≡ some xs → List·Memᴰ xs rs → Fits (suc (edges xs)) answer)
     → Fits (entriesOf (foundLength (ofSearch (answered (pick stops (stopped rec) (firstOf rs rounds)))))) answer
@@ -115,8 +116,16 @@ search-fits f ask answer work = go (firstBroken (searchReasons f ask answer work
     go (some n) e = (omega arith, omega arith)
     go none e =
         let g : Graph = graphOf f in
-        searched-fits (roll g) (stopsb g (ask .allowance)) (afterRounds g (ask .allowance)) (length (candidates g)) answer
-        (λ xs q m. due-fits f xs answer (subst (λ (due : Option (List ℕ)). firstBroken (listReasons f due answer) ≡ none) q (clear-behind (commonRules f work) (listReasons f (firstDue g ask) answer) e)) m)
+        let c : ℕ = ask .ceiling .0 in
+        let behind : firstBroken (ceilingReason c ∷ listReasons f (firstDue g ask) answer) ≡ none
+        = clear-behind (commonRules f work) (ceilingReason c ∷ listReasons f (firstDue g ask) answer) e in
+        let clear : firstBroken (listReasons f (firstDue g ask) answer) ≡ none
+        = none-holds (highCeiling c) 21 (firstBroken (listReasons f (firstDue g ask) answer)) behind .1 in
+        searched-fits (rollWithin g c) (stopsb g (ask .allowance)) (afterRounds g c (ask .allowance)) (length (candidates g))
+        answer
+        (λ xs q m.
+        due-fits f xs answer (subst (λ (due : Option (List ℕ)). firstBroken (listReasons f due answer) ≡ none) q clear)
+        (within-roll g c xs m))
 
 -- the list that a next brings has room
 next-fits : (f earlier : List ℕ) (answer work : ℕ)

@@ -42,7 +42,7 @@ fn search_entries(answer: SearchAnswer) -> usize
             let entries = l.entries();
             entries.0
         }
-        SearchAnswer::Empty(_) => 0,
+        SearchAnswer::NoneWithin(_) => 0,
     }
 }
 

@@ -1,5 +1,5 @@
 -- What an accepted file is, for the layers above: the facts of its tables, and that the graph it holds is well formed.
-use Prim.Native.Nat.{ℕ, zero, suc, _+_, _*_, _-_, _≤_, _<_}
+use Prim.Native.Nat.{ℕ, _+_, _*_, _-_, _≤_, _<_}
 use mathlib.Core.Path.{_≡_, refl, sym, ap, subst, _∙_}
 use mathlib.Core.Bool.{true, false, not}
 use mathlib.Core.List.{List, [], List·Memᴰ, Memᴰ·of-map}
@@ -13,6 +13,7 @@ use lib.Dec.{T, ltb, ltb→lt, nltb→le}
 use Rattle.lasso.specs.Lists.{memb, upFrom}
 use Rattle.lasso.specs.Graph.{WellFormed, edgeb, ascendingb}
 use Rattle.lasso.proofs.Tests.{and-true, and-false, lt-or-ge, memb-mem, upFrom-range}
+use Rattle.lasso.proofs.BelowLaws.{upFrom-length}
 use Rattle.format.specs.Bytes.{words}
 use Rattle.format.specs.Layout.{states, edgeCount, initial, stays, markBytes, totalOf, rowEntry, target, rowTargets, markBit}
 use Rattle.format.specs.Rules.{firstBroken, rulesWith, Accepted}
@@ -160,11 +161,6 @@ valid-facts {f} v = accepted-facts f (v .accepted)
 -- the graph read by a valid header is well formed
 pub valid-well-formed : {f : List ℕ} {h : Header} → Valid f h → WellFormed (graphIn f h)
 valid-well-formed {f} v = subst WellFormed (sym (valid-graph v)) (accepted-well-formed f (v .accepted))
-
--- a range has as many numbers as asked
-pub upFrom-length : (a n : ℕ) → length (upFrom a n) ≡ n
-upFrom-length a zero = refl
-upFrom-length a (suc n) = ap suc (upFrom-length (suc a) n)
 
 -- no number has more than 8,192 successors
 pub succs-length-le : {f : List ℕ} → Facts f → (s : ℕ) → length (graphOf f .succs s) ≤ 8192

@@ -13,6 +13,7 @@ ghost use Rattle.candidates.specs.Promises.{RoundsReady};
 ghost use Rattle.next.specs.Next.{nextOutcomeOf, nextOutcome, nextAnswer};
 use cursor::ALL_ROUNDS;
 use cursor::Begun;
+use cursor::FULL_CEILING;
 use cursor::begin;
 use cursor::to_list;
 use cursor::to_next;
@@ -90,10 +91,10 @@ fn next_of_model(
         (lib.ListN.length (now (work .entry))) ⌝ }
     ensures kept { λ _. ⌜ lib.ListN.length (now (work .exit)) ≡ lib.ListN.length (now (work .entry)) ⌝ }
 {
-    let begun = begin(file, h, ALL_ROUNDS, work);
+    let begun = begin(file, h, Transitions(FULL_CEILING), ALL_ROUNDS, work);
     match begun {
         Begun::Stopped(_) => NextAnswer::Refused(13),
-        Begun::Empty(_) => NextAnswer::Refused(13),
+        Begun::NoneWithin(_) => NextAnswer::Refused(13),
         Begun::Length(length, _) => next_list(file, h, length, earlier, answer, work),
     }
 }

@@ -7,11 +7,12 @@ use native.Mathlib.Omega.{arith}
 use lib.ListN.{length, getD, take, length-append, length-map}
 use lib.Seq.{take-all}
 use Rattle.lasso.specs.Lists.{consIf}
+use Rattle.lasso.proofs.BelowLaws.{map-append}
 use Rattle.format.specs.Bytes.{bitb}
 use Rattle.text.specs.Writing.{Wrote}
 use Rattle.text.proofs.WroteLaws.{wrote-then, wrote-as, wrote-length}
 use Rattle.writer.specs.File.{word16, words16}
-use Rattle.writer.proofs.FileLaws.{words16-length, words16-append, map-append}
+use Rattle.writer.proofs.FileLaws.{words16-length, words16-append}
 use Rattle.property.specs.Property.{chosen}
 use Rattle.property.proofs.ChosenLaws.{chosen-next}
 use Rattle.pair_row.specs.Row.{block}

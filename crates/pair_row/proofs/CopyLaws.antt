@@ -5,11 +5,12 @@ use mathlib.Core.List.{List, _++_, map}
 use native.Mathlib.Omega.{arith}
 use lib.ListN.{length, getD}
 use Rattle.lasso.specs.Lists.{below}
+use Rattle.lasso.proofs.BelowLaws.{map-below-length, map-below-next}
 use Rattle.format.specs.Bytes.{word}
 use Rattle.text.specs.Writing.{Wrote}
 use Rattle.text.proofs.WroteLaws.{wrote-then, wrote-as}
 use Rattle.writer.specs.File.{word16, words16}
-use Rattle.writer.proofs.FileLaws.{words16-length, words16-append, map-below-length, map-below-next}
+use Rattle.writer.proofs.FileLaws.{words16-length, words16-append}
 use Rattle.writer.proofs.PutLaws.{put, wrote-put, put-at-before}
 use Rattle.pair_row.specs.Row.{copied}
 

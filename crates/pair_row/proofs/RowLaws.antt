@@ -6,12 +6,13 @@ use native.Mathlib.Omega.{arith}
 use lib.ListN.{length, getD, take, length-append, length-map, List·getD-append}
 use lib.Seq.{ext-getD, take-all}
 use Rattle.lasso.specs.Lists.{collect, below}
+use Rattle.lasso.proofs.BelowLaws.{map-below-at, map-below-length}
 use Rattle.format.specs.Bytes.{word}
 use Rattle.text.specs.Writing.{Wrote}
 use Rattle.text.proofs.WroteLaws.{wrote-none, wrote-then, wrote-as, wrote-length}
 use Rattle.text.proofs.CollectLaws.{collect-next, collect-room}
 use Rattle.writer.specs.File.{words16}
-use Rattle.writer.proofs.FileLaws.{words16-length, words16-append, word-words16, map-below-length, map-below-at}
+use Rattle.writer.proofs.FileLaws.{words16-length, words16-append, word-words16}
 use Rattle.writer.proofs.PutLaws.{wrote-put, put-at}
 use Rattle.pair_row.specs.Row.{block, rowOf, copied, BlockFits}
 

@@ -9,7 +9,7 @@ use lib.Seq.{take-at, drop-at, drop-drop}
 use lib.Dec.{eqb}
 use Rattle.lasso.specs.Lists.{pick}
 use Rattle.outcomes.specs.Outcome.{refused, answered}
-use Rattle.search.specs.Search.{stopped, empty, Searched}
+use Rattle.search.specs.Search.{stopped, noneWithin, Searched}
 use Rattle.next.specs.Next.{noMore, Followed}
 use Rattle.sequence.specs.Calls.{Call, Answer, ofSearch, ofNext, Result, finderAt, received}
 use Rattle.sequence.proofs.Sequence.{condition-3}
@@ -25,7 +25,7 @@ answer-row-length : (a : Answer) → length (reportRow (reportOf a)) ≡ 4
 answer-row-length (ofSearch (refused n)) = refl
 answer-row-length (ofSearch (answered (stopped r))) = refl
 answer-row-length (ofSearch (answered (Searched.found l k rounds))) = refl
-answer-row-length (ofSearch (answered (empty rounds))) = refl
+answer-row-length (ofSearch (answered (noneWithin rounds))) = refl
 answer-row-length (ofNext (refused n)) = refl
 answer-row-length (ofNext (answered (Followed.found l k))) = refl
 answer-row-length (ofNext (answered noMore)) = refl

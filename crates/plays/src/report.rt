@@ -19,7 +19,7 @@ const STOPPED: usize = 101;
 
 const FOUND: usize = 102;
 
-const EMPTY: usize = 103;
+const NONE_WITHIN: usize = 103;
 
 // Prints a line of its own.
 pub fn title(words: &[u8]) {
@@ -41,7 +41,13 @@ fn show_command(script: &[u16], at: usize, size: usize)
 {
     let action = entry(script, at);
     if action == 0 {
-        return say(b"search #", 0, &[entry(script, at + 1) as u64]);
+        let ceiling = entry(script, at + 1) as u64;
+        let allowance = entry(script, at + 2) as u64;
+        return say(
+            b"search with ceiling # and allowance #",
+            0,
+            &[ceiling, allowance],
+        );
     }
     if action == 1 {
         return text(b"next with the copy");
@@ -93,8 +99,8 @@ fn show_row(log: &[u16], place: usize, action: usize, answer: &[u16])
     if kind == FOUND {
         return show_found(log, place, action, answer);
     }
-    if kind == EMPTY {
-        return show_figure(b": empty", first);
+    if kind == NONE_WITHIN {
+        return show_figure(b": none within", first);
     }
     text(b": no more");
 }

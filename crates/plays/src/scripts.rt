@@ -36,24 +36,51 @@ fn show_nine(script: &[u16]) {
     );
 }
 
+// Plays a script on example H: 0→1, 5; 1→2→3→4→1; 5→6→6; marks 1 and 6.
+fn show_h(script: &[u16]) {
+    show_roomy(
+        b"\x07\x00\x08\x00\x00\x00\x00\x00\x18\x00\x00\x00\x28\x00\x00\x00\x38\x00\x00\x00\x39\x00\x00\x00\x00\x00\x02\x00\x03\x00\x04\x00\x05\x00\x06\x00\x07\x00\x08\x00\x01\x00\x05\x00\x02\x00\x03\x00\x04\x00\x01\x00\x06\x00\x06\x00\x42",
+        script,
+    );
+}
+
 // Search, then next until there is no more.
 fn search_then_next() {
     title(b"D: a search, then next until there is no more");
-    show_d(&[0, 65535, 1, 0, 1, 0, 1, 0]);
+    show_d(&[0, 4096, 65535, 1, 0, 1, 0, 1, 0]);
 }
 
 // Next before any search, with the copy, which is empty, and with lists that are no path.
 fn next_first() {
     title(b"D: next before any search");
-    show_d(&[1, 0, 2, 0, 2, 4, 0, 2, 3, 1, 0, 65535, 1, 0]);
+    show_d(&[1, 0, 2, 0, 2, 4, 0, 2, 3, 1, 0, 4096, 65535, 1, 0]);
 }
 
 // Searches that are stopped, before and after one that finds the only list.
 fn stopped_between() {
     title(b"H: searches that are stopped");
-    show_roomy(
-        b"\x07\x00\x08\x00\x00\x00\x00\x00\x18\x00\x00\x00\x28\x00\x00\x00\x38\x00\x00\x00\x39\x00\x00\x00\x00\x00\x02\x00\x03\x00\x04\x00\x05\x00\x06\x00\x07\x00\x08\x00\x01\x00\x05\x00\x02\x00\x03\x00\x04\x00\x01\x00\x06\x00\x06\x00\x42",
-        &[0, 0, 1, 0, 0, 1, 0, 2, 0, 1, 0, 0, 1, 0],
+    show_h(
+        &[
+            0,
+            4096,
+            0,
+            1,
+            0,
+            0,
+            4096,
+            1,
+            0,
+            4096,
+            2,
+            0,
+            4096,
+            1,
+            0,
+            4096,
+            0,
+            1,
+            0,
+        ],
     );
 }
 
@@ -63,6 +90,7 @@ fn wrong_lists_between() {
     show_nine(
         &[
             0,
+            4096,
             65535,
             1,
             0,
@@ -80,6 +108,7 @@ fn wrong_lists_between() {
             1,
             4,
             0,
+            4096,
             2,
             1,
             0,
@@ -102,12 +131,14 @@ fn search_again() {
     show_nine(
         &[
             0,
+            4096,
             3,
             1,
             0,
             1,
             0,
             0,
+            4096,
             3,
             1,
             0,
@@ -134,19 +165,19 @@ fn search_again() {
 // The last command asks for more entries than are there.
 fn cut_off() {
     title(b"D: a script that is cut off");
-    show_d(&[0, 65535, 1, 0, 2, 4, 0, 2]);
+    show_d(&[0, 4096, 65535, 1, 0, 2, 4, 0, 2]);
 }
 
 // An unknown action ends the script.
 fn unknown() {
     title(b"D: a script with an unknown action");
-    show_d(&[0, 65535, 3, 0, 1, 0]);
+    show_d(&[0, 4096, 65535, 3, 0, 1, 0]);
 }
 
 // A file that is refused: the working table is untouched.
 fn broken_file() {
     title(b"D without its last byte");
-    show_part(50, &[0, 65535, 1, 0]);
+    show_part(50, &[0, 4096, 65535, 1, 0]);
 }
 
 // Lists that end in implied steps: 0→1, 0→2, both marked, with 1 in bytes 6 and 7.
@@ -154,8 +185,56 @@ fn implied_steps() {
     title(b"0 to 1 and 2, which stay: a wrong list between");
     show_roomy(
         b"\x03\x00\x02\x00\x00\x00\x01\x00\x18\x00\x00\x00\x20\x00\x00\x00\x24\x00\x00\x00\x25\x00\x00\x00\x00\x00\x02\x00\x02\x00\x02\x00\x01\x00\x02\x00\x06",
-        &[0, 65535, 2, 3, 0, 1, 2, 1, 0, 1, 0],
+        &[0, 4096, 65535, 2, 3, 0, 1, 2, 1, 0, 1, 0],
     );
+}
+
+// A search under a ceiling that the lists exceed, between one that finds and the next ones: the copy stays good.
+fn low_ceiling_between() {
+    title(b"D: a ceiling below the lists between");
+    show_d(&[0, 3, 65535, 0, 2, 65535, 1, 0, 1, 0]);
+}
+
+// Ceilings above 4,096 after a search that finds: the copy stays good.
+fn high_ceilings_between() {
+    title(b"D: ceilings above 4,096 between");
+    show_d(&[0, 4096, 1, 0, 4097, 1, 1, 0, 0, 65535, 1, 1, 0]);
+}
+
+// A ceiling above 4,096 and no other call: the working table is all zero.
+fn high_ceiling_alone() {
+    title(b"D: a ceiling above 4,096 alone");
+    show_d(&[0, 4097, 65535]);
+}
+
+// Plays searches under one ceiling with every allowance up to the number of candidates, and a next, on example H.
+fn show_allowances(ceiling: u16) {
+    show_h(&[0, ceiling, 0, 0, ceiling, 1, 0, ceiling, 2, 1, 0]);
+}
+
+// Ceilings at, between and below the lengths of the two rounds, which are 5 and 3.
+fn ceilings_of_rounds() {
+    title(b"H: the ceilings 5, 4, 3, 2 and 0 with every allowance");
+    show_allowances(5);
+    show_allowances(4);
+    show_allowances(3);
+    show_allowances(2);
+    show_allowances(0);
+}
+
+// Searches under a ceiling that find, find none and are stopped, with a next after each.
+fn ceilings_and_next() {
+    title(b"nine lists: searches under ceilings, a next after each");
+    show_nine(&[0, 3, 3, 1, 0, 0, 2, 3, 1, 0, 0, 2, 2, 1, 0, 0, 3, 2, 1, 0]);
+}
+
+// The scripts with ceilings.
+fn show_ceilings() {
+    low_ceiling_between();
+    high_ceilings_between();
+    high_ceiling_alone();
+    ceilings_of_rounds();
+    ceilings_and_next();
 }
 
 // The scripts on the examples D and H.
@@ -184,6 +263,7 @@ pub fn show_all() {
     show_examples();
     show_many();
     show_ends();
+    show_ceilings();
 }
 
 // Plays a script on example D with the tables that are lent.
@@ -202,7 +282,7 @@ pub fn show_short_answer() {
     let mut log = [0u16; 64];
     title(b"D: an answer table of 3 entries");
     show_lent(
-        &[0, 65535, 1, 0, 2, 4, 0, 1, 3, 1, 2, 4, 0, 2, 3, 2],
+        &[0, 4096, 65535, 1, 0, 2, 4, 0, 1, 3, 1, 2, 4, 0, 2, 3, 2],
         &mut answer,
         &mut log,
     );
@@ -213,6 +293,6 @@ pub fn show_short_log() {
     let mut answer = [0u16; 6];
     let mut log = [0u16; 10];
     title(b"D: a log of 10 entries");
-    show_lent(&[0, 65535, 1, 0, 1, 0, 1, 0], &mut answer, &mut log);
+    show_lent(&[0, 4096, 65535, 1, 0, 1, 0, 1, 0], &mut answer, &mut log);
     show_rest(b"the log:", &log, 0);
 }

@@ -9,12 +9,13 @@ use lib.ListN.{length, getD, length-append, length-map}
 use Rattle.lasso.specs.Lists.{collect, consIf, keep}
 use Rattle.lasso.specs.Graph.{Graph}
 use Rattle.lasso.proofs.Tests.{at-memb}
+use Rattle.lasso.proofs.BelowLaws.{upFrom-length}
 use Rattle.format.specs.Bytes.{bitb}
 use Rattle.format.specs.Layout.{states, edgeCount, initial, rowTargets}
 use Rattle.model.specs.declared.Header.{Header}
 use Rattle.model.specs.Model.{graphIn, graphOf}
 use Rattle.model.specs.Values.{Valid}
-use Rattle.model.proofs.Laws.{Facts, valid-facts, valid-graph, header-numbers, row-end-le, row-targets-below, upFrom-length, succs-length-le, valid-well-formed}
+use Rattle.model.proofs.Laws.{Facts, valid-facts, valid-graph, header-numbers, row-end-le, row-targets-below, succs-length-le, valid-well-formed}
 use Rattle.product.proofs.PairLaws.{mod-below, div-below, blocks-apart, pair-below}
 use Rattle.property.specs.Property.{rowMasks, chosen, ValidProperty}
 use Rattle.property.proofs.PropertyLaws.{property-facts, property-numbers}

@@ -1,28 +1,13 @@
--- Laws of the limit of a round: the bound on a round's length, and the limit that is enough for the record.
-use Prim.Native.Nat.{ℕ, suc, _+_, _≤_, _<_, min}
-use mathlib.Core.Path.{_≡_, refl, _∙_, ap}
+-- Laws of the limit of a round: the limit that is enough for the record.
+use Prim.Native.Nat.{ℕ, suc, _+_, _≤_, min}
+use mathlib.Core.Path.{_≡_, refl, sym, _∙_, ap}
 use mathlib.Core.Logic.{inl, inr}
 use mathlib.Core.Option.{Option, some, none}
 use native.Mathlib.Omega.{arith}
-use Rattle.lasso.specs.Graph.{Graph, WellFormed, edges}
-use Rattle.lasso.specs.Rounds.{lesser, roundLength, Record, bestLength, withRound}
+use Rattle.lasso.specs.Rounds.{lesser, Record, bestLength, withRound}
 use Rattle.lasso.proofs.Tests.{lt-or-ge}
-use Rattle.lasso.proofs.Least.{IsLeast, isLeast-le, isLeast-has}
-use Rattle.lasso.proofs.Lasso.{Knot, lasso→knot, knot→lasso, through-length}
-use Rattle.lasso.proofs.Cut.{lasso-accepting-through}
-use Rattle.lasso.proofs.RoundLaws.{round-knot-least}
 use Rattle.lasso.specs.Limit.{under}
-use Rattle.lasso.proofs.UnderLaws.{under-lt, under-ge}
-
--- a round's length is at most the number of states
-pub roundLength-le : {g : Graph} → WellFormed g → (r l : ℕ) → r < g .size → roundLength g r ≡ some l → l ≤ g .size
-roundLength-le {g} wf r l low e =
-    let least : IsLeast (λ n. Knot g r n) (roundLength g r) = round-knot-least wf r low in
-    let (xs, lasso, same) = knot→lasso (isLeast-has (λ n. Knot g r n) (roundLength g r) least l e) in
-    let (ys, through, shorter) = lasso-accepting-through lasso in
-    let (m, found, le) = isLeast-le (λ n. Knot g r n) (roundLength g r) least (edges ys) (lasso→knot (through .0)) in
-    let q : m ≡ l = cc in
-    omega (arith, through-length wf through)
+use Rattle.lasso.proofs.UnderLaws.{under-lt, under-ge, under-some, under-under}
 
 -- lengths above the limit do not change the best, if the limit is the lesser of the best and a bound on the lengths
 limit-enough : (best x : Option ℕ) (n limit : ℕ) → lesser best (some n) ≡ some limit
@@ -41,14 +26,23 @@ limit-enough (some b) (some l) n limit e h =
     ]
 
 -- the limit is at most the bound
-pub limit-le : (best : Option ℕ) (n limit : ℕ) → lesser best (some n) ≡ some limit → limit ≤ n
+limit-le : (best : Option ℕ) (n limit : ℕ) → lesser best (some n) ≡ some limit → limit ≤ n
 limit-le none n limit e = let q : n ≡ limit = cc in omega arith
 limit-le (some b) n limit e = let q : min b n ≡ limit = cc in omega arith
 
--- lengths above that limit do not change the record
-pub withRound-limit : (rec : Record) (x : Option ℕ) (n limit : ℕ) → lesser (bestLength rec) (some n) ≡ some limit
-    → ((l : ℕ) → x ≡ some l → l ≤ n) → withRound rec (under (suc limit) x) ≡ withRound rec x
-withRound-limit rec x n limit e h = ap (λ (b : Option ℕ). next b) (limit-enough (bestLength rec) x n limit e h)
+-- so it is at most the number of states
+pub limit-below : (best : Option ℕ) (n ceiling limit : ℕ) → lesser best (some (min n ceiling)) ≡ some limit → limit ≤ n
+limit-below best n ceiling limit e = omega (arith, limit-le best (min n ceiling) limit e)
+
+-- lengths above that limit do not change the record, where no length is above n and those above the ceiling do not count
+pub withRound-limit : (rec : Record) (x : Option ℕ) (n ceiling limit : ℕ) → lesser (bestLength rec) (some (min n ceiling)) ≡ some limit
+    → ((l : ℕ) → x ≡ some l → l ≤ n) → withRound rec (under (suc limit) x) ≡ withRound rec (under (suc ceiling) x)
+withRound-limit rec x n ceiling limit e h =
+    ap (λ (a : Option ℕ). withRound rec a) (sym (under-under (suc limit) (suc ceiling) x (omega (arith, limit-le (bestLength rec) (min n ceiling) limit e))))
+    ∙ ap (λ (b : Option ℕ). next b) (limit-enough (bestLength rec) (under (suc ceiling) x) (min n ceiling) limit e bounded)
   where
     next : Option ℕ → Record
     next b = record { done = rec .done + 1; best = b }
+
+    bounded : (l : ℕ) → under (suc ceiling) x ≡ some l → l ≤ min n ceiling
+    bounded l q = let (there, low) = under-some (suc ceiling) x l q in omega (arith, h l there)

@@ -9,9 +9,13 @@ use lib.ListN.{length, take, drop, length-drop}
 use lib.Seq.{take-all}
 use lib.Dec.{eqb, ltb}
 use Rattle.lasso.specs.Lists.{pick}
+use Rattle.gate.specs.declared.Ask.{Ask}
 use Rattle.gate.specs.Gate.{asking}
 use Rattle.sequence.specs.Calls.{search, next}
-use Rattle.script.specs.Commands.{action, argument, commandLength, overb, sizeOf, lentList, callOf}
+use Rattle.logged.specs.Log.{Made}
+use Rattle.logged.proofs.CallLaws.{made-as}
+use Rattle.script.specs.Commands.{action, argument, behind, commandLength, overb, sizeOf}
+use Rattle.script.specs.Commands.{allowance, lentList, callOf}
 
 -- an alternative whose second part holds
 or-true : (a : Bool) → (a || true) ≡ true
@@ -23,10 +27,30 @@ or-false : (a b : Bool) → (a || b) ≡ false → (a ≡ false) × (b ≡ false
 or-false true b e = let z : _≡_ {A = ℕ} 0 1 = cc in absurd (omega arith)
 or-false false b e = (refl, e)
 
--- a command has at least two numbers
-command-least : (b : Bool) (n : ℕ) → 2 ≤ pick b (2 + n) 2
-command-least true n = omega arith
-command-least false n = omega arith
+-- what stands behind a search: one number
+pub behind-search : (x y : ℕ) → x ≡ 0 → 1 ≡ behind x y
+behind-search x y e = sym (ap (λ (b : Bool). pick b 1 (pick (eqb x 1) 0 y)) (eq-eqb x 0 e))
+
+-- behind a next: what its own test says
+behind-next : (x y : ℕ) → (x ≡ 0 → ⊥) → pick (eqb x 1) 0 y ≡ behind x y
+behind-next x y d = sym (ap (λ (b : Bool). pick b 1 (pick (eqb x 1) 0 y)) (ne-eqb x 0 d))
+
+-- behind one with the copy: nothing
+pub behind-copy : (x y : ℕ) → (x ≡ 0 → ⊥) → x ≡ 1 → 0 ≡ behind x y
+behind-copy x y d e = sym (ap (λ (b : Bool). pick b 0 y) (eq-eqb x 1 e)) ∙ behind-next x y d
+
+-- behind one with a list: its entries
+pub behind-list : (x y : ℕ) → (x ≡ 0 → ⊥) → (x ≡ 1 → ⊥) → y ≡ behind x y
+behind-list x y d d' = sym (ap (λ (b : Bool). pick b 0 y) (ne-eqb x 1 d')) ∙ behind-next x y d
+
+-- no more than one number stands there besides as many as the argument says
+pub behind-most : (x y : ℕ) → behind x y ≤ y + 1
+behind-most x y = go (eqb x 0) (eqb x 1)
+  where
+    go : (b b' : Bool) → pick b 1 (pick b' 0 y) ≤ y + 1
+    go true b' = omega arith
+    go false true = omega arith
+    go false false = omega arith
 
 -- what a test decides, known from the number that it gives
 decided : (b : Bool) (n : ℕ) → 2 ≤ n → (pick b 0 n ≡ 0 → b ≡ true) × ((pick b 0 n ≡ 0 → ⊥) → (b ≡ false) × (pick b 0 n ≡ n))
@@ -34,34 +58,26 @@ decided true n least = (λ e. refl, λ d. absurd (d refl))
 decided false n least = (λ e. absurd (omega arith), λ d. (refl, refl))
 
 module _ (s : List ℕ) where
-  -- the command with a list has the list's entries besides
-  command-list : action s ≡ 2 → commandLength s ≡ 2 + argument s
-  command-list e = ap (λ (b : Bool). pick b (2 + argument s) 2) (eq-eqb (action s) 2 e)
-
-  -- the others have two numbers
-  command-two : (action s ≡ 2 → ⊥) → commandLength s ≡ 2
-  command-two d = ap (λ (b : Bool). pick b (2 + argument s) 2) (ne-eqb (action s) 2 d)
-
   -- a command that is cut off
-  size-none : length s < commandLength s → 0 ≡ sizeOf s
+  pub size-none : length s < commandLength s → 0 ≡ sizeOf s
   size-none less = sym (ap (λ (b : Bool). pick (b || ltb 2 (action s)) 0 (commandLength s)) (lt-ltb (length s) (commandLength s) less))
 
   -- a command that is there, with a known action
-  size-some : commandLength s ≤ length s → action s ≤ 2 → commandLength s ≡ sizeOf s
+  pub size-some : commandLength s ≤ length s → action s ≤ 2 → commandLength s ≡ sizeOf s
   size-some fits known =
       sym
       (ap (λ (b : Bool). pick (b || ltb 2 (action s)) 0 (commandLength s)) (le-ltb (length s) (commandLength s) fits)
       ∙ ap (λ (b : Bool). pick b 0 (commandLength s)) (le-ltb 2 (action s) known))
 
+  -- how many numbers it has, from the two that were read
+  pub command-length : {x y r : ℕ} → x ≡ action s → y ≡ argument s → r ≡ behind x y → 2 + r ≡ commandLength s
+  command-length {x} {y} {r} at-action at-argument e =
+      let at : r ≡ behind (action s) (argument s) = e ∙ (λ i. behind (at-action i) (at-argument i)) in
+      ap (λ (n : ℕ). 2 + n) at
+
   -- no command has fewer than two numbers
   pub size-short : length s < 2 → 0 ≡ sizeOf s
-  size-short less = size-none (omega (arith, command-least (eqb (action s) 2) (argument s)))
-
-  -- a search, or a next with the copy
-  pub size-two : 2 ≤ length s → action s < 2 → 2 ≡ sizeOf s
-  size-two fits less =
-      let two : commandLength s ≡ 2 = command-two (λ e. omega arith) in
-      sym two ∙ size-some (omega arith) (omega arith)
+  size-short less = size-none (omega arith)
 
   -- an unknown action
   pub size-unknown : 2 < action s → 0 ≡ sizeOf s
@@ -70,24 +86,13 @@ module _ (s : List ℕ) where
       (ap (λ (b : Bool). pick (ltb (length s) (commandLength s) || b) 0 (commandLength s)) (lt-ltb 2 (action s) less)
       ∙ ap (λ (b : Bool). pick b 0 (commandLength s)) (or-true (ltb (length s) (commandLength s))))
 
-  -- a list that is cut off
-  pub size-cut : action s ≡ 2 → length s < argument s + 2 → 0 ≡ sizeOf s
-  size-cut e less = size-none (omega (arith, command-list e))
-
-  -- a list that is there
-  pub size-list : action s ≡ 2 → argument s + 2 ≤ length s → argument s + 2 ≡ sizeOf s
-  size-list e fits =
-      let long : commandLength s ≡ 2 + argument s = command-list e in
-      let q : argument s + 2 ≡ commandLength s = omega arith in
-      q ∙ size-some (omega arith) (omega arith)
-
   -- no size: the script is over
   pub size-over : sizeOf s ≡ 0 → overb s ≡ true
-  size-over = decided (overb s) (commandLength s) (command-least (eqb (action s) 2) (argument s)) .0
+  size-over = decided (overb s) (commandLength s) (omega arith) .0
 
   -- a size: it is not, and that is the command's
   pub size-goes-on : (sizeOf s ≡ 0 → ⊥) → (overb s ≡ false) × (sizeOf s ≡ commandLength s)
-  size-goes-on = decided (overb s) (commandLength s) (command-least (eqb (action s) 2) (argument s)) .1
+  size-goes-on = decided (overb s) (commandLength s) (omega arith) .1
 
   -- a script that is not over: its first command is there, and its action is known
   module _ (e : overb s ≡ false) where
@@ -99,20 +104,28 @@ module _ (s : List ℕ) where
 
     -- two numbers are there
     pub two-there : 2 ≤ length s
-    two-there = omega (arith, command-there, command-least (eqb (action s) 2) (argument s))
+    two-there = omega (arith, command-there)
 
-    -- and behind them the list, if that is what it asks for
+    -- and behind them one more, if it is a search
+    pub three-there : action s ≡ 0 → 3 ≤ length s
+    three-there q = omega (arith, command-there, behind-search (action s) (argument s) q)
+
+    -- or the list, if that is what it asks for
     pub list-there : (action s ≡ 0 → ⊥) → (action s ≡ 1 → ⊥) → argument s + 2 ≤ length s
-    list-there d d' = omega (arith, command-there, command-list (omega (arith, action-known)))
+    list-there d d' = omega (arith, command-there, behind-list (action s) (argument s) d d')
 
   module _ (copy a w : List ℕ) where
     -- a search
-    pub call-search : action s ≡ 0 → search (asking (argument s)) a w ≡ callOf s copy a w
-    call-search e = sym (ap (λ (b : Bool). pick b (search (asking (argument s)) a w) (next (lentList s copy) a w)) (eq-eqb (action s) 0 e))
+    pub call-search : action s ≡ 0 → search (asking (argument s) (allowance s)) a w ≡ callOf s copy a w
+    call-search e =
+        sym (ap (λ (b : Bool). pick b (search (asking (argument s) (allowance s)) a w) (next (lentList s copy) a w))
+        (eq-eqb (action s) 0 e))
 
     -- a next with the list that the command lends
     call-next : (action s ≡ 0 → ⊥) → next (lentList s copy) a w ≡ callOf s copy a w
-    call-next d = sym (ap (λ (b : Bool). pick b (search (asking (argument s)) a w) (next (lentList s copy) a w)) (ne-eqb (action s) 0 d))
+    call-next d =
+        sym (ap (λ (b : Bool). pick b (search (asking (argument s) (allowance s)) a w) (next (lentList s copy) a w))
+        (ne-eqb (action s) 0 d))
 
     -- a next with the copy
     pub call-copy : (action s ≡ 0 → ⊥) → action s ≡ 1 → next copy a w ≡ callOf s copy a w
@@ -130,16 +143,20 @@ module _ (s copy a w : List ℕ) {x : ℕ} (at-action : x ≡ action s) where
   pub called-copy : (x ≡ 0 → ⊥) → x ≡ 1 → next copy a w ≡ callOf s copy a w
   called-copy d e = call-copy s copy a w (λ q. d (at-action ∙ q)) (sym at-action ∙ e)
 
-  module _ {y : ℕ} (at-argument : y ≡ argument s) where
-    -- a search
-    pub called-search : x ≡ 0 → search (asking y) a w ≡ callOf s copy a w
-    called-search e = ap (λ (n : ℕ). search (asking n) a w) at-argument ∙ call-search s copy a w (sym at-action ∙ e)
+  -- a next with the entries behind
+  pub called-list : {y : ℕ} → y ≡ argument s → (x ≡ 0 → ⊥) → (x ≡ 1 → ⊥)
+      → next (take (y + 2 - 2) (drop 2 s)) a w ≡ callOf s copy a w
+  called-list {y} at-argument d d' =
+      let n : y + 2 - 2 ≡ argument s = omega arith in
+      ap (λ (k : ℕ). next (take k (drop 2 s)) a w) n
+      ∙ call-list s copy a w (λ q. d (at-action ∙ q)) (λ q. d' (at-action ∙ q))
 
-    -- a next with the entries behind
-    pub called-list : (x ≡ 0 → ⊥) → (x ≡ 1 → ⊥) → next (take (y + 2 - 2) (drop 2 s)) a w ≡ callOf s copy a w
-    called-list d d' =
-        let n : y + 2 - 2 ≡ argument s = omega arith in
-        ap (λ (k : ℕ). next (take k (drop 2 s)) a w) n ∙ call-list s copy a w (λ q. d (at-action ∙ q)) (λ q. d' (at-action ∙ q))
+  -- a search that asks what was read
+  pub made-search : {f : List ℕ} {ask : Ask} {place : ℕ} {log a' w' log' : List ℕ} {got : ℕ}
+      → Made f (search ask a w) place log a' w' log' got → ask .ceiling .0 ≡ argument s → ask .allowance ≡ allowance s
+      → x ≡ 0 → Made f (callOf s copy a w) place log a' w' log' got
+  made-search m at-ceiling at-allowance e =
+      made-as ((λ i. search (asking (at-ceiling i) (at-allowance i)) a w) ∙ call-search s copy a w (sym at-action ∙ e)) m
 
 -- what is left of a script from a place on
 pub rest-of : (s : List ℕ) (at : ℕ) → at ≤ length s → take (length s - at) (drop at s) ≡ drop at s

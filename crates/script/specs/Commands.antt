@@ -1,7 +1,7 @@
 -- The commands of a script of numbers, and the call that each asks for. Each command begins with two numbers,
--- what to do and its argument: 0 and an allowance, a search; 1 and a number that is not used, a next with the copy last
--- received, which is the empty list at first; 2 and a count, with so many entries behind them, a next with those
--- entries.
+-- what to do and its argument: 0 and a ceiling, with an allowance behind them, a search; 1 and a number that is not
+-- used, a next with the copy last received, which is the empty list at first; 2 and a count, with so many entries
+-- behind them, a next with those entries.
 use Prim.Native.Nat.{ℕ, _+_}
 use mathlib.Core.Bool.{Bool, _||_}
 use mathlib.Core.List.{List}
@@ -19,9 +19,14 @@ action script = getD script 0 0
 abbrev pub argument : List ℕ → ℕ
 argument script = getD script 1 0
 
+-- how many numbers stand behind these two: one for a search, none for a next with the copy, else as many as the
+-- argument says
+abbrev pub behind : (action argument : ℕ) → ℕ
+behind action argument = pick (eqb action 0) 1 (pick (eqb action 1) 0 argument)
+
 -- how many numbers it has
 abbrev pub commandLength : List ℕ → ℕ
-commandLength script = pick (eqb (action script) 2) (2 + argument script) 2
+commandLength script = 2 + behind (action script) (argument script)
 
 -- the script is over: at its end, where a command is cut off, and at an unknown action
 abbrev pub overb : List ℕ → Bool
@@ -31,6 +36,10 @@ overb script = ltb (length script) (commandLength script) || ltb 2 (action scrip
 abbrev pub sizeOf : List ℕ → ℕ
 sizeOf script = pick (overb script) 0 (commandLength script)
 
+-- the allowance of a search
+abbrev pub allowance : List ℕ → ℕ
+allowance script = getD script 2 0
+
 -- the list that the first command lends to a next: the copy last received, or the entries behind it
 abbrev pub lentList : (script copy : List ℕ) → List ℕ
 lentList script copy = pick (eqb (action script) 1) copy (take (argument script) (drop 2 script))
@@ -38,4 +47,5 @@ lentList script copy = pick (eqb (action script) 1) copy (take (argument script)
 -- the call that the first command asks for, lent the tables
 abbrev pub callOf : (script copy a w : List ℕ) → Call
 callOf script copy a w =
-    pick (eqb (action script) 0) (search (asking (argument script)) a w) (next (lentList script copy) a w)
+    pick (eqb (action script) 0) (search (asking (argument script) (allowance script)) a w)
+    (next (lentList script copy) a w)

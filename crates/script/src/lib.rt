@@ -5,11 +5,23 @@ ghost use mathlib.Core.Bool.{false};
 ghost use Prim.Native.Nat.{_+_, _≤_};
 ghost use lib.ListN.{length};
 ghost use Rattle.logged.specs.Log.{Made};
-ghost use Rattle.script.specs.Commands.{overb, sizeOf, callOf};
+ghost use Rattle.script.specs.Commands.{behind, overb, sizeOf, callOf};
 use gate::Ask;
+use lasso::Transitions;
 use logged::play_next;
 use logged::play_search;
 use table::get;
+
+// How many numbers stand behind the first two of a command.
+fn numbers_behind(action: usize, argument: usize) -> usize
+    ensures { λ r. ⌜ r ≡ behind action argument ⌝ }
+{
+    match action {
+        0 => 1,
+        1 => 0,
+        _ => argument,
+    }
+}
 
 // How many numbers the first command has, 0 if the script is over.
 pub fn command_size(script: &[u16]) -> usize
@@ -20,13 +32,11 @@ pub fn command_size(script: &[u16]) -> usize
         return 0;
     }
     let action = get(script, 0);
-    if action < 2 {
-        return 2;
-    }
     if 2 < action {
         return 0;
     }
-    let size = get(script, 1) + 2;
+    let argument = get(script, 1);
+    let size = 2 + numbers_behind(action, argument);
     if there < size {
         return 0;
     }
@@ -52,8 +62,12 @@ pub fn play_one(
     let action = get(script, 0);
     let argument = get(script, 1);
     if action == 0 {
-        let allowance = argument as u16;
-        let ask = Ask { allowance };
+        let ceiling = argument as u16;
+        let allowance = get(script, 2) as u16;
+        let ask = Ask {
+            ceiling: Transitions(ceiling),
+            allowance,
+        };
         return play_search(file, ask, answer, work, log, place);
     }
     if action == 1 {

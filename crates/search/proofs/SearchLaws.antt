@@ -11,9 +11,10 @@ use lib.ListN.{length, take, drop}
 use lib.Seq.{length-take-le}
 use Rattle.lasso.specs.Lists.{pick, someIf}
 use Rattle.lasso.specs.Graph.{Graph, edges, loopStart}
-use Rattle.lasso.specs.Roll.{leastLength, roll}
-use Rattle.lasso.specs.Rounds.{candidates, afterRounds}
+use Rattle.lasso.specs.Roll.{leastLength, roll, rollWithin}
+use Rattle.lasso.specs.Rounds.{Record, candidates, afterRounds}
 use Rattle.lasso.proofs.RollLaws.{roll-empty, roll-length}
+use Rattle.lasso.proofs.CeilingLaws.{roll-within}
 use Rattle.gate.specs.declared.Ask.{Ask}
 use Rattle.model.specs.Model.{graphOf}
 use Rattle.format.specs.Layout.{states}
@@ -22,12 +23,12 @@ use Rattle.outcomes.specs.Outcome.{Outcome, refused, answered}
 use Rattle.outcomes.specs.Tables.{noRoom, lengthDue, listReasons}
 use Rattle.outcomes.proofs.OutcomeLaws.{CallIs, call-answer, call-broken, call-kept, never-too-long}
 use Rattle.outcomes.proofs.ReadBack.{transitions, readRecord, readRecord-recordOf, loses-nothing}
-use Rattle.gate.specs.Gate.{commonRules}
-use Rattle.format.proofs.Reasons.{broken-append, clear-append}
-use Rattle.gate.proofs.GateLaws.{common-clear}
+use Rattle.gate.specs.Gate.{commonRules, ceilingReason}
+use Rattle.format.proofs.Reasons.{broken-append}
+use Rattle.gate.proofs.GateLaws.{common-clear, ceiling-high, ceiling-low}
 use Rattle.search.specs.declared.SearchAnswer.{SearchAnswer}
 use Rattle.search.specs.declared.SearchAnswer.the-variants as SearchAnswers
-use Rattle.search.specs.Search.{Searched, stopped, empty, searchOutcomeOf, SearchLosesNothing, stopsb, firstOf, searched, firstDue, searchReasons, searchOutcome, searchAnswer}
+use Rattle.search.specs.Search.{Searched, stopped, noneWithin, searchOutcomeOf, SearchLosesNothing, stopsb, firstOf, searched, firstDue, searchReasons, searchOutcome, searchAnswer, WithEnough}
 
 -- a search's outcome, and the list that it writes
 abbrev pub SearchIs : List ℕ → Ask → ℕ → ℕ → Outcome Searched → Option (List ℕ) → Type 0
@@ -51,9 +52,15 @@ search-kept f ask answer work s due e p q =
 pub search-refused : (f : List ℕ) (ask : Ask) (answer work n : ℕ) → firstBroken (commonRules f work) ≡ some n
     → SearchIs f ask answer work (refused n) none
 search-refused f ask answer work n e =
-    search-broken f ask answer work n (broken-append (commonRules f work) (listReasons f (firstDue (graphOf f) ask) answer) n e)
+    search-broken f ask answer work n (broken-append (commonRules f work) (ceilingReason (ask .ceiling .0) ∷ listReasons f (firstDue (graphOf f) ask) answer) n e)
 
--- the first of a list of lists decides between found and empty
+-- refused with 21
+pub search-too-high : (f : List ℕ) (ask : Ask) (answer work : ℕ) → firstBroken (commonRules f work) ≡ none → 4096 < ask .ceiling .0
+    → SearchIs f ask answer work (refused 21) none
+search-too-high f ask answer work e high =
+    search-broken f ask answer work 21 (ceiling-high f work (ask .ceiling .0) (listReasons f (firstDue (graphOf f) ask) answer) e high)
+
+-- the first of a list of lists decides between found and none
 firstOf-head : (rs : List (List ℕ)) (xs : List ℕ) (rounds : ℕ) → head? rs ≡ some xs
     → firstOf rs rounds ≡ Searched.found (edges xs) (loopStart xs) rounds
 firstOf-head [] xs rounds e = let z : _≡_ {A = ℕ} 0 1 = cc in absurd (omega arith)
@@ -69,15 +76,18 @@ roll-first g l e = go (roll g) refl
     go (xs ∷ rs) q =
         (xs, refl, roll-length g l e xs (subst (λ (zs : List (List ℕ)). List·Memᴰ xs zs) (sym q) (List·Memᴰ·head refl)))
 
-module _ (f : List ℕ) (accepted : Accepted f) (ask : Ask) (answer work : ℕ) (room : 6 * states f ≤ work) where
-  -- the graph of the file
+module _ (f : List ℕ) (accepted : Accepted f) (ask : Ask) (answer work : ℕ) (room : 6 * states f ≤ work) (low : ask .ceiling .0 ≤ 4096) where
+  -- the graph of the file, and its roll within the ceiling
   abbrev g : Graph
   g = graphOf f
+
+  abbrev rs : List (List ℕ)
+  rs = rollWithin g (ask .ceiling .0)
 
   -- only reason 15 is left to decide
   search-reasons : firstBroken (searchReasons f ask answer work) ≡ someIf (noRoom (lengthDue (firstDue g ask)) answer) 15 none
   search-reasons =
-      clear-append (commonRules f work) (listReasons f (firstDue g ask) answer) (common-clear f work accepted room)
+      ceiling-low f work (ask .ceiling .0) (listReasons f (firstDue g ask) answer) (common-clear f work accepted room) low
       ∙ ap (λ (b : Bool). someIf b 14 (someIf (noRoom (lengthDue (firstDue g ask)) answer) 15 none)) (never-too-long f accepted)
 
   -- the list due has room or not
@@ -90,64 +100,68 @@ module _ (f : List ℕ) (accepted : Accepted f) (ask : Ask) (answer work : ℕ) 
 
   -- the allowance is less than the number of candidates: stopped with the record after that many rounds
   pub search-stopped : ask .allowance < length (candidates g)
-      → SearchIs f ask answer work (answered (stopped (afterRounds g (ask .allowance)))) none
+      → SearchIs f ask answer work (answered (stopped (afterRounds g (ask .ceiling .0) (ask .allowance)))) none
   search-stopped less =
+      let rec : Record = afterRounds g (ask .ceiling .0) (ask .allowance) in
       let stops : stopsb g (ask .allowance) ≡ true = lt-ltb (ask .allowance) (length (candidates g)) less in
-      let due : firstDue g ask ≡ none = ap (λ (b : Bool). pick b none (head? (roll g))) stops in
-      search-kept f ask answer work (stopped (afterRounds g (ask .allowance))) none (search-due none false due refl)
-      (ap (λ (b : Bool). pick b (stopped (afterRounds g (ask .allowance))) (firstOf (roll g) (length (candidates g)))) stops) due
+      let due : firstDue g ask ≡ none = ap (λ (b : Bool). pick b none (head? rs)) stops in
+      search-kept f ask answer work (stopped rec) none (search-due none false due refl)
+      (ap (λ (b : Bool). pick b (stopped rec) (firstOf rs (length (candidates g)))) stops) due
 
-  -- the allowance suffices: the first of the roll decides
+  -- the allowance suffices: the first of the roll within the ceiling decides
   pub search-goes-on : length (candidates g) ≤ ask .allowance
-      → (searched g ask ≡ firstOf (roll g) (length (candidates g))) × (firstDue g ask ≡ head? (roll g))
+      → (searched g ask ≡ firstOf rs (length (candidates g))) × (firstDue g ask ≡ head? rs)
   search-goes-on enough =
+      let rec : Record = afterRounds g (ask .ceiling .0) (ask .allowance) in
       let goes : stopsb g (ask .allowance) ≡ false = le-ltb (ask .allowance) (length (candidates g)) enough in (
-        ap (λ (b : Bool). pick b (stopped (afterRounds g (ask .allowance))) (firstOf (roll g) (length (candidates g)))) goes,
-        ap (λ (b : Bool). pick b none (head? (roll g))) goes,
+        ap (λ (b : Bool). pick b (stopped rec) (firstOf rs (length (candidates g)))) goes,
+        ap (λ (b : Bool). pick b none (head? rs)) goes,
       )
 
-  -- there is no accepting path: empty, with the number of candidates
-  pub search-empty : length (candidates g) ≤ ask .allowance → leastLength g ≡ none
-      → SearchIs f ask answer work (answered (empty (length (candidates g)))) none
-  search-empty enough none-least =
+  -- no accepting path is within the ceiling: none, with the number of candidates
+  pub search-none : length (candidates g) ≤ ask .allowance → rs ≡ []
+      → SearchIs f ask answer work (answered (noneWithin (length (candidates g)))) none
+  search-none enough no-list =
       let (answers, due) = search-goes-on enough in
-      let no-list : roll g ≡ [] = roll-empty g .1 none-least in
-      let nothing : firstDue g ask ≡ none = due ∙ ap (λ (rs : List (List ℕ)). head? rs) no-list in
-      search-kept f ask answer work (empty (length (candidates g))) none (search-due none false nothing refl)
-      (answers ∙ ap (λ (rs : List (List ℕ)). firstOf rs (length (candidates g))) no-list) nothing
+      let nothing : firstDue g ask ≡ none = due ∙ ap (λ (zs : List (List ℕ)). head? zs) no-list in
+      search-kept f ask answer work (noneWithin (length (candidates g))) none (search-due none false nothing refl)
+      (answers ∙ ap (λ (zs : List (List ℕ)). firstOf zs (length (candidates g))) no-list) nothing
 
   -- the first of the roll has room: found, with its figures
-  pub search-found : length (candidates g) ≤ ask .allowance → (xs : List ℕ) → head? (roll g) ≡ some xs → edges xs + 1 ≤ answer
+  pub search-found : length (candidates g) ≤ ask .allowance → (xs : List ℕ) → head? rs ≡ some xs → edges xs + 1 ≤ answer
       → SearchIs f ask answer work (answered (Searched.found (edges xs) (loopStart xs) (length (candidates g)))) (some xs)
   search-found enough xs first fits =
       let (answers, due) = search-goes-on enough in
       search-kept f ask answer work (Searched.found (edges xs) (loopStart xs) (length (candidates g))) (some xs)
       (search-due (some xs) false (due ∙ first) (le-ltb answer (edges xs + 1) fits))
-      (answers ∙ firstOf-head (roll g) xs (length (candidates g)) first) (due ∙ first)
+      (answers ∙ firstOf-head rs xs (length (candidates g)) first) (due ∙ first)
 
   -- it has no room: refused with 15
-  pub search-no-room : length (candidates g) ≤ ask .allowance → (l : ℕ) → leastLength g ≡ some l → answer < l + 1
+  pub search-no-room : length (candidates g) ≤ ask .allowance → (l : ℕ) → leastLength g ≡ some l → l ≤ ask .ceiling .0 → answer < l + 1
       → SearchIs f ask answer work (refused 15) none
-  search-no-room enough l least less =
+  search-no-room enough l least within less =
       let (xs, first, long) = roll-first g l least in
+      let first' : head? rs ≡ some xs = ap (λ (zs : List (List ℕ)). head? zs) (roll-within g l (ask .ceiling .0) least within) ∙ first in
       let (answers, due) = search-goes-on enough in
       search-broken f ask answer work 15
-      (search-due (some xs) true (due ∙ first) (lt-ltb answer (edges xs + 1) (omega arith)))
+      (search-due (some xs) true (due ∙ first') (lt-ltb answer (edges xs + 1) (omega arith)))
 
--- the first of the roll, which stands in region 0 behind the start, was written to the answer table: what a search with
--- any allowance that suffices answers and writes
+-- the first of the roll, which stands in region 0 behind the start, was written to the answer table: what a search that asks
+-- enough answers and writes
 pub first-written : (f : List ℕ) → Accepted f → (work : ℕ) → 6 * states f ≤ work → (a a' w : List ℕ) (s l k rounds : ℕ)
-    → s ≡ graphOf f .start → l ≤ length w → head? (roll (graphOf f)) ≡ some (graphOf f .start ∷ take l w) → l < length a
+    → s ≡ graphOf f .start → l ≤ length w → leastLength (graphOf f) ≡ some l
+    → head? (roll (graphOf f)) ≡ some (graphOf f .start ∷ take l w) → l < length a
     → k ≡ loopStart (s ∷ take l w) → rounds ≡ length (candidates (graphOf f)) → a' ≡ (s ∷ take l w) ++ drop (l + 1) a
-    → (ask : Ask) → rounds ≤ ask .allowance
-    → (answered (Searched.found l k rounds) ≡ searchOutcome f ask (length a) work) × (a' ≡ searchAnswer f ask a work)
-first-written f accepted work room a a' w s l k rounds at-start fits first free at-k all out ask enough =
+    → WithEnough rounds l (λ ask. (answered (Searched.found l k rounds) ≡ searchOutcome f ask (length a) work) × (a' ≡ searchAnswer f ask a work))
+first-written f accepted work room a a' w s l k rounds at-start fits least first free at-k all out ask asks =
     let g : Graph = graphOf f in
     let xs : List ℕ = s ∷ take l w in
     let long : length (take l w) ≡ l = length-take-le l w fits in
     let at-l : l ≡ edges xs = omega arith in
-    let first' : head? (roll g) ≡ some xs = subst (λ (x : ℕ). head? (roll g) ≡ some (x ∷ take l w)) (sym at-start) first in
-    let found = search-found f accepted ask (length a) work room (omega arith) xs first' (omega arith) in
+    let first' : head? (rollWithin g (ask .ceiling .0)) ≡ some xs =
+    ap (λ (zs : List (List ℕ)). head? zs) (roll-within g l (ask .ceiling .0) least (asks .within))
+    ∙ subst (λ (x : ℕ). head? (roll g) ≡ some (x ∷ take l w)) (sym at-start) first in
+    let found = search-found f accepted ask (length a) work room (asks .not-high) (omega (arith, asks .allowed)) xs first' (omega arith) in
     let figures : answered (Searched.found l k rounds) ≡ answered (Searched.found (edges xs) (loopStart xs) (length (candidates g))) = cc in
     let entries : l + 1 ≡ length xs = omega arith in (
       figures ∙ sym (found .outcome-is),
@@ -159,14 +173,14 @@ abbrev readSearch : Outcome Searched → SearchAnswer
 readSearch (refused n) = SearchAnswers.Refused n
 readSearch (answered (stopped r)) = SearchAnswers.Stopped (readRecord r)
 readSearch (answered (Searched.found l k rounds)) = SearchAnswers.Found (transitions l) k rounds
-readSearch (answered (empty rounds)) = SearchAnswers.Empty rounds
+readSearch (answered (noneWithin rounds)) = SearchAnswers.NoneWithin rounds
 
 -- a search's answer is read off its outcome
 readSearch-searchOutcomeOf : (a : SearchAnswer) → readSearch (searchOutcomeOf a) ≡ a
 readSearch-searchOutcomeOf (SearchAnswers.Refused n) = refl
 readSearch-searchOutcomeOf (SearchAnswers.Stopped r) = ap SearchAnswers.Stopped (readRecord-recordOf r)
 readSearch-searchOutcomeOf (SearchAnswers.Found l k rounds) = refl
-readSearch-searchOutcomeOf (SearchAnswers.Empty rounds) = refl
+readSearch-searchOutcomeOf (SearchAnswers.NoneWithin rounds) = refl
 
 -- equal outcomes of a search are of equal answers
 pub search-loses-nothing : SearchLosesNothing

@@ -1,5 +1,5 @@
-// A search: the first of the shortest accepting paths. It applies the reasons 1 to 12, 14 and 15 in order, and leaves
-// the working table untouched after 1 to 12 and all zero otherwise.
+// A search: the first of the shortest accepting paths, if they are not longer than the ceiling. It applies the reasons 1
+// to 12, 21, 14 and 15 in order, and leaves the working table untouched after 1 to 12 and all zero otherwise.
 ghost use mathlib.Core.Path.{_≡_};
 ghost use mathlib.Core.Option.{some};
 ghost use Prim.Native.Nat.{_*_, _≤_};
@@ -17,6 +17,7 @@ use cursor::begin;
 use cursor::to_first;
 use cursor::write_list;
 use gate::Ask;
+use gate::ceiling_too_high;
 use gate::enter;
 use gate::leave;
 use lasso::Entries;
@@ -26,16 +27,16 @@ use model::Checked;
 use model::Header;
 
 // The answer of a search: refused with a number; stopped with the record after the rounds that the allowance admits;
-// found with the length, the loop's start and the rounds; or empty with the rounds.
+// found with the length, the loop's start and the rounds; or none within the ceiling with the rounds.
 pub enum SearchAnswer {
     Refused(u16),
     Stopped(RoundRecord),
     Found(Transitions, u16, u16),
-    Empty(u16),
+    NoneWithin(u16),
 }
 
 // Writes the first of the shortest accepting paths, whose length is known. All rounds are done, so that the answer is
-// that of a search with any allowance that suffices.
+// that of a search with any allowance that suffices and any ceiling that the length is not above.
 fn first_list(
     file: &[u8],
     h: Header,
@@ -47,10 +48,10 @@ fn first_list(
     requires { ⌜ RoundsReady (now file) h (now work) ⌝ }
     requires { ⌜ leastLength (graphIn (now file) h) ≡ some (length .0) ⌝ }
     requires { ⌜ rounds ≡ lib.ListN.length (candidates (graphIn (now file) h)) ⌝ }
-    ensures outcome { λ r. ⌜ WithEnough rounds (λ ask. searchOutcomeOf r
+    ensures outcome { λ r. ⌜ WithEnough rounds (length .0) (λ ask. searchOutcomeOf r
         ≡ searchOutcome (now (file .entry)) ask
         (lib.ListN.length (now (answer .entry))) (lib.ListN.length (now (work .entry)))) ⌝ }
-    ensures answer { λ _. ⌜ WithEnough rounds (λ ask. now (answer .exit)
+    ensures answer { λ _. ⌜ WithEnough rounds (length .0) (λ ask. now (answer .exit)
         ≡ searchAnswer (now (file .entry)) ask (now (answer .entry)) (lib.ListN.length (now (work .entry)))) ⌝ }
     ensures kept { λ _. ⌜ lib.ListN.length (now (work .exit)) ≡ lib.ListN.length (now (work .entry)) ⌝ }
 {
@@ -68,7 +69,8 @@ fn first_list(
     SearchAnswer::Found(length, loop_start, rounds)
 }
 
-// The rounds that the allowance admits and, if it suffices, the first of the shortest accepting paths.
+// The rounds that the allowance admits and, if it suffices, the first of the shortest accepting paths, if they are within
+// the ceiling; refused if the ceiling is too high.
 fn search_model(
     file: &[u8],
     h: Header,
@@ -84,15 +86,18 @@ fn search_model(
         ≡ searchAnswer (now (file .entry)) ask (now (answer .entry)) (length (now (work .entry))) ⌝ }
     ensures kept { λ _. ⌜ length (now (work .exit)) ≡ length (now (work .entry)) ⌝ }
 {
-    let begun = begin(file, h, ask.allowance, work);
+    if ceiling_too_high(ask.ceiling) {
+        return SearchAnswer::Refused(21);
+    }
+    let begun = begin(file, h, ask.ceiling, ask.allowance, work);
     match begun {
         Begun::Stopped(record) => SearchAnswer::Stopped(record),
-        Begun::Empty(rounds) => SearchAnswer::Empty(rounds),
+        Begun::NoneWithin(rounds) => SearchAnswer::NoneWithin(rounds),
         Begun::Length(length, rounds) => first_list(file, h, length, rounds, answer, work),
     }
 }
 
-// The first of the shortest accepting paths, written to the answer table.
+// The first of the shortest accepting paths, written to the answer table if it is not longer than the ceiling.
 pub fn search(file: &[u8], ask: Ask, answer: &mut [u16], work: &mut [u16]) -> SearchAnswer
     ensures outcome { λ r. ⌜ searchOutcomeOf r
         ≡ searchOutcome (now (file .entry)) ask (length (now (answer .entry))) (length (now (work .entry))) ⌝ }

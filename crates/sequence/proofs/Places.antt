@@ -11,11 +11,12 @@ use lib.Seq.{take-append-seam}
 use lib.Dec.{eqb, eqb·zero-suc, eqb·suc-suc}
 use Rattle.lasso.proofs.Tests.{T-true, eq→eqb}
 use Rattle.lasso.specs.Graph.{Graph, edges}
-use Rattle.lasso.specs.Roll.{ofLeast, leastLength, roll}
+use Rattle.lasso.specs.Roll.{ofLeast, leastLength, roll, rollWithin}
 use Rattle.lasso.specs.Following.{following}
 use Rattle.lasso.proofs.Sorted.{Sorted}
 use Rattle.lasso.proofs.OrderLaws.{Before, following-at}
 use Rattle.lasso.proofs.RollLaws.{ofLength-length}
+use Rattle.lasso.proofs.CeilingLaws.{within-roll}
 use Rattle.outcomes.specs.Tables.{written}
 use Rattle.sequence.specs.Book.{listAt}
 
@@ -70,6 +71,10 @@ roll-entries g xs m = go (leastLength g) m
     go : (a : Option ℕ) → List·Memᴰ xs (ofLeast g a) → suc (edges xs) ≡ length xs
     go none n = absurd (List·Memᴰ·not-nil n)
     go (some l) n = omega (arith, ofLength-length g l xs n)
+
+-- so has each list of the roll within a ceiling
+pub within-entries : (g : Graph) (ceiling : ℕ) (xs : List ℕ) → List·Memᴰ xs (rollWithin g ceiling) → suc (edges xs) ≡ length xs
+within-entries g ceiling xs m = roll-entries g xs (within-roll g ceiling xs m)
 
 -- entries 0 to L of the answer table are the list that was written
 pub copy-written : (xs a : List ℕ) → suc (edges xs) ≡ length xs → take (suc (edges xs)) (written (some xs) a) ≡ xs

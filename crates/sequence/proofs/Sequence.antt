@@ -3,7 +3,7 @@
 use Prim.Native.Nat.{ℕ, zero, suc, _≤_}
 use native.Mathlib.Omega.{arith}
 use mathlib.Core.Path.{_≡_, refl, sym, _∙_, ap, subst}
-use mathlib.Core.Logic.{inl, inr}
+use mathlib.Core.Logic.{_⊎_, inl, inr}
 use mathlib.Core.Bool.{Bool, true, false}
 use mathlib.Core.List.{List, [], _∷_, _++_, map, head?, List·Memᴰ, List·Memᴰ·head}
 use mathlib.Core.Option.{Option, some, none}
@@ -11,12 +11,13 @@ use lib.ListN.{length, take, getElem?}
 use lib.Dec.{T}
 use Rattle.lasso.specs.Lists.{pick}
 use Rattle.lasso.specs.Graph.{Graph, edges}
-use Rattle.lasso.specs.Roll.{roll}
+use Rattle.lasso.specs.Roll.{roll, rollWithin}
 use Rattle.lasso.specs.Rounds.{Record, candidates, afterRounds}
 use Rattle.lasso.specs.Following.{following}
 use Rattle.lasso.proofs.Sorted.{Sorted}
 use Rattle.lasso.proofs.OrderLaws.{Before}
 use Rattle.lasso.proofs.RollLaws.{roll-strict}
+use Rattle.lasso.proofs.CeilingLaws.{whole-or-none}
 use Rattle.model.specs.Model.{graphOf}
 use Rattle.format.specs.Rules.{firstBroken}
 use Rattle.outcomes.specs.Outcome.{outcome}
@@ -29,7 +30,7 @@ use Rattle.gate.specs.Gate.{commonRules, workOf}
 use Rattle.sequence.specs.Calls.{Call, search, next, ofSearch, ofNext, Result, finderAt, foundLength, copyOf, received}
 use Rattle.sequence.specs.Book.{listAt, page, afterSearch, afterNext, unlessRefusedℕ, bookResults, bookEnd}
 use Rattle.sequence.specs.Claim.{lastReceived, Lent, Proper, addReceived, listsReceived, Condition3Holds}
-use Rattle.sequence.proofs.Places.{listAt-getElem, getElem-lt, getElem-mem, take-getElem, following-getElem, roll-entries, copy-written}
+use Rattle.sequence.proofs.Places.{listAt-getElem, getElem-lt, getElem-mem, take-getElem, following-getElem, roll-entries, within-entries, copy-written}
 use Rattle.format.proofs.Reasons.{broken-append, clear-append}
 
 -- the copy last received when h lists were: none, or the list at place h − 1
@@ -74,16 +75,22 @@ search-received [] entries none false rec rounds a = refl
 search-received (xs ∷ rs) entries none false rec rounds a =
     ap (λ (zs : List ℕ). some zs) (copy-written xs a (entries xs (List·Memᴰ·head refl)))
 
--- a search that is refused, stopped or empty leaves all as it stands; one that finds the first list begins anew
-search-stands : (rs : List (List ℕ)) {copy : Option (List ℕ)} {lists : List (List ℕ)} {h : ℕ} → StandsBetween rs copy lists h
-    → (first : Option ℕ) (stops : Bool) (rec : Record) (ask : Ask) (rounds : ℕ) (a w : List ℕ)
-    → After rs copy lists (search ask a w) (unlessRefused first (pick stops none (head? rs)))
-    (unlessRefusedℕ first h (afterSearch h (pick stops (stopped rec) (firstOf rs rounds))))
-search-stands rs s (some n) stops rec ask rounds a w = s
-search-stands rs s none true rec ask rounds a w = s
-search-stands [] s none false rec ask rounds a w = s
-search-stands (xs ∷ rs) s none false rec ask rounds a w =
-    record { at-copy = refl; at-lists = refl; within = omega arith }
+-- a search that is refused, stopped or finds none within the ceiling leaves all as it stands; one that finds the first list
+-- begins anew
+search-stands : (rs rs' : List (List ℕ)) → (rs' ≡ rs) ⊎ (rs' ≡ []) → {copy : Option (List ℕ)} {lists : List (List ℕ)} {h : ℕ}
+    → StandsBetween rs copy lists h → (first : Option ℕ) (stops : Bool) (rec : Record) (ask : Ask) (rounds : ℕ) (a w : List ℕ)
+    → After rs copy lists (search ask a w) (unlessRefused first (pick stops none (head? rs')))
+    (unlessRefusedℕ first h (afterSearch h (pick stops (stopped rec) (firstOf rs' rounds))))
+search-stands rs rs' cut s (some n) stops rec ask rounds a w = s
+search-stands rs rs' cut s none true rec ask rounds a w = s
+search-stands rs [] cut s none false rec ask rounds a w = s
+search-stands rs (xs ∷ rest) (inl e) {copy} {lists} s none false rec ask rounds a w =
+    subst (λ (zs : List (List ℕ)). After zs copy lists (search ask a w) (some xs) 1) e
+    (record { at-copy = refl; at-lists = refl; within = omega arith })
+search-stands rs (xs ∷ rest) (inr e) s none false rec ask rounds a w = absurd (not-nothing e)
+  where
+    not-nothing : xs ∷ rest ≡ [] → ⊥
+    not-nothing q = let n : suc (length rest) ≡ 0 = ap length q in omega arith
 
 -- a next that is refused or has no more leaves all as it stands; one that finds a list adds it
 next-stands : (rs : List (List ℕ)) {copy : Option (List ℕ)} {lists : List (List ℕ)} {h : ℕ} → StandsBetween rs copy lists h
@@ -163,12 +170,14 @@ page-stands : (f : List ℕ) {copy : Option (List ℕ)} {lists : List (List ℕ)
     → (c : Call) → After (roll (graphOf f)) copy lists c (received (page f h c .result)) (page f h c .after)
 page-stands f {copy} {lists} {h} s (search ask a w) =
     let g : Graph = graphOf f in
+    let rs : List (List ℕ) = rollWithin g (ask .ceiling .0) in
+    let rec : Record = afterRounds g (ask .ceiling .0) (ask .allowance) in
     let first : Option ℕ = firstBroken (searchReasons f ask (length a) (length w)) in
-    let brought = search-received (roll g) (roll-entries g) first (stopsb g (ask .allowance)) (afterRounds g (ask .allowance)) (length (candidates g)) a in
+    let brought = search-received rs (within-entries g (ask .ceiling .0)) first (stopsb g (ask .allowance)) rec (length (candidates g)) a in
     subst
     (λ (list : Option (List ℕ)). After (roll g) copy lists (search ask a w) list (page f h (search ask a w) .after))
     (sym brought)
-    (search-stands (roll g) s first (stopsb g (ask .allowance)) (afterRounds g (ask .allowance)) ask (length (candidates g)) a w)
+    (search-stands (roll g) rs (whole-or-none g (ask .ceiling .0)) s first (stopsb g (ask .allowance)) rec ask (length (candidates g)) a w)
 page-stands f {copy} {lists} {h} s (next earlier a w) =
     let g : Graph = graphOf f in
     let first : Option (List ℕ) → Option ℕ = λ due. firstBroken (commonRules f (length w) ++ dueReasons f earlier due (length a)) in

@@ -10,7 +10,7 @@ use Rattle.model.specs.Model.{graphOf}
 use Rattle.format.specs.Rules.{firstBroken}
 use Rattle.outcomes.specs.Outcome.{outcome}
 use Rattle.outcomes.specs.Tables.{written, unlessRefused}
-use Rattle.search.specs.Search.{Searched, stopped, empty, searchReasons, searched, firstDue}
+use Rattle.search.specs.Search.{Searched, stopped, noneWithin, searchReasons, searched, firstDue}
 use Rattle.next.specs.Next.{dueReasons, followed}
 use Rattle.gate.specs.Gate.{commonRules, workOf}
 use Rattle.sequence.specs.Calls.{Call, search, next, ofSearch, ofNext, Result}
@@ -27,7 +27,7 @@ listAt rs h = pick (eqb h (length rs)) none (some (getD rs h []))
 -- h after a search not refused: 1 if it found the roll's first list
 abbrev pub afterSearch : ℕ → Searched → ℕ
 afterSearch h (stopped r) = h
-afterSearch h (empty rounds) = h
+afterSearch h (noneWithin rounds) = h
 afterSearch h (Searched.found l k rounds) = 1
 
 -- h after a next not refused: one more if it found a list
@@ -40,9 +40,9 @@ abbrev pub unlessRefusedℕ : Option ℕ → ℕ → ℕ → ℕ
 unlessRefusedℕ none h h' = h'
 unlessRefusedℕ (some n) h h' = h
 
--- the book's page for a call: refused with the first reason in checking order; or for a search "stopped", "empty" or
--- "found" with the roll's first list; or for a next "no more" if h is the number of lists in the roll, else "found" with
--- the list at place h
+-- the book's page for a call: refused with the first reason in checking order; or for a search "stopped", "none within the
+-- ceiling" (when: `BookOfCeilings`) or "found" with the roll's first list; or for a next, which takes no ceiling, "no more"
+-- if h is the number of lists in the roll, else "found" with the list at place h
 abbrev pub page : List ℕ → ℕ → Call → Page
 page f h (search ask a w) =
     let first : Option ℕ = firstBroken (searchReasons f ask (length a) (length w)) in

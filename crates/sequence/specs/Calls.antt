@@ -4,7 +4,7 @@ use mathlib.Core.List.{List}
 use mathlib.Core.Option.{Option, some, none}
 use lib.ListN.{length, take}
 use Rattle.outcomes.specs.Outcome.{Outcome, refused, answered}
-use Rattle.search.specs.Search.{Searched, stopped, empty, searchOutcome, searchAnswer}
+use Rattle.search.specs.Search.{Searched, stopped, noneWithin, searchOutcome, searchAnswer}
 use Rattle.next.specs.Next.{Followed, noMore, nextOutcome, nextAnswer}
 use Rattle.gate.specs.declared.Ask.{Ask}
 use Rattle.gate.specs.Gate.{workOf}
@@ -44,7 +44,7 @@ abbrev pub foundLength : Answer → Option ℕ
 foundLength (ofSearch (refused n)) = none
 foundLength (ofSearch (answered (stopped r))) = none
 foundLength (ofSearch (answered (Searched.found l k rounds))) = some l
-foundLength (ofSearch (answered (empty rounds))) = none
+foundLength (ofSearch (answered (noneWithin rounds))) = none
 foundLength (ofNext (refused n)) = none
 foundLength (ofNext (answered (Followed.found l k))) = some l
 foundLength (ofNext (answered noMore)) = none

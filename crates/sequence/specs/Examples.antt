@@ -10,7 +10,7 @@ use Rattle.format.specs.Layout.{states}
 use Rattle.writer.specs.File.{word16, fileOf}
 use Rattle.gate.specs.Gate.{asking}
 use Rattle.outcomes.specs.Outcome.{Outcome, refused, answered}
-use Rattle.search.specs.Search.{Searched, stopped, empty}
+use Rattle.search.specs.Search.{Searched, stopped, noneWithin}
 use Rattle.next.specs.Next.{Followed, noMore}
 use Rattle.sequence.specs.Calls.{Call, search, next, Answer, ofSearch, ofNext, Result, finderAt}
 
@@ -83,14 +83,18 @@ lentAnswer = replicate 8 9
 abbrev pub lentWork : List ℕ → List ℕ
 lentWork f = replicate (6 * states f) 9
 
--- a search of the file with an allowance
-abbrev pub searchOf : List ℕ → ℕ → Call
-searchOf f allowance = search (asking allowance) lentAnswer (lentWork f)
+-- a search of the file with a ceiling and an allowance
+abbrev pub searchOf : List ℕ → (ceiling allowance : ℕ) → Call
+searchOf f ceiling allowance = search (asking ceiling allowance) lentAnswer (lentWork f)
 
--- the row of a search that is not refused
-abbrev pub searchRow : List ℕ → ℕ → Searched → List ℕ → Row
-searchRow f allowance s list =
-    record { file = f; call = searchOf f allowance; answer = ofSearch (answered s); list = list }
+-- the row of a search with a ceiling that is not refused
+abbrev pub rowWithin : List ℕ → (ceiling allowance : ℕ) → Searched → List ℕ → Row
+rowWithin f ceiling allowance s list =
+    record { file = f; call = searchOf f ceiling allowance; answer = ofSearch (answered s); list = list }
+
+-- the row of a search with the greatest ceiling
+abbrev pub searchRow : List ℕ → (allowance : ℕ) → Searched → List ℕ → Row
+searchRow f allowance s list = rowWithin f 4096 allowance s list
 
 -- the row of a next after an earlier list
 abbrev pub nextRow : List ℕ → List ℕ → Outcome Followed → List ℕ → Row
@@ -105,14 +109,14 @@ rowH allowance = searchRow fileH allowance (Searched.found 3 2 2) (0 ∷ 5 ∷ 6
 abbrev pub examples : List Row
 examples =
     -- A
-    searchRow fileA 65535 (empty 1) [] ∷
+    searchRow fileA 65535 (noneWithin 1) [] ∷
     -- A with 1, and next after its list
     searchRow fileA1 65535 (Searched.found 1 0 1) (0 ∷ 0 ∷ []) ∷
     nextRow fileA1 (0 ∷ 0 ∷ []) (answered noMore) [] ∷
     -- B
     searchRow fileB 65535 (Searched.found 1 0 1) (0 ∷ 0 ∷ []) ∷
     -- C
-    searchRow fileC 65535 (empty 0) [] ∷
+    searchRow fileC 65535 (noneWithin 0) [] ∷
     -- D
     searchRow fileD 65535 (Searched.found 3 1 1) (0 ∷ 1 ∷ 3 ∷ 1 ∷ []) ∷
     -- D2
@@ -122,7 +126,7 @@ examples =
     -- D4
     nextRow fileD (0 ∷ 2 ∷ 3 ∷ 1 ∷ []) (refused 13) [] ∷
     -- E
-    searchRow fileE 65535 (empty 1) [] ∷
+    searchRow fileE 65535 (noneWithin 1) [] ∷
     -- F
     searchRow fileF 65535 (Searched.found 2 0 1) (0 ∷ 1 ∷ 0 ∷ []) ∷
     -- G
@@ -132,7 +136,12 @@ examples =
     -- H1
     searchRow fileH 1 (stopped (record { done = 1; best = some 5 })) [] ∷
     -- H0
-    searchRow fileH 0 (stopped (record { done = 0; best = none })) [] ∷ []
+    searchRow fileH 0 (stopped (record { done = 0; best = none })) [] ∷
+    -- H with ceilings 3 and 2
+    rowWithin fileH 3 2 (Searched.found 3 2 2) (0 ∷ 5 ∷ 6 ∷ 6 ∷ []) ∷
+    rowWithin fileH 2 2 (noneWithin 2) [] ∷
+    -- H1 with ceiling 4
+    rowWithin fileH 4 1 (stopped (record { done = 1; best = none })) [] ∷ []
 
 -- what the finder does at a row's call
 abbrev pub given : Row → Result

@@ -3,5 +3,8 @@
 pub mod Calls
 pub mod Book
 pub mod Claim
+pub mod Ceilings
 pub mod Examples
+pub mod Steps
 pub mod Grades
+pub mod Distances

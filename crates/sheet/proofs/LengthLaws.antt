@@ -33,9 +33,9 @@ use Rattle.sheet_text.proofs.SheetLaws.{headOf, rollText-some}
 refusal-accepted : (f : List ℕ) (answer work : ℕ) → sheetRefusal f answer work ≡ none → Accepted f
 refusal-accepted f answer work e = append-clear (rules f) (drop 11 (searchReasons f sheetAsk answer work)) e
 
--- the number of a refusal is at most 15
-refusal-number : (f : List ℕ) (answer work n : ℕ) → sheetRefusal f answer work ≡ some n → n ≤ 15
-refusal-number f answer work n e = broken-number (λ k. k ≤ 15) (searchReasons f sheetAsk answer work) (omega arith) n e
+-- the number of a refusal is at most 21
+refusal-number : (f : List ℕ) (answer work n : ℕ) → sheetRefusal f answer work ≡ some n → n ≤ 21
+refusal-number f answer work n e = broken-number (λ k. k ≤ 21) (searchReasons f sheetAsk answer work) (omega arith) n e
 
 module _ (f : List ℕ) (accepted : Accepted f) where
   -- the lines before the lists

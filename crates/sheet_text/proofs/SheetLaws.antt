@@ -6,9 +6,10 @@ use mathlib.Core.Option.{Option, some, none}
 use native.Mathlib.Omega.{arith}
 use lib.ListN.{length}
 use Rattle.lasso.specs.Graph.{edges}
-use Rattle.lasso.specs.Roll.{leastLength, roll}
+use Rattle.lasso.specs.Roll.{leastLength, roll, rollWithin}
 use Rattle.lasso.specs.Rounds.{candidates}
-use Rattle.lasso.proofs.RollLaws.{roll-empty}
+use Rattle.lasso.proofs.RollLaws.{roll-empty, leastLength-range}
+use Rattle.lasso.proofs.CeilingLaws.{roll-full}
 use Rattle.format.specs.Layout.{states, edgeCount}
 use Rattle.model.specs.Model.{graphOf}
 use Rattle.format.specs.Rules.{Accepted}
@@ -19,7 +20,7 @@ use Rattle.lasso.proofs.RoundLaws.{candidates-length-le}
 use Rattle.outcomes.specs.Outcome.{refused, answered, outcome}
 use Rattle.outcomes.specs.Tables.{written, unlessRefused}
 use Rattle.search.specs.Search.{Searched, searched}
-use Rattle.search.proofs.SearchLaws.{SearchIs, search-empty, search-found, search-no-room, roll-first}
+use Rattle.search.proofs.SearchLaws.{SearchIs, search-none, search-found, search-no-room, roll-first}
 use Rattle.text.specs.Figure.{figure}
 use Rattle.sheet_head.specs.Words.{refusedWord, noneLine, shortestWord}
 use Rattle.sheet_head.specs.Head.{head}
@@ -87,11 +88,21 @@ module _ (f : List ℕ) (accepted : Accepted f) (answer work : ℕ) (room : 6 * 
       let facts = accepted-facts f accepted in
       omega (arith, candidates-length-le (graphOf f), facts .states-range)
 
+  -- the ceiling is no higher than may be
+  low-ceiling : sheetAsk .ceiling .0 ≤ 4096
+  low-ceiling = omega arith
+
+  -- and cuts nothing off the roll
+  pub whole-roll : rollWithin (graphOf f) (sheetAsk .ceiling .0) ≡ roll (graphOf f)
+  whole-roll =
+      let facts = accepted-facts f accepted in
+      roll-full (graphOf f) (sheetAsk .ceiling .0) (omega (arith, facts .states-range))
+
   -- there is no accepting path
-  pub sheet-empty : leastLength (graphOf f) ≡ none → SheetIs f answer work (headOf f ++ noneLine) none
-  sheet-empty e =
+  pub sheet-none : leastLength (graphOf f) ≡ none → SheetIs f answer work (headOf f ++ noneLine) none
+  sheet-none e =
       let no-list : roll (graphOf f) ≡ [] = roll-empty (graphOf f) .1 e in
-      let s = sheet-kept f answer work (search-empty f accepted sheetAsk answer work room enough-rounds e) in
+      let s = sheet-kept f answer work (search-none f accepted sheetAsk answer work room low-ceiling enough-rounds (whole-roll ∙ no-list)) in
       record {
         text-is = s .text-is ∙ ap (λ (rs : List (List ℕ)). headOf f ++ rollText rs) no-list;
         list-is = s .list-is ∙ ap (λ (rs : List (List ℕ)). lastPrinted rs) no-list;
@@ -102,7 +113,7 @@ module _ (f : List ℕ) (accepted : Accepted f) (answer work : ℕ) (room : 6 * 
       → SheetIs f answer work (headOf f ++ figure shortestWord l ++ listsText (roll (graphOf f))) (lastPrinted (roll (graphOf f)))
   sheet-lists l e fits =
       let (xs, first, long) = roll-first (graphOf f) l e in
-      let s = sheet-kept f answer work (search-found f accepted sheetAsk answer work room enough-rounds xs first (omega arith)) in
+      let s = sheet-kept f answer work (search-found f accepted sheetAsk answer work room low-ceiling enough-rounds xs (ap (λ (rs : List (List ℕ)). head? rs) whole-roll ∙ first) (omega arith)) in
       record {
         text-is =
             s .text-is
@@ -113,7 +124,10 @@ module _ (f : List ℕ) (accepted : Accepted f) (answer work : ℕ) (room : 6 * 
 
   -- there are lists, and they have no room
   pub sheet-no-room : (l : ℕ) → leastLength (graphOf f) ≡ some l → answer < l + 1 → SheetIs f answer work (figure refusedWord 15) none
-  sheet-no-room l e less = sheet-refused f answer work (search-no-room f accepted sheetAsk answer work room enough-rounds l e less)
+  sheet-no-room l e less =
+      let facts = accepted-facts f accepted in
+      let within : l ≤ sheetAsk .ceiling .0 = omega (arith, leastLength-range (graphOf f) l e, facts .states-range) in
+      sheet-refused f answer work (search-no-room f accepted sheetAsk answer work room low-ceiling enough-rounds l e within less)
 
 -- the numbers of the header are the file's
 pub head-is : {f : List ℕ} {h : Header} {rounds : ℕ} → Valid f h → rounds ≡ length (candidates (graphOf f))

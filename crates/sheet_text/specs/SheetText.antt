@@ -29,9 +29,10 @@ abbrev pub textOf : Option ℕ → List ℕ → List ℕ
 textOf none f = head (states f) (edgeCount f) (length (candidates (graphOf f))) ++ rollText (roll (graphOf f))
 textOf (some n) f = figure refusedWord n
 
--- what the sheet's search asks: allowance 65,535; there are never more than 4,096 candidates
+-- what the sheet's search asks: ceiling 4,096, which no shortest accepting path is above, and allowance 65,535; there are
+-- never more than 4,096 candidates
 abbrev pub sheetAsk : Ask
-sheetAsk = asking 65535
+sheetAsk = asking 4096 65535
 
 -- the reason to refuse, if there is one; the tables have so many entries
 abbrev pub sheetRefusal : List ℕ → ℕ → ℕ → Option ℕ

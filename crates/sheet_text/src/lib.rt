@@ -13,6 +13,7 @@ ghost use Rattle.text.specs.Writing.{Wrote};
 ghost use Rattle.sheet_text.specs.SheetText.{sheetText, sheetAnswer, sheetRoom};
 use cursor::ALL_ROUNDS;
 use cursor::Begun;
+use cursor::FULL_CEILING;
 use cursor::begin;
 use lasso::Entries;
 use lasso::Transitions;
@@ -73,10 +74,10 @@ pub fn sheet_model(
         sheetAnswer (now (file .entry)) (now (answer .entry)) (length (now (work .entry))) ⌝ }
     ensures kept { λ _. ⌜ length (now (work .exit)) ≡ length (now (work .entry)) ⌝ }
 {
-    let begun = begin(file, h, ALL_ROUNDS, work);
+    let begun = begin(file, h, Transitions(FULL_CEILING), ALL_ROUNDS, work);
     match begun {
         Begun::Stopped(_) => 0,
-        Begun::Empty(rounds) => {
+        Begun::NoneWithin(rounds) => {
             let at = write_head(text, h, rounds as usize);
             write_bytes(text, at, b"none\n")
         }

@@ -2,7 +2,7 @@
 use Prim.Native.Nat.{ℕ, _≤_, _<_}
 use mathlib.Core.Path.{_≡_, refl, sym, _∙_, ap}
 use mathlib.Core.Bool.{Bool}
-use mathlib.Core.List.{List}
+use mathlib.Core.List.{List, [], _∷_}
 use mathlib.Core.Option.{Option, some, none}
 use borrow.Author.Tests.{le-leb, lt-leb}
 use lib.ListN.{length}
@@ -13,38 +13,47 @@ use Rattle.model.specs.Model.{graphOf}
 use Rattle.format.specs.Rules.{firstBroken}
 use Rattle.outcomes.specs.Outcome.{Outcome, refused, answered, outcome}
 use Rattle.outcomes.proofs.ReadBack.{readRecord, readRecord-recordOf, loses-nothing}
-use Rattle.gate.specs.Gate.{commonRules}
+use Rattle.gate.specs.Gate.{commonRules, ceilingReason}
+use Rattle.format.proofs.Reasons.{broken-append}
+use Rattle.gate.proofs.GateLaws.{ceiling-high, ceiling-low}
 use Rattle.step.specs.declared.StepAnswer.{StepAnswer}
 use Rattle.step.specs.declared.StepAnswer.the-variants as StepAnswers
-use Rattle.step.specs.Step.{Stepped, finished, advanced, stepOutcomeOf, StepLosesNothing, stepped, stepOutcome}
+use Rattle.step.specs.Step.{Stepped, finished, advanced, stepOutcomeOf, StepLosesNothing, stepped, stepReasons, stepOutcome}
 
-module _ (f : List ℕ) (rec : Record) (work : ℕ) where
+module _ (f : List ℕ) (ceiling : ℕ) (rec : Record) (work : ℕ) where
   -- refused with the first reason that holds
-  pub step-refused : (n : ℕ) → firstBroken (commonRules f work) ≡ some n → refused n ≡ stepOutcome f rec work
-  step-refused n e = sym (ap (λ (o : Option ℕ). outcome o (stepped (graphOf f) rec)) e)
+  step-broken : (n : ℕ) → firstBroken (stepReasons f ceiling work) ≡ some n → refused n ≡ stepOutcome f ceiling rec work
+  step-broken n e = sym (ap (λ (o : Option ℕ). outcome o (stepped (graphOf f) ceiling rec)) e)
 
-  -- not refused: answered with what the step gives
-  step-answered : (s : Stepped) → firstBroken (commonRules f work) ≡ none → stepped (graphOf f) rec ≡ s
-      → answered s ≡ stepOutcome f rec work
-  step-answered s e q =
-      sym (ap (λ (o : Option ℕ). outcome o (stepped (graphOf f) rec)) e ∙ ap (λ (x : Stepped). answered x) q)
+  -- refused with a reason of 1 to 12
+  pub step-refused : (n : ℕ) → firstBroken (commonRules f work) ≡ some n → refused n ≡ stepOutcome f ceiling rec work
+  step-refused n e = step-broken n (broken-append (commonRules f work) (ceilingReason ceiling ∷ []) n e)
 
-  -- no candidate is left: finished, with the same record
-  pub step-finished : firstBroken (commonRules f work) ≡ none → length (candidates (graphOf f)) ≤ rec .done
-      → answered (finished rec) ≡ stepOutcome f rec work
-  step-finished e le =
-      let g : Graph = graphOf f in
-      step-answered (finished rec) e
-      (ap (λ (b : Bool). pick b (finished rec) (advanced (afterRound g rec))) (le-leb (length (candidates g)) (rec .done) le))
+  -- refused with 21
+  pub step-too-high : firstBroken (commonRules f work) ≡ none → 4096 < ceiling → refused 21 ≡ stepOutcome f ceiling rec work
+  step-too-high e high = step-broken 21 (ceiling-high f work ceiling [] e high)
 
-  -- a candidate is left: the record after its round
-  pub step-advanced : firstBroken (commonRules f work) ≡ none → rec .done < length (candidates (graphOf f))
-      → (after : Record) → after ≡ afterRound (graphOf f) rec → answered (advanced after) ≡ stepOutcome f rec work
-  step-advanced e less after q =
-      let g : Graph = graphOf f in
-      step-answered (advanced after) e
-      (ap (λ (b : Bool). pick b (finished rec) (advanced (afterRound g rec))) (lt-leb (length (candidates g)) (rec .done) less)
-      ∙ ap (λ (r : Record). advanced r) (sym q))
+  module _ (e : firstBroken (commonRules f work) ≡ none) (low : ceiling ≤ 4096) where
+    -- not refused: answered with what the step gives
+    step-answered : (s : Stepped) → stepped (graphOf f) ceiling rec ≡ s → answered s ≡ stepOutcome f ceiling rec work
+    step-answered s q =
+        sym (ap (λ (o : Option ℕ). outcome o (stepped (graphOf f) ceiling rec)) (ceiling-low f work ceiling [] e low) ∙ ap (λ (x : Stepped). answered x) q)
+
+    -- no candidate is left: finished, with the same record
+    pub step-finished : length (candidates (graphOf f)) ≤ rec .done → answered (finished rec) ≡ stepOutcome f ceiling rec work
+    step-finished le =
+        let g : Graph = graphOf f in
+        step-answered (finished rec)
+        (ap (λ (b : Bool). pick b (finished rec) (advanced (afterRound g ceiling rec))) (le-leb (length (candidates g)) (rec .done) le))
+
+    -- a candidate is left: the record after its round
+    pub step-advanced : rec .done < length (candidates (graphOf f)) → (after : Record) → after ≡ afterRound (graphOf f) ceiling rec
+        → answered (advanced after) ≡ stepOutcome f ceiling rec work
+    step-advanced less after q =
+        let g : Graph = graphOf f in
+        step-answered (advanced after)
+        (ap (λ (b : Bool). pick b (finished rec) (advanced (afterRound g ceiling rec))) (lt-leb (length (candidates g)) (rec .done) less)
+        ∙ ap (λ (r : Record). advanced r) (sym q))
 
 -- the answer of a step with a given outcome
 abbrev readStep : Outcome Stepped → StepAnswer

@@ -1,14 +1,14 @@
--- One step: the record after one more round.
+-- One step: the record after one more round under a ceiling.
 use Prim.Native.Nat.{ℕ}
-use mathlib.Core.List.{List}
+use mathlib.Core.List.{List, [], _∷_, _++_}
 use Rattle.lasso.specs.Lists.{pick}
 use Rattle.lasso.specs.Graph.{Graph}
 use Rattle.lasso.specs.Rounds.{Record, finishedb, afterRound}
 use Rattle.lasso.specs.Values.{recordOf}
 use Rattle.model.specs.Model.{graphOf}
-use Rattle.format.specs.Rules.{firstBroken}
+use Rattle.format.specs.Rules.{Reason, firstBroken}
 use Rattle.outcomes.specs.Outcome.{Outcome, refused, answered, outcome, LosesNothing}
-use Rattle.gate.specs.Gate.{commonRules}
+use Rattle.gate.specs.Gate.{commonRules, ceilingReason}
 use Rattle.step.specs.declared.StepAnswer.{StepAnswer}
 use Rattle.step.specs.declared.StepAnswer.the-variants as StepAnswers
 
@@ -29,9 +29,13 @@ StepLosesNothing = LosesNothing stepOutcomeOf
 
 -- finished with the same record if no candidate is left, else the record after the round for the candidate whose place
 -- is the count
-abbrev pub stepped : Graph → Record → Stepped
-stepped g rec = pick (finishedb g rec) (finished rec) (advanced (afterRound g rec))
+abbrev pub stepped : Graph → (ceiling : ℕ) → Record → Stepped
+stepped g ceiling rec = pick (finishedb g rec) (finished rec) (advanced (afterRound g ceiling rec))
 
--- what a step answers: a step goes no further than reason 12
-abbrev pub stepOutcome : List ℕ → Record → ℕ → Outcome Stepped
-stepOutcome f rec work = outcome (firstBroken (commonRules f work)) (stepped (graphOf f) rec)
+-- the reasons that a step applies: 21 behind 1 to 12, and no further
+abbrev pub stepReasons : List ℕ → (ceiling work : ℕ) → List Reason
+stepReasons f ceiling work = commonRules f work ++ ceilingReason ceiling ∷ []
+
+-- what a step answers
+abbrev pub stepOutcome : List ℕ → (ceiling : ℕ) → Record → (work : ℕ) → Outcome Stepped
+stepOutcome f ceiling rec work = outcome (firstBroken (stepReasons f ceiling work)) (stepped (graphOf f) ceiling rec)

@@ -1,5 +1,5 @@
-// One step: the record after one more round. It applies the reasons 1 to 12 in order, and leaves the working table
-// untouched after one of them and all zero otherwise.
+// One step: the record after one more round under a ceiling. It applies the reasons 1 to 12 and 21 in order, and leaves
+// the working table untouched after 1 to 12 and all zero otherwise.
 ghost use mathlib.Core.Path.{_≡_};
 ghost use Prim.Native.Nat.{_*_, _≤_};
 ghost use lib.ListN.{length};
@@ -9,9 +9,11 @@ ghost use Rattle.gate.specs.Gate.{workOf};
 ghost use Rattle.step.specs.Step.{stepOutcomeOf, stepOutcome};
 use candidates::count_candidates;
 use candidates::start_distances;
+use gate::ceiling_too_high;
 use gate::enter;
 use gate::leave;
 use lasso::RoundRecord;
+use lasso::Transitions;
 use model::Checked;
 use model::Header;
 use rounds::next_round;
@@ -23,35 +25,44 @@ pub enum StepAnswer {
     Advanced(RoundRecord),
 }
 
-// The record after one more round, or the same if no candidate is left.
-fn step_model(file: &[u8], h: Header, so_far: RoundRecord, work: &mut [u16]) -> StepAnswer
+// The record after one more round, or the same if no candidate is left; refused if the ceiling is too high.
+fn step_model(
+    file: &[u8],
+    h: Header,
+    ceiling: Transitions,
+    so_far: RoundRecord,
+    work: &mut [u16],
+) -> StepAnswer
     requires { ⌜ Valid (now file) h ⌝ }
     requires { ⌜ 6 * h .states ≤ length (now work) ⌝ }
     ensures outcome { λ r. ⌜ stepOutcomeOf r
-        ≡ stepOutcome (now (file .entry)) (recordOf «so_far») (length (now (work .entry))) ⌝ }
+        ≡ stepOutcome (now (file .entry)) (ceiling .0) (recordOf «so_far») (length (now (work .entry))) ⌝ }
     ensures kept { λ _. ⌜ length (now (work .exit)) ≡ length (now (work .entry)) ⌝ }
 {
+    if ceiling_too_high(ceiling) {
+        return StepAnswer::Refused(21);
+    }
     start_distances(file, h, work);
     let count = count_candidates(file, h, work);
     let place = so_far.done as usize;
     if count <= place {
         return StepAnswer::Finished(so_far);
     }
-    let after = next_round(file, h, work, so_far);
+    let after = next_round(file, h, work, ceiling, so_far);
     StepAnswer::Advanced(after)
 }
 
-// The record after one more round, for any record at all.
-pub fn step(file: &[u8], so_far: RoundRecord, work: &mut [u16]) -> StepAnswer
+// The record after one more round under a ceiling, for any record at all.
+pub fn step(file: &[u8], ceiling: Transitions, so_far: RoundRecord, work: &mut [u16]) -> StepAnswer
     ensures outcome { λ r. ⌜ stepOutcomeOf r
-        ≡ stepOutcome (now (file .entry)) (recordOf «so_far») (length (now (work .entry))) ⌝ }
+        ≡ stepOutcome (now (file .entry)) (ceiling .0) (recordOf «so_far») (length (now (work .entry))) ⌝ }
     ensures work { λ r. ⌜ now (work .exit) ≡ workOf (now (file .entry)) (now (work .entry)) ⌝ }
 {
     let checked = enter(file, work);
     match checked {
         Checked::Refused(number) => StepAnswer::Refused(number),
         Checked::Accept(h) => {
-            let stepped = step_model(file, h, so_far, work);
+            let stepped = step_model(file, h, ceiling, so_far, work);
             leave(work);
             stepped
         }

@@ -1,16 +1,20 @@
 // The answers of the finder, each as one number.
+use distances::DistancesAnswer;
+use harness::DISTANCES_REFUSED;
+use harness::DISTANCES_WRITTEN;
 use harness::NEXT_FOUND;
 use harness::NEXT_NO_MORE;
 use harness::NEXT_REFUSED;
 use harness::NO_LENGTH;
-use harness::SEARCH_EMPTY;
 use harness::SEARCH_FOUND;
+use harness::SEARCH_NONE_WITHIN;
 use harness::SEARCH_REFUSED;
 use harness::SEARCH_STOPPED;
 use harness::STEP_ADVANCED;
 use harness::STEP_FINISHED;
 use harness::STEP_REFUSED;
 use harness::code_of;
+use harness::entry;
 use lasso::Best;
 use lasso::RoundRecord;
 use lasso::Transitions;
@@ -57,7 +61,7 @@ pub fn of_search(given: SearchAnswer) -> u64 {
         SearchAnswer::Found(l, k, rounds) => {
             code_of(SEARCH_FOUND, l.0 as u64, k as u64, rounds as u64)
         }
-        SearchAnswer::Empty(rounds) => code_of(SEARCH_EMPTY, rounds as u64, 0, 0),
+        SearchAnswer::NoneWithin(rounds) => code_of(SEARCH_NONE_WITHIN, rounds as u64, 0, 0),
     }
 }
 
@@ -67,5 +71,23 @@ pub fn of_next(given: NextAnswer) -> u64 {
         NextAnswer::Refused(n) => code_of(NEXT_REFUSED, n as u64, 0, 0),
         NextAnswer::Found(l, k) => code_of(NEXT_FOUND, l.0 as u64, k as u64, 0),
         NextAnswer::NoMore => code_of(NEXT_NO_MORE, 0, 0, 0),
+    }
+}
+
+// The last of the first so many entries of a table, 0 if there are none.
+fn last_of(table: &[u16], count: usize) -> u64 {
+    if count == 0 {
+        return 0;
+    }
+    entry(table, count - 1) as u64
+}
+
+// What a distance call answered, with the last of the entries that it wrote.
+pub fn of_distances(given: DistancesAnswer, output: &[u16]) -> u64 {
+    match given {
+        DistancesAnswer::Refused(n) => code_of(DISTANCES_REFUSED, n as u64, 0, 0),
+        DistancesAnswer::Written(n) => {
+            code_of(DISTANCES_WRITTEN, n as u64, last_of(output, n as usize), 0)
+        }
     }
 }

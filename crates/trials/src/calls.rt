@@ -2,27 +2,29 @@
 ghost use Prim.Native.Nat.{_≤_};
 ghost use lib.ListN.{length};
 use crate::answer::best_of;
+use crate::answer::of_distances;
 use crate::answer::of_next;
 use crate::answer::of_search;
 use crate::answer::of_step;
 use crate::look::seen;
 use crate::look::seen_work;
+use gate::Ask;
 use harness::VARIED;
 use harness::fill;
 use lasso::RoundRecord;
+use lasso::Transitions;
 
 // A step with the whole of a working table.
-fn step_on(file: &[u8], so_far: RoundRecord, work: &mut [u16]) -> u64 {
+fn step_on(file: &[u8], ceiling: Transitions, so_far: RoundRecord, work: &mut [u16]) -> u64 {
     fill(work, VARIED);
-    let code = of_step(step::step(file, so_far, work));
+    let code = of_step(step::step(file, ceiling, so_far, work));
     seen_work(code, work)
 }
 
 // A search with the whole of two tables.
-fn search_on(file: &[u8], allowance: u16, table: &mut [u16], work: &mut [u16]) -> u64 {
+fn search_on(file: &[u8], ask: Ask, table: &mut [u16], work: &mut [u16]) -> u64 {
     fill(table, VARIED);
     fill(work, VARIED);
-    let ask = gate::Ask { allowance };
     let code = of_search(search::search(file, ask, table, work));
     seen(code, table, work)
 }
@@ -35,20 +37,30 @@ fn next_on(file: &[u8], earlier: &[u16], table: &mut [u16], work: &mut [u16]) ->
     seen(code, table, work)
 }
 
-// A step from a record, lent so many entries of a working table.
-pub fn step(file: &[u8], done: u16, best: u64, work: &mut [u16], room: usize) -> u64
+// The distances with the whole of two tables.
+fn distances_on(file: &[u8], ceiling: Transitions, output: &mut [u16], work: &mut [u16]) -> u64 {
+    fill(output, VARIED);
+    fill(work, VARIED);
+    let given = distances::distances(file, ceiling, output, work);
+    let code = of_distances(given, output);
+    seen(code, output, work)
+}
+
+// A step under a ceiling from a record, lent so many entries of a working table.
+pub fn step(file: &[u8], ceiling: u16, done: u16, best: u64, work: &mut [u16], room: usize) -> u64
     requires { ⌜ room ≤ length (now work) ⌝ }
 {
     let so_far = RoundRecord {
         done: done,
         best: best_of(best),
     };
-    step_on(file, so_far, &mut work[..room])
+    step_on(file, Transitions(ceiling), so_far, &mut work[..room])
 }
 
-// A search, lent so many entries of an answer table and of a working table.
+// A search under a ceiling, lent so many entries of an answer table and of a working table.
 pub fn search(
     file: &[u8],
+    ceiling: u16,
     allowance: u16,
     table: &mut [u16],
     space: usize,
@@ -58,7 +70,11 @@ pub fn search(
     requires { ⌜ space ≤ length (now table) ⌝ }
     requires { ⌜ room ≤ length (now work) ⌝ }
 {
-    search_on(file, allowance, &mut table[..space], &mut work[..room])
+    let ask = Ask {
+        ceiling: Transitions(ceiling),
+        allowance: allowance,
+    };
+    search_on(file, ask, &mut table[..space], &mut work[..room])
 }
 
 // Next with an earlier list, lent so many entries of an answer table and of a working table.
@@ -74,4 +90,24 @@ pub fn next(
     requires { ⌜ room ≤ length (now work) ⌝ }
 {
     next_on(file, earlier, &mut table[..space], &mut work[..room])
+}
+
+// The distances up to a ceiling, lent so many entries of an output and of a working table.
+pub fn distances(
+    file: &[u8],
+    ceiling: u16,
+    output: &mut [u16],
+    space: usize,
+    work: &mut [u16],
+    room: usize,
+) -> u64
+    requires { ⌜ space ≤ length (now output) ⌝ }
+    requires { ⌜ room ≤ length (now work) ⌝ }
+{
+    distances_on(
+        file,
+        Transitions(ceiling),
+        &mut output[..space],
+        &mut work[..room],
+    )
 }

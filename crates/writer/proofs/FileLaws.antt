@@ -7,14 +7,14 @@ use mathlib.Core.List.{List, [], _∷_, _++_, map, append-nil}
 use native.Mathlib.Omega.{arith}
 use native.Mathlib.Numerals.{add-one}
 use native.Mathlib.Nat.{add-zero, one-mul, pow-suc, eq-or-lt-of-le, div-eq-of-lt, add-mul-div-right, add-mul-mod-self-right}
-use lib.ListN.{length, getD, length-append, length-map}
+use lib.ListN.{length, getD, length-append}
 use lib.Pow.{pow-pos, pow-add}
 use lib.Dec.{eqb}
-use Rattle.lasso.specs.Lists.{pick, collect, upFrom, below}
+use Rattle.lasso.specs.Lists.{pick, collect, below}
 use Rattle.lasso.specs.Graph.{Graph}
+use Rattle.lasso.proofs.BelowLaws.{below-next, map-below-length, map-below-next}
 use Rattle.format.specs.Bytes.{word, bitb}
 use Rattle.format.specs.Layout.{markBytes, totalOf}
-use Rattle.model.proofs.Laws.{upFrom-length}
 use Rattle.text.proofs.CollectLaws.{collect-append}
 use Rattle.writer.specs.File.{words16, edgesBelow, edgeTotal, headerWords, rowWords, worth, markByte, fileOf}
 
@@ -40,44 +40,12 @@ word-words16 (x ∷ xs) rest (suc k) h =
     let e : 2 * suc k ≡ suc (suc (2 * k)) = omega arith in
     rw (e, add-one) (rw add-one at (word-words16 xs rest k (omega arith)))
 
--- a longer range has one number more at its end
-pub upFrom-next : (a n b : ℕ) → a + n ≡ b → upFrom a (suc n) ≡ upFrom a n ++ b ∷ []
-upFrom-next a zero b e = let q : a ≡ b = omega arith in rw q
-upFrom-next a (suc n) b e = ap (λ (r : List ℕ). a ∷ r) (upFrom-next (suc a) n b (omega arith))
-
--- the numbers below s + 1 are those below s, and s
-pub below-next : (s : ℕ) → below (s + 1) ≡ below s ++ s ∷ []
-below-next s = ap (λ (k : ℕ). below k) (add-one s) ∙ upFrom-next 0 s s (omega arith)
-
--- the images along two lists, one after the other
-pub map-append : {A B : Type 0} (f : A → B) (xs ys : List A) → map f (xs ++ ys) ≡ map f xs ++ map f ys
-map-append f [] ys = refl
-map-append {B = B} f (x ∷ xs) ys = ap (λ (r : List B). f x ∷ r) (map-append f xs ys)
-
--- the image at a place of a table of a range
-map-upFrom-at : (f : ℕ → ℕ) (a n k i : ℕ) → k < n → a + k ≡ i → getD (map f (upFrom a n)) k 0 ≡ f i
-map-upFrom-at f a zero k i h e = absurd (omega arith)
-map-upFrom-at f a (suc n) zero i h e = let q : a ≡ i = omega arith in ap f q
-map-upFrom-at f a (suc n) (suc k) i h e = map-upFrom-at f (suc a) n k i (omega arith) (omega arith)
-
--- a table of the numbers below n has n entries
-pub map-below-length : (f : ℕ → ℕ) (n : ℕ) → length (map f (below n)) ≡ n
-map-below-length f n = length-map (below n) f ∙ upFrom-length 0 n
-
--- the image at a place of a table of the numbers below n
-pub map-below-at : (f : ℕ → ℕ) (n k : ℕ) → k < n → getD (map f (below n)) k 0 ≡ f k
-map-below-at f n k h = map-upFrom-at f 0 n k k h (omega arith)
-
 -- the edges of one state more
 pub edges-next : (g : Graph) (s : ℕ) → edgesBelow g (s + 1) ≡ edgesBelow g s ++ g .succs s
 edges-next g s =
     ap (λ (r : List ℕ). collect (g .succs) r) (below-next s)
     ∙ collect-append (g .succs) (below s) (s ∷ [])
     ∙ ap (λ (r : List ℕ). edgesBelow g s ++ r) (append-nil (g .succs s))
-
--- the table of one number more
-pub map-below-next : {B : Type 0} (f : ℕ → B) (s : ℕ) → map f (below (s + 1)) ≡ map f (below s) ++ f s ∷ []
-map-below-next {B} f s = ap (λ (r : List ℕ). map f r) (below-next s) ∙ map-append f (below s) (s ∷ [])
 
 -- the row table of one state more
 pub row-words-next : (g : Graph) (s : ℕ)

@@ -9,10 +9,11 @@ use lib.ListN.{length, getD, length-append, List·getD-append}
 use lib.Seq.{getD-append-add}
 use Rattle.lasso.specs.Lists.{upFrom, below}
 use Rattle.lasso.specs.Graph.{Graph}
+use Rattle.lasso.proofs.BelowLaws.{map-below-at}
 use Rattle.format.specs.Bytes.{word, long, bitb}
 use Rattle.format.specs.Layout.{states, edgeCount, initial, reserved, rowsAt, edgesAt, marksAt, markBytes, totalOf, rowEntry, target, rowTargets, markBit}
 use Rattle.writer.specs.File.{words16, edgesBelow, edgeTotal, headerWords, rowWords, markByte, fileOf}
-use Rattle.writer.proofs.FileLaws.{bytes-number, words16-length, words16-append, word-words16, map-below-at, edges-next, edges-below-le, row-words-length, worth-bit}
+use Rattle.writer.proofs.FileLaws.{bytes-number, words16-length, words16-append, word-words16, edges-next, edges-below-le, row-words-length, worth-bit}
 
 -- three parts of numbers and a part of bytes, one after another
 module _ (hs rs es marks : List ℕ) where

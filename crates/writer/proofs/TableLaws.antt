@@ -7,10 +7,11 @@ use native.Mathlib.Numerals.{add-one}
 use lib.ListN.{length, length-append}
 use Rattle.lasso.specs.Lists.{below}
 use Rattle.lasso.specs.Graph.{Graph}
+use Rattle.lasso.proofs.BelowLaws.{map-below-length}
 use Rattle.format.specs.Layout.{edgesAt}
 use Rattle.text.specs.Writing.{Wrote}
 use Rattle.writer.specs.File.{word16, words16, edgesBelow, edgeTotal, rowWords}
-use Rattle.writer.proofs.FileLaws.{words16-length, words16-append, edges-next, edges-below-le, row-words-next, row-words-length, map-below-length}
+use Rattle.writer.proofs.FileLaws.{words16-length, words16-append, edges-next, edges-below-le, row-words-next, row-words-length}
 use Rattle.writer.proofs.PutLaws.{put, wrote-put, put-length, put-next, put-apart, put-none}
 use Rattle.writer.specs.Tables.{tableBytes, TablesFit}
 

@@ -10,7 +10,7 @@ use Rattle.combine.specs.declared.CombineAnswer.{CombineAnswer}
 use Rattle.combine.specs.declared.CombineAnswer.the-variants.{Refused, Written}
 use Rattle.combine.specs.Combine.{combineOutcomeOf, combineOutcome, combineOutput}
 use Rattle.combine.proofs.ClaimLaws.{answered-bytes}
-use Rattle.answers.specs.Kinds.{combineReport}
+use Rattle.answers.specs.Kinds.{writtenReport}
 use Rattle.capi.specs.Figures.{FigureFits}
 use Rattle.capi.specs.Interface.{outShort}
 use Rattle.capi.proofs.CallLaws.{out-short, out-enough, is-short, is-enough, reports-short, reports-enough}
@@ -40,7 +40,7 @@ returns c =
     let s = start (c .before) in
     let out = s .args .out .now in
     let few = out-short out (omega (arith, c .if1 .taken)) in
-    let r = reports-short (outShort out) out (combineReport (due s)) few in
+    let r = reports-short (outShort out) out (writtenReport (due s)) few in
     (r .0, (r .1, is-short (outShort out) (s .args .output .now) (output-due s) few))
 
 combine-requires : tie.Need-combine-requires
@@ -67,8 +67,11 @@ returns-2 c =
     let s = start (else .before) in
     let out = s .args .out .now in
     let enough = out-enough out (omega (arith, else .if1 .left)) in
-    let r = reports-enough (outShort out) combineReport out (combineOutcomeOf (done .combine .result)) (due s) enough (done .combine .ensures .0) (reported .report-combine .ensures .0) (reported .report-combine .ensures .1) in
-    (r .0, (r .1, is-enough (outShort out) (s .args .output .now) (output-due s) enough (done .combine .ensures .1)))
+    let is = done .combine .ensures in
+    let told = reported .report-combine .ensures in
+    let answer = combineOutcomeOf (done .combine .result) in
+    let r = reports-enough (outShort out) writtenReport out answer (due s) enough (is .0) (told .0) (told .1) in
+    (r .0, (r .1, is-enough (outShort out) (s .args .output .now) (output-due s) enough (is .1)))
 
 pub fahkelo-combine-spec : {M : Type 1} → statement M
 fahkelo-combine-spec =

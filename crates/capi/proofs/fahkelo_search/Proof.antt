@@ -19,10 +19,14 @@ start c = c .before .before .before .before
 
 -- what is due: the answer, and the tables afterwards
 abbrev due : tie.Start → Outcome Searched
-due s = let a = s .args in searchOutcome (a .file .now) (asking (a .allowance)) (length (a .answer .now)) (length (a .work .now))
+due s =
+    let a = s .args in
+    searchOutcome (a .file .now) (asking (a .ceiling) (a .allowance)) (length (a .answer .now)) (length (a .work .now))
 
 abbrev answer-due : tie.Start → List ℕ
-answer-due s = let a = s .args in searchAnswer (a .file .now) (asking (a .allowance)) (a .answer .now) (length (a .work .now))
+answer-due s =
+    let a = s .args in
+    searchAnswer (a .file .now) (asking (a .ceiling) (a .allowance)) (a .answer .now) (length (a .work .now))
 
 abbrev work-due : tie.Start → List ℕ
 work-due s = workOf (s .args .file .now) (s .args .work .now)
@@ -58,8 +62,13 @@ returns-2 c =
     let s = start (else .before) in
     let out = s .args .out .now in
     let enough = out-enough out (omega (arith, else .if1 .left)) in
-    let r = reports-enough (outShort out) searchReport out (searchOutcomeOf (done .search .result)) (due s) enough (done .search .ensures .0) (reported .report-search .ensures .0) (reported .report-search .ensures .1) in
-    (r .0, (r .1, tables-enough (outShort out) (s .args .answer .now) (s .args .work .now) (answer-due s) (work-due s) enough (done .search .ensures .1 .0) (done .search .ensures .1 .1)))
+    let is = done .search .ensures in
+    let told = reported .report-search .ensures in
+    let found = searchOutcomeOf (done .search .result) in
+    let r = reports-enough (outShort out) searchReport out found (due s) enough (is .0) (told .0) (told .1) in
+    let answer = s .args .answer .now in
+    let work = s .args .work .now in
+    (r .0, (r .1, tables-enough (outShort out) answer work (answer-due s) (work-due s) enough (is .1 .0) (is .1 .1)))
 
 pub fahkelo-search-spec : {M : Type 1} → statement M
 fahkelo-search-spec =

@@ -6,6 +6,7 @@ use native.Mathlib.Omega.{arith}
 use borrow.Author.Needs.{needs}
 use lib.ListN.{length}
 use Rattle.lasso.specs.Rounds.{Record}
+use Rattle.lasso.specs.Values.{recordOf}
 use Rattle.outcomes.specs.Outcome.{Outcome}
 use Rattle.step.specs.Step.{Stepped, stepOutcomeOf, stepOutcome}
 use Rattle.gate.specs.Gate.{workOf}
@@ -19,9 +20,12 @@ use Rattle.capi.proofs.fahkelo_step.Tie as tie
 abbrev start : tie.After-slice-known2 → tie.Start
 start c = c .before .before .before
 
--- what is due: the answer, and the table afterwards
+-- what is due: the answer from a record, from the one that is given, and the table afterwards
+abbrev due-from : tie.Start → Record → Outcome Stepped
+due-from s rec = let a = s .args in stepOutcome (a .file .now) (a .ceiling) rec (length (a .work .now))
+
 abbrev due : tie.Start → Outcome Stepped
-due s = let a = s .args in stepOutcome (a .file .now) (recordGiven (a .done) (a .has-best) (a .best)) (length (a .work .now))
+due s = let a = s .args in due-from s (recordGiven (a .done) (a .has-best) (a .best))
 
 abbrev work-due : tie.Start → List ℕ
 work-due s = workOf (s .args .file .now) (s .args .work .now)
@@ -58,8 +62,11 @@ returns-2 c =
     let s = start (else .before) in
     let out = s .args .out .now in
     let enough = out-enough out (omega (arith, else .if1 .left)) in
-    let same = ap (λ (rec : Record). stepOutcome (s .args .file .now) rec (length (s .args .work .now))) (given .record-given .ensures) in
-    let r = reports-enough (outShort out) stepReport out (stepOutcomeOf (done .step .result)) (due s) enough (done .step .ensures .0 ∙ same) (reported .report-step .ensures .0) (reported .report-step .ensures .1) in
+    let same = ap (due-from s) (given .record-given .ensures) in
+    let same-answer = _∙_ {b = due-from s (recordOf (given .record-given .result))} (done .step .ensures .0) same in
+    let told = reported .report-step .ensures in
+    let answer = stepOutcomeOf (done .step .result) in
+    let r = reports-enough (outShort out) stepReport out answer (due s) enough same-answer (told .0) (told .1) in
     (r .0, (r .1, is-enough (outShort out) (s .args .work .now) (work-due s) enough (done .step .ensures .1)))
 
 pub fahkelo-step-spec : {M : Type 1} → statement M

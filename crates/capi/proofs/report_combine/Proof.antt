@@ -6,7 +6,7 @@ use denote.Ref.{now}
 use lib.Seq.{set-split}
 use Rattle.combine.specs.declared.CombineAnswer.{CombineAnswer}
 use Rattle.combine.specs.Combine.{combineOutcomeOf}
-use Rattle.answers.specs.Kinds.{Report, combineReport, figuresIn}
+use Rattle.answers.specs.Kinds.{Report, writtenReport, figuresIn}
 use Rattle.capi.specs.Figures.{FigureFits}
 use Rattle.capi.proofs.report_combine.Statement.{statement}
 use Rattle.capi.proofs.report_combine.Tie as tie
@@ -36,7 +36,7 @@ returns-2 : tie.Need-returns-2
 returns-2 c =
     let start = c .before .before .before in
     let a = start .args in
-    let report = ap (λ (r : CombineAnswer). combineReport (combineOutcomeOf r)) (c .before .answer2 .given .1) in (
+    let report = ap (λ (r : CombineAnswer). writtenReport (combineOutcomeOf r)) (c .before .answer2 .given .1) in (
       sym (ap (λ (r : Report). r .kind) report),
       set-split (now (a .out)) 0 _ (omega (arith, start .pre .0)) ∙ sym (ap (figuresIn (now (a .out))) report),
     )

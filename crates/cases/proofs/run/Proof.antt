@@ -6,10 +6,13 @@ use Rattle.cases.proofs.run.Statement.{statement}
 use Rattle.cases.proofs.run.Tie as tie
 
 abbrev Inv-loop : tie.InvT-loop
-Inv-loop script so-far₀ at₀ so-far at = at ≤ length script + 1
+Inv-loop script so-far₀ shared₀ at₀ so-far shared at = at ≤ length script + 1
 
 abbrev μ-loop : tie.MeasureT-loop
-μ-loop script so-far₀ at₀ so-far at = length script + 1 - at
+μ-loop script so-far₀ shared₀ at₀ so-far shared at = length script + 1 - at
+
+first-setting-requires : tie.Need-first-setting-requires Inv-loop μ-loop
+first-setting-requires c κs = search needs
 
 loop-holds : tie.Need-loop-holds Inv-loop μ-loop
 loop-holds c = search needs
@@ -19,6 +22,9 @@ find-requires c κs = search needs
 
 part-requires : tie.Need-part-requires Inv-loop μ-loop
 part-requires c κs = search needs
+
+setting-after-requires : tie.Need-setting-after-requires Inv-loop μ-loop
+setting-after-requires c κs = search needs
 
 run-line-requires : tie.Need-run-line-requires Inv-loop μ-loop
 run-line-requires c κs = search needs
@@ -41,9 +47,11 @@ run-spec =
     (tie.spec
     Inv-loop
     μ-loop
+    first-setting-requires
     loop-holds
     find-requires
     part-requires
+    setting-after-requires
     run-line-requires
     add-at
     loop-less

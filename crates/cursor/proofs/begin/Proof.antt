@@ -1,10 +1,11 @@
 -- `begin` meets its contract: stopped with the record if the allowance is less than the number of candidates; else all rounds
--- are done, and the record's best is the least length.
+-- are done, and the record's best is the least length, if it is not above the ceiling.
 use mathlib.Core.Path.{_≡_, sym, _∙_, ap}
-use Prim.Native.Nat.{ℕ, _≤_, min}
+use Prim.Native.Nat.{ℕ, suc, _≤_, min}
 use native.Mathlib.Omega.{arith}
 use borrow.Author.Needs.{needs}
 use lib.ListN.{length}
+use Rattle.lasso.specs.Limit.{under}
 use Rattle.lasso.specs.Roll.{leastLength}
 use Rattle.lasso.specs.Rounds.{candidates, bestLength, afterRounds}
 use Rattle.lasso.specs.Values.{bestOf, recordOf}
@@ -47,10 +48,10 @@ enough c = omega (arith, counted (rounds c) .count-candidates .ensures, c .if1 .
 -- the record holds the number of candidates and the least length of an accepting path
 all-done : (c : tie.Else1)
     → let g = graphIn (start (rounds c) .args .file .now) (start (rounds c) .args .h) in
-    (rounds c .run-rounds .result .done ≡ length (candidates g)) × (bestLength (recordOf (rounds c .run-rounds .result)) ≡ leastLength g)
+    (rounds c .run-rounds .result .done ≡ length (candidates g)) × (bestLength (recordOf (rounds c .run-rounds .result)) ≡ under (suc (start (rounds c) .args .ceiling .0)) (leastLength g))
 all-done c =
     let s = start (rounds c) in
-    all-rounds (valid-well-formed (s .pre .0)) (recordOf (rounds c .run-rounds .result)) (s .args .allowance) (rounds c .run-rounds .ensures .0) (enough c)
+    all-rounds (valid-well-formed (s .pre .0)) (recordOf (rounds c .run-rounds .result)) (s .args .ceiling .0) (s .args .allowance) (rounds c .run-rounds .ensures .0) (enough c)
 
 start-distances-requires : tie.Need-start-distances-requires
 start-distances-requires c κs = search needs
@@ -72,7 +73,7 @@ returns c =
     let q : min (a .allowance) (length (candidates g)) ≡ a .allowance = omega (arith, counted done .count-candidates .ensures, c .if1 .taken) in (
       record {
         short = omega (arith, counted done .count-candidates .ensures, c .if1 .taken);
-        record-is = done .run-rounds .ensures .0 ∙ ap (λ (n : ℕ). afterRounds g n) q;
+        record-is = done .run-rounds .ensures .0 ∙ ap (λ (n : ℕ). afterRounds g (a .ceiling .0) n) q;
       },
       (ready done, kept done),
     )

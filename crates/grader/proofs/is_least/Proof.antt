@@ -1,14 +1,16 @@
 -- `is_least` meets its contract: the length that all rounds find is the least one of an accepting path. The rounds are never
--- stopped, since no model has so many candidates.
-use mathlib.Core.Path.{_≡_, sym}
+-- stopped, since no model has so many candidates, and the ceiling is that of the whole model.
+use mathlib.Core.Path.{_≡_, sym, subst}
+use Prim.Native.Nat.{ℕ}
 use native.Mathlib.Omega.{arith}
 use borrow.Author.Needs.{needs}
 use Rattle.lasso.specs.Graph.{edges}
 use Rattle.lasso.specs.Roll.{leastLength}
 use Rattle.model.specs.Model.{graphIn}
+use Rattle.model.proofs.Laws.{valid-sizes}
 use Rattle.cursor.specs.Cursor.{BegunSays}
 use Rattle.cursor.specs.declared.Begun.{Begun}
-use Rattle.cursor.proofs.CursorLaws.{never-stopped}
+use Rattle.cursor.proofs.CursorLaws.{never-stopped, full-least}
 use Rattle.grader.proofs.GradeLaws.{least-none, least-same, least-other}
 use Rattle.grader.proofs.is_least.Statement.{statement}
 use Rattle.grader.proofs.is_least.Tie as tie
@@ -21,8 +23,9 @@ abbrev done : tie.After-slice-known2 → tie.After-begin
 done c = c .before .before
 
 -- what an answer of the rounds says, by its case
-says : (c : tie.After-begin) (r : Begun) → c .begin .result ≡ r → BegunSays (graphIn (start c .args .file .now) (start c .args .h)) 65535 r
-says c r e = rw e at (c .begin .ensures .0)
+says : (c : tie.After-begin) (ceiling : ℕ) (r : Begun) → BegunSays (graphIn (start c .args .file .now) (start c .args .h)) ceiling 65535 (c .begin .result) → c .begin .result ≡ r
+    → BegunSays (graphIn (start c .args .file .now) (start c .args .h)) ceiling 65535 r
+says c ceiling r told e = subst (BegunSays (graphIn (start c .args .file .now) (start c .args .h)) ceiling 65535) e told
 
 -- the counts of entries, after the tests of the case
 abbrev counted : tie.After-struct-known2 → tie.After-entries
@@ -53,8 +56,8 @@ returns c =
     let begun = done (case .before .before) in
     let s = start begun in
     let a = s .args in
-    let all = says begun _ (case .begun .given .1) in (
-      sym (least-other (leastLength (graphIn (a .file .now) (a .h))) _ (all .least-is) (a .list .now) (s .pre .1 .1) (λ e. omega (arith, c .if1 .taken, count .entries .ensures, e))),
+    let all = says begun _ _ (begun .begin .ensures .0) (case .begun .given .1) in (
+      sym (least-other (leastLength (graphIn (a .file .now) (a .h))) _ (full-least (s .pre .0) (omega (arith, valid-sizes (s .pre .0))) all) (a .list .now) (s .pre .1 .1) (λ e. omega (arith, c .if1 .taken, count .entries .ensures, e))),
       begun .begin .ensures .1 .1,
     )
 
@@ -64,7 +67,7 @@ same-length-2 c = search needs
 returns-2 : tie.Need-returns-2
 returns-2 c =
     let begun = done (c .before .before) in
-    absurd (never-stopped (start begun .pre .0) (says begun _ (c .enum-told .given .1)))
+    absurd (never-stopped (start begun .pre .0) (says begun _ _ (begun .begin .ensures .0) (c .enum-told .given .1)))
 
 same-length-3 : tie.Need-same-length-3
 same-length-3 c = search needs
@@ -73,8 +76,8 @@ returns-3 : tie.Need-returns-3
 returns-3 c =
     let begun = done (c .before .before) in
     let a = start begun .args in
-    let all = says begun _ (c .enum-told2 .given .1) in
-    (sym (least-none (leastLength (graphIn (a .file .now) (a .h))) (edges (a .list .now)) (all .least-is)), begun .begin .ensures .1 .1)
+    let all = says begun _ _ (begun .begin .ensures .0) (c .enum-told2 .given .1) in
+    (sym (least-none (leastLength (graphIn (a .file .now) (a .h))) (edges (a .list .now)) (full-least (start begun .pre .0) (omega (arith, valid-sizes (start begun .pre .0))) all)), begun .begin .ensures .1 .1)
 
 same-length-4 : tie.Need-same-length-4
 same-length-4 c = search needs
@@ -85,8 +88,8 @@ returns-4 c =
     let case = count .before .before in
     let begun = done (case .before .before) in
     let a = start begun .args in
-    let all = says begun _ (case .begun .given .1) in (
-      sym (least-same (leastLength (graphIn (a .file .now) (a .h))) _ (all .least-is) (a .list .now) (omega (arith, c .if1 .left, count .entries .ensures))),
+    let all = says begun _ _ (begun .begin .ensures .0) (case .begun .given .1) in (
+      sym (least-same (leastLength (graphIn (a .file .now) (a .h))) _ (full-least (start begun .pre .0) (omega (arith, valid-sizes (start begun .pre .0))) all) (a .list .now) (omega (arith, c .if1 .left, count .entries .ensures))),
       begun .begin .ensures .1 .1,
     )
 

@@ -1,19 +1,20 @@
 -- `next_of_model` meets its contract: without an accepting path 13, else what next answers where the length is
--- known. The rounds are never stopped, since no model has so many candidates.
+-- known. The rounds are never stopped, since no model has so many candidates, and the ceiling is that of the whole model.
 use mathlib.Core.Path.{_≡_, sym, _∙_, ap, subst}
 use mathlib.Core.Option.{none}
 use Prim.Native.Nat.{ℕ}
+use native.Mathlib.Omega.{arith}
 use borrow.Author.Needs.{needs}
 use lib.ListN.{length}
 use Rattle.lasso.specs.Graph.{Graph}
 use Rattle.lasso.specs.Roll.{leastLength}
 use Rattle.model.specs.Model.{graphIn, graphOf}
-use Rattle.model.proofs.Laws.{valid-graph}
+use Rattle.model.proofs.Laws.{valid-graph, valid-sizes}
 use Rattle.outcomes.proofs.OutcomeLaws.{call-answer}
 use Rattle.gate.proofs.GateLaws.{valid-room}
 use Rattle.cursor.specs.Cursor.{BegunSays}
 use Rattle.cursor.specs.declared.Begun.{Begun}
-use Rattle.cursor.proofs.CursorLaws.{never-stopped}
+use Rattle.cursor.proofs.CursorLaws.{never-stopped, full-least}
 use Rattle.next.specs.Next.{nextOutcome, nextAnswer}
 use Rattle.next.proofs.NextLaws.{notShortest-none, next-not-shortest}
 use Rattle.next.proofs.next_of_model.Statement.{statement}
@@ -27,8 +28,9 @@ abbrev done : tie.After-slice-known3 → tie.After-begin
 done c = c .before .before
 
 -- what an answer of the rounds says, by its case
-says : (c : tie.After-begin) (r : Begun) → c .begin .result ≡ r → BegunSays (graphIn (start c .args .file .now) (start c .args .h)) 65535 r
-says c r e = rw e at (c .begin .ensures .0)
+says : (c : tie.After-begin) (ceiling : ℕ) (r : Begun) → BegunSays (graphIn (start c .args .file .now) (start c .args .h)) ceiling 65535 (c .begin .result) → c .begin .result ≡ r
+    → BegunSays (graphIn (start c .args .file .now) (start c .args .h)) ceiling 65535 r
+says c ceiling r told e = subst (BegunSays (graphIn (start c .args .file .now) (start c .args .h)) ceiling 65535) e told
 
 begin-requires : tie.Need-begin-requires
 begin-requires c κs = search needs
@@ -46,8 +48,8 @@ next-list-requires : tie.Need-next-list-requires
 next-list-requires c κs =
     let listed = c .before .before .before in
     let begun = done (listed .before .before) in
-    let all = says begun _ (listed .begun .given .1) in
-    (begun .begin .ensures .1 .0, all .least-is)
+    let all = says begun _ _ (begun .begin .ensures .0) (listed .begun .given .1) in
+    (begun .begin .ensures .1 .0, full-least (start begun .pre .0) (omega (arith, valid-sizes (start begun .pre .0))) all)
 
 same-length : tie.Need-same-length
 same-length c = search needs
@@ -55,7 +57,7 @@ same-length c = search needs
 returns : tie.Need-returns
 returns c =
     let begun = done (c .before .before) in
-    absurd (never-stopped (start begun .pre .0) (says begun _ (c .enum-told .given .1)))
+    absurd (never-stopped (start begun .pre .0) (says begun _ _ (begun .begin .ensures .0) (c .enum-told .given .1)))
 
 same-length-2 : tie.Need-same-length-2
 same-length-2 c = search needs
@@ -65,10 +67,10 @@ returns-2 c =
     let begun = done (c .before .before) in
     let s = start begun in
     let a = s .args in
-    let all = says begun _ (c .enum-told2 .given .1) in
-    let empty : leastLength (graphOf (a .file .now)) ≡ none =
-    subst (λ (g : Graph). leastLength g ≡ none) (valid-graph (s .pre .0)) (all .least-is) in
-    let none-shortest = notShortest-none (graphOf (a .file .now)) (a .earlier .now) empty in
+    let all = says begun _ _ (begun .begin .ensures .0) (c .enum-told2 .given .1) in
+    let none-least : leastLength (graphOf (a .file .now)) ≡ none =
+    subst (λ (g : Graph). leastLength g ≡ none) (valid-graph (s .pre .0)) (full-least (s .pre .0) (omega (arith, valid-sizes (s .pre .0))) all) in
+    let none-shortest = notShortest-none (graphOf (a .file .now)) (a .earlier .now) none-least in
     let is = next-not-shortest (a .file .now) (s .pre .0 .accepted) (a .earlier .now) (length (a .answer .now)) (length (a .work .now)) (valid-room (s .pre .0) (s .pre .1)) none-shortest in
     (sym (is .outcome-is), (sym (call-answer (a .answer .now) is), begun .begin .ensures .1 .1))
 

@@ -5,9 +5,9 @@ use mathlib.Core.List.{[], _∷_, map}
 use native.Mathlib.Omega.{arith}
 use denote.Ref.{now}
 use Rattle.lasso.specs.Lists.{below}
+use Rattle.lasso.proofs.BelowLaws.{map-below-length, map-below-next}
 use Rattle.text.specs.Writing.{Wrote}
 use Rattle.text.proofs.WroteLaws.{wrote-length, wrote-none, wrote-then, wrote-as}
-use Rattle.writer.proofs.FileLaws.{map-below-next, map-below-length}
 use Rattle.product_file.specs.Combined.{pairMarkByte}
 use Rattle.product_file.proofs.write_marks.Statement.{statement}
 use Rattle.product_file.proofs.write_marks.Tie as tie

@@ -4,12 +4,12 @@ use mathlib.Core.Path.{_∙_, ap}
 use mathlib.Core.Option.{Option}
 use borrow.Author.Needs.{needs}
 use native.Mathlib.Omega.{arith}
-use Rattle.lasso.specs.Rounds.{roundLength, bestLength, withRound}
+use Rattle.lasso.specs.Rounds.{roundLength, roundWithin, bestLength, withRound}
 use Rattle.lasso.specs.Values.{recordOf}
-use Rattle.lasso.proofs.RoundLaws.{candidates-length-le, candidate-at-state}
+use Rattle.lasso.proofs.RoundLaws.{candidates-length-le, candidate-at-state, roundLength-le}
 use Rattle.model.specs.Model.{graphIn}
 use Rattle.model.proofs.Laws.{valid-sizes, valid-well-formed}
-use Rattle.rounds.proofs.LimitLaws.{limit-le, withRound-limit, roundLength-le}
+use Rattle.rounds.proofs.LimitLaws.{limit-below, withRound-limit}
 use Rattle.rounds.proofs.after_round.Statement.{statement}
 use Rattle.rounds.proofs.after_round.Tie as tie
 
@@ -25,7 +25,7 @@ round-requires c κs =
       start .pre .0,
       (
         omega (arith, start .pre .1 .1, candidate-at-state (graphIn (a .file .now) (a .h)) (a .so-far .done) (start .pre .1 .0)),
-        limit-le (bestLength (recordOf (a .so-far))) (a .h .states) (limit .limit-of .result) (limit .limit-of .ensures),
+        limit-below (bestLength (recordOf (a .so-far))) (a .h .states) (a .ceiling .0) (limit .limit-of .result) (limit .limit-of .ensures),
       ),
     )
 
@@ -51,10 +51,10 @@ returns c =
     let low = candidate-at-state g (a .so-far .done) (start .pre .1 .0) in (
       c .with-round .ensures
           ∙ ap (λ (x : Option ℕ). withRound (recordOf (a .so-far)) x) (done .round .ensures .0)
-          ∙ withRound-limit (recordOf (a .so-far)) (roundLength g (a .r)) (a .h .states)
+          ∙ withRound-limit (recordOf (a .so-far)) (roundLength g (a .r)) (a .h .states) (a .ceiling .0)
           (limit .limit-of .result) (limit .limit-of .ensures)
           (λ l e. omega (arith, roundLength-le (valid-well-formed valid) (a .r) l (omega arith) e))
-          ∙ ap (λ (s : ℕ). withRound (recordOf (a .so-far)) (roundLength g s)) at,
+          ∙ ap (λ (s : ℕ). withRound (recordOf (a .so-far)) (roundWithin g (a .ceiling .0) s)) at,
       done .round .ensures .1,
     )
 

@@ -16,16 +16,16 @@ use Rattle.rounds.proofs.run_rounds.Statement.{statement}
 use Rattle.rounds.proofs.run_rounds.Tie as tie
 
 abbrev Inv-loop : tie.InvT-loop
-Inv-loop file h work₀ allowance n record₀ s₀ work «record» s =
-    (s ≤ n) × SameOutside (2 * n) (6 * n) work₀ work × Underway (graphIn file h) allowance s (recordOf «record»)
+Inv-loop file h work₀ ceiling allowance n record₀ s₀ work «record» s =
+    (s ≤ n) × SameOutside (2 * n) (6 * n) work₀ work × Underway (graphIn file h) (ceiling .0) allowance s (recordOf «record»)
 
 abbrev μ-loop : tie.MeasureT-loop
-μ-loop file h work₀ allowance n record₀ s₀ work «record» s = n - s
+μ-loop file h work₀ ceiling allowance n record₀ s₀ work «record» s = n - s
 
 loop-holds : tie.Need-loop-holds Inv-loop μ-loop
 loop-holds c =
     let start = c .before .before in
-    (omega arith, sameOutside-refl _ _ _, underway-none (graphIn (start .args .file .now) (start .args .h)) (start .args .allowance))
+    (omega arith, sameOutside-refl _ _ _, underway-none (graphIn (start .args .file .now) (start .args .h)) (start .args .ceiling .0) (start .args .allowance))
 
 -- the loop's turn, and the function's start, from where the state at hand is tested
 abbrev at-loop : tie.After-is-candidate Inv-loop μ-loop → tie.At-loop Inv-loop μ-loop

@@ -1,6 +1,6 @@
 -- `play_one` meets its contract: the call that is made is the one that the first command asks for.
 use native.Mathlib.Omega.{arith}
-use Rattle.script.proofs.CommandLaws.{two-there, list-there, called-search, called-copy, called-list}
+use Rattle.script.proofs.CommandLaws.{two-there, three-there, list-there, called-copy, called-list, made-search}
 use Rattle.logged.proofs.CallLaws.{made-as}
 use borrow.Author.Needs.{needs}
 use Rattle.script.proofs.play_one.Statement.{statement}
@@ -15,6 +15,15 @@ get-requires c κs = omega (arith, two-there (start c .args .script .now) (start
 
 get-requires-2 : tie.Need-get-requires-2
 get-requires-2 c κs = omega (arith, two-there (start (c .before) .args .script .now) (start (c .before) .pre .0))
+
+cast-ceiling : tie.Need-cast-ceiling
+cast-ceiling c = search needs
+
+get-requires-3 : tie.Need-get-requires-3
+get-requires-3 c κs =
+    let got = c .before .before in
+    let s = start (got .before) in
+    omega (arith, three-there (s .args .script .now) (s .pre .0) (omega (arith, c .if1 .taken, got .get .ensures .0)))
 
 cast-allowance : tie.Need-cast-allowance
 cast-allowance c = search needs
@@ -34,9 +43,11 @@ same-length-3 c = search needs
 returns : tie.Need-returns
 returns c =
     let done = c .before .before .before .before .before .before in
-    let then = done .before .before .before .before in
+    let read = done .before .before .before .before in
+    let then = read .before in
     let a = start (then .before .before .before) .args in
-    made-as (called-search (a .script .now) (a .copy .now) (a .answer .now) (a .work .now) (then .before .before .get .ensures .0) (then .before .get2 .ensures .0) (then .if1 .taken)) (done .play-search .ensures)
+    made-search (a .script .now) (a .copy .now) (a .answer .now) (a .work .now) (then .before .before .get .ensures .0)
+    (done .play-search .ensures) (then .before .get2 .ensures .0) (read .get3 .ensures .0) (then .if1 .taken)
 
 play-next-requires : tie.Need-play-next-requires
 play-next-requires c κs = search needs
@@ -100,6 +111,8 @@ play-one-spec =
     (tie.spec
     get-requires
     get-requires-2
+    cast-ceiling
+    get-requires-3
     cast-allowance
     play-search-requires
     same-length

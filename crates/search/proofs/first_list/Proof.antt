@@ -3,7 +3,6 @@
 use mathlib.Core.Path.{_≡_, refl, sym, subst}
 use mathlib.Core.List.{head?}
 use mathlib.Core.Option.{some, none}
-use Prim.Native.Nat.{_≤_}
 use native.Mathlib.Omega.{arith}
 use borrow.Author.Needs.{needs}
 use lib.ListN.{length}
@@ -14,11 +13,11 @@ use Rattle.lasso.proofs.RollLaws.{leastLength-range}
 use Rattle.model.specs.Model.{graphIn}
 use Rattle.model.proofs.Laws.{valid-graph, valid-sizes}
 use Rattle.outcomes.specs.Outcome.{refused}
-use Rattle.gate.specs.declared.Ask.{Ask}
 use Rattle.outcomes.proofs.OutcomeLaws.{call-answer}
 use Rattle.gate.proofs.GateLaws.{valid-room}
 use Rattle.follow.specs.Follow.{upTo}
 use Rattle.cursor.proofs.RollPlaces.{stands-head}
+use Rattle.search.specs.Search.{WithEnough}
 use Rattle.search.proofs.SearchLaws.{SearchIs, search-no-room, first-written}
 use Rattle.search.proofs.first_list.Statement.{statement}
 use Rattle.search.proofs.first_list.Tie as tie
@@ -47,10 +46,10 @@ returns-2 c =
     let v = s .pre .0 .valid in
     let least = subst (λ (g : Graph). leastLength g ≡ some (a .length .0)) (valid-graph v) (s .pre .1 .0) in
     let rounds-are = subst (λ (g : Graph). a .rounds ≡ length (candidates g)) (valid-graph v) (s .pre .1 .1) in
-    let is : (ask : Ask) → a .rounds ≤ ask .allowance → SearchIs (a .file .now) ask (length (a .answer .now)) (length (a .work .now)) (refused 15) none =
-    λ ask enough. search-no-room (a .file .now) (v .accepted) ask (length (a .answer .now)) (length (a .work .now)) (valid-room v (s .pre .0 .room)) (omega (arith, rounds-are)) (a .length .0) least (omega (arith, counted .entries .ensures, c .if2 .taken)) in (
-      λ ask enough. sym (is ask enough .outcome-is),
-      (λ ask enough. sym (call-answer (a .answer .now) (is ask enough)), refl),
+    let is : WithEnough (a .rounds) (a .length .0) (λ ask. SearchIs (a .file .now) ask (length (a .answer .now)) (length (a .work .now)) (refused 15) none) =
+    λ ask asks. search-no-room (a .file .now) (v .accepted) ask (length (a .answer .now)) (length (a .work .now)) (valid-room v (s .pre .0 .room)) (asks .not-high) (omega (arith, rounds-are, asks .allowed)) (a .length .0) least (asks .within) (omega (arith, counted .entries .ensures, c .if2 .taken)) in (
+      λ ask asks. sym (is ask asks .outcome-is),
+      (λ ask asks. sym (call-answer (a .answer .now) (is ask asks)), refl),
     )
 
 to-first-requires : tie.Need-to-first-requires
@@ -85,12 +84,13 @@ returns-3 c =
     let range = leastLength-range (graphIn (a .file .now) (a .h)) (a .length .0) (s .pre .1 .0) in
     let kept = listed .to-first .ensures .1 in
     let rounds-are = subst (λ (g : Graph). a .rounds ≡ length (candidates g)) (valid-graph v) (s .pre .1 .1) in
+    let least = subst (λ (g : Graph). leastLength g ≡ some (a .length .0)) (valid-graph v) (s .pre .1 .0) in
     let first = subst (λ (g : Graph). head? (roll g) ≡ some (upTo g (listed .to-first .last .1 .1 .1 .0) (a .length .0))) (valid-graph v) (stands-head (listed .to-first .ensures .0 .current)) in
     let both =
     first-written (a .file .now) (v .accepted) (length (a .work .now)) (valid-room v (s .pre .0 .room)) (a .answer .now) _ _ (a .h .start) (a .length .0) (wrote .write-list .result) (a .rounds)
-    (sizes .start-is) (omega (arith, kept, s .pre .0 .room)) first (omega (arith, entered .entries .ensures, roomy listed .if2 .left))
+    (sizes .start-is) (omega (arith, kept, s .pre .0 .room)) least first (omega (arith, entered .entries .ensures, roomy listed .if2 .left))
     (wrote .write-list .ensures .0 .0) rounds-are (wrote .write-list .ensures .1) in
-    (λ ask enough. both ask enough .0, (λ ask enough. both ask enough .1, kept))
+    (λ ask asks. both ask asks .0, (λ ask asks. both ask asks .1, kept))
 
 pub first-list-spec : {M : Type 1} → statement M
 first-list-spec =

@@ -1,5 +1,5 @@
 -- `sheet_model` meets its contract: what the rounds come to decides between no list and lists. The rounds are never stopped,
--- since no model has so many candidates.
+-- since no model has so many candidates, and the ceiling is that of the whole model.
 use Prim.Native.Nat.{ℕ}
 use mathlib.Core.Path.{_≡_, sym, _∙_, ap, subst}
 use mathlib.Core.List.{List, _++_}
@@ -8,16 +8,18 @@ use native.Mathlib.Omega.{arith}
 use borrow.Author.Needs.{needs}
 use lib.ListN.{length}
 use Rattle.lasso.specs.Graph.{Graph}
+use Rattle.lasso.specs.Roll.{leastLength}
+use Rattle.lasso.specs.Rounds.{candidates}
 use Rattle.model.specs.Model.{graphIn, graphOf}
-use Rattle.model.proofs.Laws.{valid-graph}
+use Rattle.model.proofs.Laws.{valid-graph, valid-sizes}
 use Rattle.gate.proofs.GateLaws.{valid-room}
-use Rattle.cursor.specs.Cursor.{BegunSays, AllDone}
+use Rattle.cursor.specs.Cursor.{BegunSays}
 use Rattle.cursor.specs.declared.Begun.{Begun}
-use Rattle.cursor.proofs.CursorLaws.{never-stopped}
+use Rattle.cursor.proofs.CursorLaws.{never-stopped, full-least}
 use Rattle.text.proofs.WroteLaws.{wrote-length, wrote-then, wrote-as}
 use Rattle.sheet_head.specs.Words.{noneLine}
 use Rattle.sheet_text.specs.SheetText.{sheetText, sheetAnswer}
-use Rattle.sheet_text.proofs.SheetLaws.{head-is, head-fits, sheet-answer, sheet-empty}
+use Rattle.sheet_text.proofs.SheetLaws.{head-is, head-fits, sheet-answer, sheet-none}
 use Rattle.sheet_text.proofs.sheet_model.Statement.{statement}
 use Rattle.sheet_text.proofs.sheet_model.Tie as tie
 
@@ -29,20 +31,20 @@ abbrev done : tie.After-slice-known4 → tie.After-begin
 done c = c .before .before
 
 -- what an answer of the rounds says, by its case
-says : (c : tie.After-begin) (r : Begun) → c .begin .result ≡ r → BegunSays (graphIn (start c .args .file .now) (start c .args .h)) 65535 r
-says c r e = rw e at (c .begin .ensures .0)
-
--- the same of the file's graph
-says-file : (c : tie.After-begin) (r : Begun) → c .begin .result ≡ r → BegunSays (graphOf (start c .args .file .now)) 65535 r
-says-file c r e = subst (λ (g : Graph). BegunSays g 65535 r) (valid-graph (start c .pre .0)) (says c r e)
+says : (c : tie.After-begin) (ceiling : ℕ) (r : Begun) → BegunSays (graphIn (start c .args .file .now) (start c .args .h)) ceiling 65535 (c .begin .result) → c .begin .result ≡ r
+    → BegunSays (graphIn (start c .args .file .now) (start c .args .h)) ceiling 65535 r
+says c ceiling r told e = subst (BegunSays (graphIn (start c .args .file .now) (start c .args .h)) ceiling 65535) e told
 
 -- without a list: the rounds, from where their answer was seen
 abbrev none-rounds : tie.After-begun → tie.After-begin
 none-rounds c = done (c .before .before)
 
-none-done : (c : tie.After-begun)
-    → AllDone (graphOf (start (none-rounds c) .args .file .now)) 65535 (c .begun .given .0 .0) none
-none-done c = says-file (none-rounds c) _ (c .begun .given .1)
+-- all of them are done: their number
+none-done : (c : tie.After-begun) → c .begun .given .0 .0 ≡ length (candidates (graphOf (start (none-rounds c) .args .file .now)))
+none-done c =
+    let begun = none-rounds c in
+    let all = says begun _ _ (begun .begin .ensures .0) (c .begun .given .1) in
+    subst (λ (g : Graph). c .begun .given .0 .0 ≡ length (candidates g)) (valid-graph (start begun .pre .0)) (all .rounds-are)
 
 begin-requires : tie.Need-begin-requires
 begin-requires c κs = search needs
@@ -60,7 +62,7 @@ write-head-requires : tie.Need-write-head-requires
 write-head-requires c κs =
     let told = c .before .before in
     let s = start (none-rounds told) in
-    omega (arith, head-fits (s .pre .0) (none-done told .rounds-are), s .pre .1 .1)
+    omega (arith, head-fits (s .pre .0) (none-done told), s .pre .1 .1)
 
 slice-aggregate-write-bytes : tie.Need-slice-aggregate-write-bytes
 slice-aggregate-write-bytes c = search needs
@@ -71,7 +73,7 @@ write-bytes-requires c κs =
     let told = headed .before .before .before in
     let s = start (none-rounds told) in
     let w = headed .write-head .ensures in
-    omega (arith, head-fits (s .pre .0) (none-done told .rounds-are), s .pre .1 .1, w .place, wrote-length w)
+    omega (arith, head-fits (s .pre .0) (none-done told), s .pre .1 .1, w .place, wrote-length w)
 
 enum-known-begun-2 : tie.Need-enum-known-begun-2
 enum-known-begun-2 c = search needs
@@ -80,8 +82,8 @@ write-shortest-requires : tie.Need-write-shortest-requires
 write-shortest-requires c κs =
     let told = c .before .before .before .before in
     let begun = done (told .before .before) in
-    let all = says begun _ (told .begun2 .given .1) in
-    (begun .begin .ensures .1 .0, (all .least-is, (all .rounds-are, start begun .pre .1 .1)))
+    let all = says begun _ _ (begun .begin .ensures .0) (told .begun2 .given .1) in
+    (begun .begin .ensures .1 .0, (full-least (start begun .pre .0) (omega (arith, valid-sizes (start begun .pre .0))) all, (all .rounds-are, start begun .pre .1 .1)))
 
 same-length : tie.Need-same-length
 same-length c = search needs
@@ -89,7 +91,7 @@ same-length c = search needs
 returns : tie.Need-returns
 returns c =
     let begun = done (c .before .before) in
-    absurd (never-stopped (start begun .pre .0) (says begun _ (c .enum-told .given .1)))
+    absurd (never-stopped (start begun .pre .0) (says begun _ _ (begun .begin .ensures .0) (c .enum-told .given .1)))
 
 same-length-2 : tie.Need-same-length-2
 same-length-2 c = search needs
@@ -106,8 +108,9 @@ returns-2 c =
     let s = start begun in
     let a = s .args in
     let v = s .pre .0 in
-    let is = sheet-empty (a .file .now) (v .accepted) (length (a .answer .now)) (length (a .work .now)) (valid-room v (s .pre .1 .0)) (none-done told .least-is) in (
-      wrote-as (ap (λ (r : List ℕ). r ++ noneLine) (head-is v (none-done told .rounds-are)) ∙ sym (is .text-is)) (wrote-then (head .write-head .ensures) (end .write-bytes .ensures)),
+    let none-least = subst (λ (g : Graph). leastLength g ≡ none) (valid-graph v) (full-least v (omega (arith, valid-sizes v)) (says begun _ _ (begun .begin .ensures .0) (told .begun .given .1))) in
+    let is = sheet-none (a .file .now) (v .accepted) (length (a .answer .now)) (length (a .work .now)) (valid-room v (s .pre .1 .0)) none-least in (
+      wrote-as (ap (λ (r : List ℕ). r ++ noneLine) (head-is v (none-done told)) ∙ sym (is .text-is)) (wrote-then (head .write-head .ensures) (end .write-bytes .ensures)),
       (sym (sheet-answer (a .answer .now) is), begun .begin .ensures .1 .1),
     )
 

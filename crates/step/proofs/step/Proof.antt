@@ -44,7 +44,7 @@ returns c =
     let gated = refused .before .before in
     let a = start gated .args in
     let broken = gate-refused (a .file .now) (length (a .work .now)) (gated .enter .ensures) (refused .checked .given .1) in
-    (step-refused (a .file .now) (recordOf (a .so-far)) _ _ broken, work-refused (a .file .now) _ _ broken)
+    (step-refused (a .file .now) (a .ceiling .0) (recordOf (a .so-far)) _ _ broken, work-refused (a .file .now) _ _ broken)
 
 same-length-2 : tie.Need-same-length-2
 same-length-2 c = search needs

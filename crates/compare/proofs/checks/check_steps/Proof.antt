@@ -1,4 +1,4 @@
--- `compare::checks::check_steps` meets its contract. The loop has seven turns for each count.
+-- `compare::checks::check_steps` meets its contract. The loop has nine turns for each count.
 use borrow.Author.Needs.{needs}
 use Prim.Native.Nat.{_+_, _*_, _-_, _≤_}
 use mathlib.Core.Path.{_≡_}
@@ -7,10 +7,10 @@ use Rattle.compare.proofs.checks.check_steps.Statement.{statement}
 use Rattle.compare.proofs.checks.check_steps.Tie as tie
 
 abbrev Inv-loop : tie.InvT-loop
-Inv-loop t file tally₀ end turn₀ tally turn = (turn ≤ 7 * (end + 1)) × (length tally ≡ length tally₀)
+Inv-loop t within ceiling file tally₀ end turn₀ tally turn = (turn ≤ 9 * (end + 1)) × (length tally ≡ length tally₀)
 
 abbrev μ-loop : tie.MeasureT-loop
-μ-loop t file tally₀ end turn₀ tally turn = 7 * (end + 1) - turn
+μ-loop t within ceiling file tally₀ end turn₀ tally turn = 9 * (end + 1) - turn
 
 rounds-requires : tie.Need-rounds-requires Inv-loop μ-loop
 rounds-requires c κs = search needs

@@ -7,10 +7,10 @@ use Rattle.exhaustive.proofs.search.follow_all.Statement.{statement}
 use Rattle.exhaustive.proofs.search.follow_all.Tie as tie
 
 abbrev Inv-loop : tie.InvT-loop
-Inv-loop m roll₀ trail₀ t₀ turns₀ roll trail t turns = (turns ≤ 100000) × (length roll ≡ length roll₀)
+Inv-loop m ceiling roll₀ trail₀ t₀ turns₀ roll trail t turns = (turns ≤ 100000) × (length roll ≡ length roll₀)
 
 abbrev μ-loop : tie.MeasureT-loop
-μ-loop m roll₀ trail₀ t₀ turns₀ roll trail t turns = 100000 - turns
+μ-loop m ceiling roll₀ trail₀ t₀ turns₀ roll trail t turns = 100000 - turns
 
 start-requires : tie.Need-start-requires Inv-loop μ-loop
 start-requires c κs = search needs

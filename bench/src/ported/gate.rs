@@ -1,0 +1,20 @@
+//! The gate of the calls on one model: the reasons 1 to 12, and reason 21 of those that take a ceiling.
+
+use super::access::Access;
+use super::model::{check, Header};
+
+/// The header, or the number of the first of the reasons 1 to 12 that holds.
+#[inline]
+pub fn enter<A: Access>(file: &[u8], work: &[u16]) -> Result<Header, u16> {
+    let h = check::<A>(file)?;
+    if work.len() < 6 * h.states {
+        return Err(12);
+    }
+    Ok(h)
+}
+
+/// The ceiling is above 4,096: reason 21, which is applied behind 12.
+#[inline]
+pub fn ceiling_too_high(ceiling: u16) -> bool {
+    4096 < ceiling
+}

@@ -1,0 +1,266 @@
+//! One call of the library, by its C function, and of versions in Rust beside it, each with copies of the same tables,
+//! which are filled with any numbers first. The answer, the figures and all tables afterwards are compared with what the
+//! oracle says.
+
+use crate::counts::Counts;
+use crate::fahkelo::{
+    distances_into, kind, next_into, search_into, step_into, Ask, DistancesAnswer, NextAnswer,
+    Record, SearchAnswer, StepAnswer,
+};
+use crate::oracle::{self, Verdict};
+use crate::random::Random;
+use crate::samples::dirty;
+use crate::versions::{DistanceWriter, Finder, Proved, PAIRED, SAFE, UNCHECKED};
+
+/// The finders in Rust that are held to the reference beside the library.
+const FINDERS: [&dyn Finder; 2] = [&SAFE, &PAIRED];
+
+/// What writes distances and is held to the reference beside the C function.
+const DISTANCE_WRITERS: [&dyn DistanceWriter; 4] = [&Proved, &SAFE, &PAIRED, &UNCHECKED];
+
+/// The value that is returned for an answer and its figures, as the C functions give them: a refusal has none.
+trait Figures {
+    fn figures(&self) -> (u16, Vec<u16>);
+}
+
+fn record_figures(record: &Record) -> Vec<u16> {
+    match record.best {
+        None => vec![record.done, 0, 0],
+        Some(best) => vec![record.done, 1, best],
+    }
+}
+
+impl Figures for StepAnswer {
+    fn figures(&self) -> (u16, Vec<u16>) {
+        match self {
+            StepAnswer::Refused(number) => (*number, vec![]),
+            StepAnswer::Finished(record) => (kind::FINISHED, record_figures(record)),
+            StepAnswer::Advanced(record) => (kind::ADVANCED, record_figures(record)),
+        }
+    }
+}
+
+impl Figures for SearchAnswer {
+    fn figures(&self) -> (u16, Vec<u16>) {
+        match *self {
+            SearchAnswer::Refused(number) => (number, vec![]),
+            SearchAnswer::Stopped(record) => (kind::STOPPED, record_figures(&record)),
+            SearchAnswer::Found {
+                length,
+                loop_start,
+                rounds,
+            } => (kind::FOUND, vec![length, loop_start, rounds]),
+            SearchAnswer::NoneWithin { rounds } => (kind::NONE_WITHIN, vec![rounds]),
+        }
+    }
+}
+
+impl Figures for NextAnswer {
+    fn figures(&self) -> (u16, Vec<u16>) {
+        match *self {
+            NextAnswer::Refused(number) => (number, vec![]),
+            NextAnswer::Found { length, loop_start } => (kind::FOUND, vec![length, loop_start]),
+            NextAnswer::NoMore => (kind::NO_MORE, vec![]),
+        }
+    }
+}
+
+impl Figures for DistancesAnswer {
+    fn figures(&self) -> (u16, Vec<u16>) {
+        match *self {
+            DistancesAnswer::Refused(number) => (number, vec![]),
+            DistancesAnswer::Written(entries) => (kind::WRITTEN, vec![entries]),
+        }
+    }
+}
+
+/// The tables of one call before it, and what they must hold after it. The answer table is that of distances too.
+struct Tables {
+    answer: Vec<u16>,
+    answer_after: Vec<u16>,
+    work: Vec<u16>,
+    work_after: Vec<u16>,
+}
+
+impl Tables {
+    fn new(
+        lot: &mut Random,
+        verdict: &Verdict,
+        answer_len: usize,
+        work_len: usize,
+        written: &[u16],
+    ) -> Tables {
+        let answer = dirty(lot, answer_len);
+        let work = dirty(lot, work_len);
+        Tables {
+            answer_after: oracle::answer_after(&answer, written),
+            work_after: oracle::work_after(verdict, &work),
+            answer,
+            work,
+        }
+    }
+
+    /// Calls a version with copies of the tables, and compares its answer and the tables afterwards.
+    fn agree<T: PartialEq>(
+        &self,
+        expected: &T,
+        call: impl FnOnce(&mut [u16], &mut [u16]) -> T,
+    ) -> bool {
+        let (mut answer, mut work) = (self.answer.clone(), self.work.clone());
+        let got = call(&mut answer, &mut work);
+        got == *expected && answer == self.answer_after && work == self.work_after
+    }
+
+    /// The same for a C function: its value, and the table of figures, past which nothing changes.
+    fn agree_in_c(
+        &self,
+        lot: &mut Random,
+        counts: &mut Counts,
+        expected: &impl Figures,
+        call: impl FnOnce(&mut [u16], &mut [u16], &mut [u16]) -> u16,
+    ) -> bool {
+        let (mut answer, mut work) = (self.answer.clone(), self.work.clone());
+        let len = if lot.once_in(12) {
+            lot.below(4)
+        } else {
+            lot.between(4, 6)
+        };
+        let mut out = dirty(lot, len);
+        let mut out_after = out.clone();
+        if len < 4 {
+            counts.out_too_short += 1;
+            let got = call(&mut answer, &mut work, &mut out);
+            return got == kind::OUT_TOO_SHORT
+                && (out, answer, work) == (out_after, self.answer.clone(), self.work.clone());
+        }
+        let (expected_value, figures) = expected.figures();
+        out_after[..figures.len()].copy_from_slice(&figures);
+        let got = call(&mut answer, &mut work, &mut out);
+        got == expected_value
+            && out == out_after
+            && answer == self.answer_after
+            && work == self.work_after
+    }
+}
+
+fn count_value(counts: &mut Counts, expected: &impl Figures) {
+    counts.count_value(expected.figures().0);
+}
+
+pub fn compare_step(
+    lot: &mut Random,
+    counts: &mut Counts,
+    file: &[u8],
+    verdict: &Verdict,
+    ceiling: u16,
+    so_far: Record,
+    work_len: usize,
+) {
+    counts.steps += 1;
+    let expected = oracle::step(verdict, ceiling, so_far, work_len);
+    count_value(counts, &expected);
+    if let StepAnswer::Advanced(Record { best: Some(b), .. }) = expected {
+        counts.bests_above += u64::from(b > ceiling);
+    }
+    let what = |version: &str| format!("step under {ceiling} {so_far:?}: {version}");
+    let tables = Tables::new(lot, verdict, 0, work_len, &[]);
+    if !tables.agree_in_c(lot, counts, &expected, |_, work, out| {
+        step_into(file, ceiling, so_far, work, out)
+    }) {
+        counts.difference(&what("proved"), file);
+    }
+    for version in FINDERS {
+        if !tables.agree(&expected, |_, work| {
+            version.step(file, ceiling, so_far, work)
+        }) {
+            counts.difference(&what(version.name()), file);
+        }
+    }
+}
+
+pub fn compare_search(
+    lot: &mut Random,
+    counts: &mut Counts,
+    file: &[u8],
+    verdict: &Verdict,
+    ask: Ask,
+    answer_len: usize,
+    work_len: usize,
+) {
+    counts.searches += 1;
+    let (expected, list) = oracle::search(verdict, ask, answer_len, work_len);
+    count_value(counts, &expected);
+    if let (SearchAnswer::NoneWithin { .. }, Ok((_, facts))) = (expected, verdict) {
+        counts.lists_above += u64::from(facts.length().is_some());
+    }
+    let what = |version: &str| format!("search {ask:?}: {version}");
+    let tables = Tables::new(lot, verdict, answer_len, work_len, list);
+    if !tables.agree_in_c(lot, counts, &expected, |answer, work, out| {
+        search_into(file, ask, answer, work, out)
+    }) {
+        counts.difference(&what("proved"), file);
+    }
+    for version in FINDERS {
+        if !tables.agree(&expected, |answer, work| {
+            version.search(file, ask, answer, work)
+        }) {
+            counts.difference(&what(version.name()), file);
+        }
+    }
+}
+
+pub fn compare_next(
+    lot: &mut Random,
+    counts: &mut Counts,
+    file: &[u8],
+    verdict: &Verdict,
+    earlier: &[u16],
+    answer_len: usize,
+    work_len: usize,
+) {
+    counts.nexts += 1;
+    let (expected, list) = oracle::next(verdict, earlier, answer_len, work_len);
+    count_value(counts, &expected);
+    let what = |version: &str| format!("next {earlier:?}: {version}");
+    let tables = Tables::new(lot, verdict, answer_len, work_len, list);
+    if !tables.agree_in_c(lot, counts, &expected, |answer, work, out| {
+        next_into(file, earlier, answer, work, out)
+    }) {
+        counts.difference(&what("proved"), file);
+    }
+    for version in FINDERS {
+        if !tables.agree(&expected, |answer, work| {
+            version.next(file, earlier, answer, work)
+        }) {
+            counts.difference(&what(version.name()), file);
+        }
+    }
+}
+
+pub fn compare_distances(
+    lot: &mut Random,
+    counts: &mut Counts,
+    file: &[u8],
+    verdict: &Verdict,
+    ceiling: u16,
+    table_len: usize,
+    work_len: usize,
+) {
+    counts.distances += 1;
+    let (expected, entries) = oracle::distances(verdict, ceiling, table_len, work_len);
+    count_value(counts, &expected);
+    let what = |version: &str| format!("distances up to {ceiling}, {table_len}: {version}");
+    let tables = Tables::new(lot, verdict, table_len, work_len, &entries);
+    if !tables.agree_in_c(lot, counts, &expected, |distances, work, out| {
+        distances_into(file, ceiling, distances, work, out)
+    }) {
+        counts.difference(&what("in C"), file);
+    }
+    for version in DISTANCE_WRITERS {
+        if !tables.agree(&expected, |distances, work| {
+            version.distances(file, ceiling, distances, work)
+        }) {
+            counts.difference(&what(version.name()), file);
+        }
+    }
+}

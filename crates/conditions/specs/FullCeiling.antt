@@ -1,0 +1,74 @@
+-- The step and the search of a finder that knows no ceiling, and that a ceiling of N or more changes nothing: every answer,
+-- list and figure is the same.
+use Prim.Native.Nat.{ℕ, zero, suc, _≤_}
+use mathlib.Core.Path.{_≡_}
+use mathlib.Core.List.{List, _++_, head?}
+use mathlib.Core.Option.{Option, none}
+use lib.ListN.{length, getD}
+use Rattle.lasso.specs.Lists.{pick}
+use Rattle.lasso.specs.Graph.{Graph}
+use Rattle.lasso.specs.Roll.{roll}
+use Rattle.lasso.specs.Rounds.{Record, candidates, roundLength, withRound, finishedb}
+use Rattle.format.specs.Layout.{states}
+use Rattle.format.specs.Rules.{Reason, firstBroken, Accepted}
+use Rattle.model.specs.Model.{graphOf}
+use Rattle.gate.specs.declared.Ask.{Ask}
+use Rattle.gate.specs.Gate.{commonRules}
+use Rattle.outcomes.specs.Outcome.{Outcome, outcome}
+use Rattle.outcomes.specs.Tables.{listReasons, unlessRefused, written}
+use Rattle.step.specs.Step.{Stepped, finished, advanced, stepOutcome}
+use Rattle.search.specs.Search.{Searched, stopped, stopsb, firstOf, searchOutcome, searchAnswer}
+
+-- the record after the round for the candidate whose place is the count, whatever that round's length
+abbrev pub wholeRound : Graph → Record → Record
+wholeRound g rec = withRound rec (roundLength g (getD (candidates g) (rec .done) 0))
+
+-- the record after n rounds of a search, which starts from count 0 and best none
+abbrev pub wholeRounds : Graph → (n : ℕ) → Record
+wholeRounds g zero = record { done = 0; best = none }
+wholeRounds g (suc n) = wholeRound g (wholeRounds g n)
+
+-- what a step answers that knows no ceiling: it goes no further than reason 12
+abbrev pub wholeStepOutcome : List ℕ → Record → (work : ℕ) → Outcome Stepped
+wholeStepOutcome f rec work =
+    let g : Graph = graphOf f in
+    outcome (firstBroken (commonRules f work)) (pick (finishedb g rec) (finished rec) (advanced (wholeRound g rec)))
+
+-- what a search not refused answers that knows no ceiling
+abbrev pub wholeSearched : Graph → (allowance : ℕ) → Searched
+wholeSearched g allowance =
+    pick (stopsb g allowance) (stopped (wholeRounds g allowance)) (firstOf (roll g) (length (candidates g)))
+
+-- the list that it is to write: the first of the roll, unless it is stopped
+abbrev pub wholeDue : Graph → (allowance : ℕ) → Option (List ℕ)
+wholeDue g allowance = pick (stopsb g allowance) none (head? (roll g))
+
+-- the reasons that it applies: 1 to 12, 14 and 15
+abbrev pub wholeReasons : List ℕ → (allowance answer work : ℕ) → List Reason
+wholeReasons f allowance answer work = commonRules f work ++ listReasons f (wholeDue (graphOf f) allowance) answer
+
+-- what it answers
+abbrev pub wholeSearchOutcome : List ℕ → (allowance answer work : ℕ) → Outcome Searched
+wholeSearchOutcome f allowance answer work =
+    outcome (firstBroken (wholeReasons f allowance answer work)) (wholeSearched (graphOf f) allowance)
+
+-- the answer table after it
+abbrev pub wholeSearchAnswer : List ℕ → (allowance : ℕ) → List ℕ → (work : ℕ) → List ℕ
+wholeSearchAnswer f allowance a work =
+    written (unlessRefused (firstBroken (wholeReasons f allowance (length a) work)) (wholeDue (graphOf f) allowance)) a
+
+-- the ceiling is at most 4,096 and, for an accepted file, N or more
+pub record Full (f : List ℕ) (ceiling : ℕ) : Type 0 where
+  pub low : ceiling ≤ 4096
+  pub covers : Accepted f → states f ≤ ceiling
+
+-- With such a ceiling every call answers and writes what it does without one, refused calls included; and 4,096, which the
+-- sheet program passes, is such a ceiling for every file.
+pub record SameAsWithout : Type 0 where
+  pub step : (f : List ℕ) (ceiling : ℕ) (rec : Record) (work : ℕ) → Full f ceiling
+      → stepOutcome f ceiling rec work ≡ wholeStepOutcome f rec work
+  pub search : (f : List ℕ) (ask : Ask) (answer work : ℕ) → Full f (ask .ceiling .0)
+      → searchOutcome f ask answer work ≡ wholeSearchOutcome f (ask .allowance) answer work
+  pub table : (f : List ℕ) (ask : Ask) (a : List ℕ) (work : ℕ) → Full f (ask .ceiling .0)
+      → searchAnswer f ask a work ≡ wholeSearchAnswer f (ask .allowance) a work
+  pub greatest : (f : List ℕ) → Full f 4096

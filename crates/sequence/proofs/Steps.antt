@@ -1,0 +1,6 @@
+-- The steps in the examples are as expected: by computation.
+use mathlib.Core.Path.{refl}
+use Rattle.sequence.specs.Steps.{StepsHold}
+
+pub steps-hold : StepsHold
+steps-hold = refl

@@ -1,0 +1,48 @@
+-- What the book says of a search under a ceiling.
+use Prim.Native.Nat.{ℕ, _≤_}
+use mathlib.Core.Path.{_≡_}
+use mathlib.Core.Logic.{_↔_}
+use mathlib.Core.List.{List, head?}
+use mathlib.Core.Option.{some, none}
+use lib.ListN.{length}
+use Rattle.lasso.specs.Graph.{edges, loopStart}
+use Rattle.lasso.specs.Roll.{roll}
+use Rattle.lasso.specs.Rounds.{candidates}
+use Rattle.lasso.specs.Ceiling.{RollAbove}
+use Rattle.format.specs.Rules.{firstBroken}
+use Rattle.model.specs.Model.{graphOf}
+use Rattle.gate.specs.declared.Ask.{Ask}
+use Rattle.outcomes.specs.Outcome.{answered}
+use Rattle.outcomes.specs.Tables.{written}
+use Rattle.search.specs.Search.{Searched, noneWithin, searchReasons}
+use Rattle.sequence.specs.Calls.{search, ofSearch}
+use Rattle.sequence.specs.Book.{Page, page}
+
+-- the book's page for a search, which says "none within the ceiling": h is the same and nothing is written
+pub record NoneOnPage (f a : List ℕ) (h : ℕ) (p : Page) : Type 0 where
+  pub answer-is : p .result .answer ≡ ofSearch (answered (noneWithin (length (candidates (graphOf f)))))
+  pub table-is : p .result .table ≡ a
+  pub h-same : p .after ≡ h
+
+-- which says "found": with the roll's first list, and h becomes 1
+pub record FoundOnPage (f a : List ℕ) (p : Page) : Type 0 where
+  pub list : List ℕ
+  pub first : head? (roll (graphOf f)) ≡ some list
+  pub answer-is : p .result .answer
+      ≡ ofSearch (answered (Searched.found (edges list) (loopStart list) (length (candidates (graphOf f)))))
+  pub table-is : p .result .table ≡ written (some list) a
+  pub h-one : p .after ≡ 1
+
+-- A search neither refused nor stopped: "none within the ceiling", h the same, exactly if the roll is empty or its lists are
+-- longer than the ceiling; otherwise "found".
+pub record BookSearches (f : List ℕ) (h : ℕ) (ask : Ask) (a w : List ℕ) : Type 0 where
+  pub none-exactly : NoneOnPage f a h (page f h (search ask a w)) ↔ RollAbove (graphOf f) (ask .ceiling .0)
+  pub otherwise-found : FoundOnPage f a (page f h (search ask a w)) ↔ (RollAbove (graphOf f) (ask .ceiling .0) → ⊥)
+
+-- so it is with every search for which no reason holds and whose allowance is not below the number of candidates
+abbrev pub BookOfCeilings : Type 0
+BookOfCeilings =
+    (f : List ℕ) (h : ℕ) (ask : Ask) (a w : List ℕ)
+    → firstBroken (searchReasons f ask (length a) (length w)) ≡ none
+    → length (candidates (graphOf f)) ≤ ask .allowance
+    → BookSearches f h ask a w

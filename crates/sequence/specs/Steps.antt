@@ -1,0 +1,49 @@
+-- Steps in the examples, under ceilings: one table, and one claim about its rows.
+use Prim.Native.Nat.{ℕ, _*_}
+use mathlib.Core.Path.{_≡_}
+use mathlib.Core.List.{List, [], _∷_, map}
+use mathlib.Core.Option.{Option, some, none}
+use Rattle.lasso.specs.Rounds.{Record}
+use Rattle.format.specs.Layout.{states}
+use Rattle.outcomes.specs.Outcome.{Outcome, refused, answered}
+use Rattle.step.specs.Step.{Stepped, finished, advanced, stepOutcome}
+use Rattle.sequence.specs.Examples.{fileH}
+
+-- A row of the table: a ceiling, a record, and the answer expected of a step of H from that record.
+pub record StepRow : Type 0 where
+  pub ceiling : ℕ
+  pub from : Record
+  pub answer : Outcome Stepped
+
+-- the record with so many rounds done and this best
+abbrev pub after : (done : ℕ) → (best : Option ℕ) → Record
+after done best = record { done = done; best = best }
+
+-- the row of a ceiling and a record
+abbrev pub stepRow : (ceiling : ℕ) → Record → Outcome Stepped → StepRow
+stepRow ceiling rec o = record { ceiling = ceiling; from = rec; answer = o }
+
+-- the steps: the rounds of H have the lengths 5 and 3
+abbrev pub stepRows : List StepRow
+stepRows =
+    -- the first round, whose length is within the ceiling or above it
+    stepRow 4096 (after 0 none) (answered (advanced (after 1 (some 5)))) ∷
+    stepRow 5 (after 0 none) (answered (advanced (after 1 (some 5)))) ∷
+    stepRow 4 (after 0 none) (answered (advanced (after 1 none))) ∷
+    -- a best above the ceiling is kept
+    stepRow 4 (after 0 (some 9)) (answered (advanced (after 1 (some 9)))) ∷
+    stepRow 5 (after 0 (some 9)) (answered (advanced (after 1 (some 5)))) ∷
+    -- the second round
+    stepRow 3 (after 1 (some 9)) (answered (advanced (after 2 (some 3)))) ∷
+    stepRow 2 (after 1 (some 9)) (answered (advanced (after 2 (some 9)))) ∷
+    -- no candidate is left
+    stepRow 0 (after 2 (some 9)) (answered (finished (after 2 (some 9)))) ∷
+    stepRow 4097 (after 2 (some 9)) (refused 21) ∷ []
+
+-- what a step answers at a row, with 6 × N working entries
+abbrev pub stepGiven : StepRow → Outcome Stepped
+stepGiven r = stepOutcome fileH (r .ceiling) (r .from) (6 * states fileH)
+
+-- every row gives what is expected
+abbrev pub StepsHold : Type 0
+StepsHold = map stepGiven stepRows ≡ map (λ (r : StepRow). r .answer) stepRows
