@@ -67,8 +67,7 @@
 /* The kinds of answer start here; what is below is the number of a refusal. */
 #define FAHKELO_KINDS_FROM 100
 
-/* The kinds of answer. FAHKELO_EMPTY, the name of 103 up to interface 4, is left undefined, so that a caller that was
- * written for a search without a ceiling does not compile by accident. */
+/* The kinds of answer. */
 #define FAHKELO_OUT_TOO_SHORT 100
 #define FAHKELO_STOPPED 101
 #define FAHKELO_FOUND 102

@@ -248,8 +248,8 @@ fn compare_under(
         compare_step(lot, counts, file, verdict, ceiling, record, length);
     }
     compare_all_steps(lot, counts, file, verdict, states, |_| ceiling);
-    let enough = 65535.min(rounds + lot.below(3)) as u16;
-    for allowance in [enough, 65535, lot.below(rounds + 2) as u16, 0, lot.word()] {
+    let up_to_enough = 0..=(rounds + 1) as u16;
+    for allowance in up_to_enough.chain([65535, lot.word()]) {
         let (answer, work) = (answer_len(lot, needed), work_len(lot, states));
         let ask = Ask { ceiling, allowance };
         compare_search(lot, counts, file, verdict, ask, answer, work);

@@ -25,7 +25,7 @@ use Rattle.gate.specs.Gate.{commonRules}
 use Rattle.answers.specs.Kinds.{Report, isThere, bestFigure, recordGiven, verdictKind, placeDue, placeIn}
 use Rattle.answers.specs.Kinds.{stepReport, searchReport, nextReport, writtenReport, gradeReport}
 use Rattle.answers.specs.NothingLost.{Numbered, NothingLost}
-use Rattle.answers.proofs.Numbers.{broken-numbered}
+use Rattle.answers.proofs.Numbers.{broken-one}
 
 -- the record as it came out can be given to the next step
 given-back : (done : ℕ) (best : Option ℕ) → recordGiven done (isThere best) (bestFigure best) ≡ record { done = done; best = best }
@@ -168,13 +168,13 @@ nothing-lost = record {
   grade = record { refusals = λ n. refl; kinds = λ g. grade-kinds (g .verdict) };
   grade-injective = grade-injective;
   step-numbers = λ f ceiling rec work.
-      broken-numbered _ (stepped (graphOf f) ceiling rec) (stepReasons f ceiling work) tt;
+      broken-one _ (stepped (graphOf f) ceiling rec) (stepReasons f ceiling work) tt;
   search-numbers = λ f ask answer work.
-      broken-numbered _ (searched (graphOf f) ask) (searchReasons f ask answer work) tt;
+      broken-one _ (searched (graphOf f) ask) (searchReasons f ask answer work) tt;
   next-numbers = λ f earlier answer work.
-      broken-numbered _ (followed (following earlier (roll (graphOf f)))) (nextReasons f earlier answer work) tt;
-  grade-numbers = λ f xs k work. broken-numbered _ (gradeOf (graphOf f) xs k) (commonRules f work) tt;
+      broken-one _ (followed (following earlier (roll (graphOf f)))) (nextReasons f earlier answer work) tt;
+  grade-numbers = λ f xs k work. broken-one _ (gradeOf (graphOf f) xs k) (commonRules f work) tt;
   distances-numbers = λ f ceiling output work.
-      broken-numbered _ (states f) (distanceReasons f ceiling output work) tt;
+      broken-one _ (states f) (distanceReasons f ceiling output work) tt;
   record-back = record-back;
 }

@@ -4,8 +4,11 @@ use Prim.Native.Nat.{ℕ, _≤_, _<_}
 use mathlib.Core.Path.{_≡_}
 use mathlib.Core.List.{List}
 use lib.ListN.{getD}
+use lib.Dec.{T}
+use Rattle.lasso.specs.Lists.{memb}
 use Rattle.gate.specs.declared.Ask.{Ask}
 use Rattle.lasso.specs.Rounds.{Record}
+use Rattle.outcomes.specs.Numbers.{stepNumbers, searchNumbers, nextNumbers, gradeNumbers, distanceNumbers}
 use Rattle.outcomes.specs.Outcome.{Outcome, refused, answered}
 use Rattle.step.specs.Step.{stepOutcome}
 use Rattle.search.specs.Search.{searchOutcome}
@@ -14,6 +17,11 @@ use Rattle.grader.specs.Grade.{Grade, gradeOutcome}
 use Rattle.distances.specs.Distances.{distancesOutcome}
 use Rattle.answers.specs.Kinds.{Report, isThere, bestFigure, recordGiven, refusal, placeIn}
 use Rattle.answers.specs.Kinds.{stepReport, searchReport, nextReport, writtenReport, gradeReport}
+
+-- the number of a refusal is one of these
+abbrev pub OneOf : {A : Type 0} → List ℕ → Outcome A → Type 0
+OneOf numbers (refused n) = T (memb n numbers)
+OneOf numbers (answered a) = Unit {0}
 
 -- the number of a refusal is one of 1 to so many
 abbrev pub Numbered : {A : Type 0} → ℕ → Outcome A → Type 0
@@ -32,8 +40,8 @@ pub record Tells {A : Type 0} (report : Outcome A → Report) : Type 0 where
 
 -- Nothing is lost: so are the reports of all but a grade, whose report does not hold the place where the list breaks.
 -- With the first entry of the table that is lent for the place it tells the grade, whatever stood in that table before.
--- Every refusal of a step, a search or a distance call, which take a ceiling, has a number from 1 to 21, next's from 1
--- to 15, a grade's from 1 to 12; and the record that comes out of a step is the one that its figures give to the next.
+-- Every refusal of a call has one of the numbers of the reasons that the call applies; and the record that comes out of a
+-- step is the one that its figures give to the next.
 pub record NothingLost : Type 0 where
   pub step : Tells stepReport
   pub search : Tells searchReport
@@ -42,9 +50,9 @@ pub record NothingLost : Type 0 where
   pub grade : Reports gradeReport
   pub grade-injective : (o p : Outcome Grade) (before-o before-p : List ℕ) → Numbered 99 o → Numbered 99 p
       → gradeReport o ≡ gradeReport p → getD (placeIn before-o o) 0 0 ≡ getD (placeIn before-p p) 0 0 → o ≡ p
-  pub step-numbers : (f : List ℕ) (ceiling : ℕ) (rec : Record) (work : ℕ) → Numbered 21 (stepOutcome f ceiling rec work)
-  pub search-numbers : (f : List ℕ) (ask : Ask) (answer work : ℕ) → Numbered 21 (searchOutcome f ask answer work)
-  pub next-numbers : (f earlier : List ℕ) (answer work : ℕ) → Numbered 15 (nextOutcome f earlier answer work)
-  pub grade-numbers : (f xs : List ℕ) (k work : ℕ) → Numbered 12 (gradeOutcome f xs k work)
-  pub distances-numbers : (f : List ℕ) (ceiling output work : ℕ) → Numbered 21 (distancesOutcome f ceiling output work)
+  pub step-numbers : (f : List ℕ) (ceiling : ℕ) (rec : Record) (work : ℕ) → OneOf stepNumbers (stepOutcome f ceiling rec work)
+  pub search-numbers : (f : List ℕ) (ask : Ask) (answer work : ℕ) → OneOf searchNumbers (searchOutcome f ask answer work)
+  pub next-numbers : (f earlier : List ℕ) (answer work : ℕ) → OneOf nextNumbers (nextOutcome f earlier answer work)
+  pub grade-numbers : (f xs : List ℕ) (k work : ℕ) → OneOf gradeNumbers (gradeOutcome f xs k work)
+  pub distances-numbers : (f : List ℕ) (ceiling output work : ℕ) → OneOf distanceNumbers (distancesOutcome f ceiling output work)
   pub record-back : (rec : Record) → recordGiven (rec .done) (isThere (rec .best)) (bestFigure (rec .best)) ≡ rec

@@ -1,20 +1,22 @@
 -- A refused call changes nothing that was lent but the working table: a refusal has no figures, and no list is written.
 use Prim.Native.Nat.{ℕ, _≤_, _<_}
-use mathlib.Core.Path.{_≡_, refl, sym, _∙_, ap}
-use mathlib.Core.Bool.{Bool, true, false, _||_}
+use mathlib.Core.Path.{_≡_, refl, sym, _∙_, ap, subst}
+use mathlib.Core.Bool.{Bool, true, false, _&&_, _||_}
 use mathlib.Core.Logic.{_⊎_, inl, inr, ⊎-elim}
-use mathlib.Core.List.{List}
+use mathlib.Core.List.{List, [], _∷_}
 use mathlib.Core.Option.{Option, some, none}
 use native.Mathlib.Omega.{arith}
 use borrow.Author.Tests.{ltb-true, ltb-false}
 use lib.ListN.{length}
-use lib.Dec.{ltb}
-use Rattle.lasso.specs.Lists.{pick}
+use lib.Dec.{T, eqb, leb, ltb, eqb→eq, leb→le}
+use Rattle.lasso.specs.Lists.{memb, pick}
+use Rattle.lasso.proofs.Tests.{either, fst, snd}
 use Rattle.lasso.specs.Roll.{roll}
 use Rattle.lasso.specs.Following.{following}
 use Rattle.model.specs.Model.{graphOf}
 use Rattle.format.specs.Layout.{states}
 use Rattle.format.specs.Rules.{firstBroken}
+use Rattle.outcomes.specs.Numbers.{stepNumbers, searchNumbers, nextNumbers, gradeNumbers, distanceNumbers, combineNumbers}
 use Rattle.outcomes.specs.Outcome.{Outcome, refused, answered, outcome}
 use Rattle.outcomes.specs.Tables.{written, unlessRefused}
 use Rattle.step.specs.Step.{stepOutcome}
@@ -25,8 +27,8 @@ use Rattle.distances.specs.Distances.{distanceTable, distanceReasons, distances
 use Rattle.combine.specs.Combine.{combinedFile, combineReasons, combineBroken, combineOutcome}
 use Rattle.answers.specs.Kinds.{Report, figuresIn, refusal, placeIn}
 use Rattle.answers.specs.Kinds.{stepReport, searchReport, nextReport, writtenReport, gradeReport}
-use Rattle.answers.specs.NothingLost.{Numbered, Reports}
-use Rattle.answers.proofs.Numbers.{broken-numbered}
+use Rattle.answers.specs.NothingLost.{OneOf, Reports}
+use Rattle.answers.proofs.Numbers.{broken-one}
 use Rattle.answers.proofs.NothingLost.{nothing-lost}
 use Rattle.capi.specs.Interface.{outTooShort, outShort, placeShort}
 use Rattle.capi.specs.Refusals.{Value, ShortOut, RefusalsChangeNothing}
@@ -60,12 +62,25 @@ place-decides place out =
     either-decides (outShort out) (ltb (length place) 1) (out-decides out)
     (record { holds = ltb-true (length place) 1; fails = λ e s. omega (arith, ltb-false (length place) 1 e) })
 
-module _ {A : Type 0} (most : ℕ) (small : most ≤ 99) (Short : Type 0) (out : List ℕ) where
+-- all these numbers are below 100
+abbrev smallb : List ℕ → Bool
+smallb [] = true
+smallb (n ∷ ns) = leb n 99 && smallb ns
+
+-- so is each of them
+small-one : (ns : List ℕ) → T (smallb ns) → (n : ℕ) → T (memb n ns) → n ≤ 99
+small-one [] s n m = absurd m
+small-one (x ∷ xs) s n m = elim (either (eqb n x) (memb n xs) m) [
+  | inl e ↦ omega (arith, eqb→eq n x e, leb→le x 99 (fst (leb x 99) (smallb xs) s))
+  | inr later ↦ small-one xs (snd (leb x 99) (smallb xs) s) n later
+]
+
+module _ {A : Type 0} (numbers : List ℕ) (small : T (smallb numbers)) (Short : Type 0) (out : List ℕ) where
   -- a table that is too short
-  value-short : (o : Outcome A) → Short → Value most o Short out outTooShort
+  value-short : (o : Outcome A) → Short → Value numbers o Short out outTooShort
   value-short o s = record {
     number = λ l. absurd (omega arith);
-    range = λ l. absurd (omega arith);
+    among = λ l. absurd (omega arith);
     refusals = λ n q enough. absurd (enough s);
     short = (λ q. s, λ l. refl);
     unchanged = λ l. refl;
@@ -73,12 +88,13 @@ module _ {A : Type 0} (most : ℕ) (small : most ≤ 99) (Short : Type 0) (out :
   }
 
   -- a refusal
-  value-refused : (n : ℕ) (r : Report) → r ≡ refusal n → (1 ≤ n) × (n ≤ most) → (Short → ⊥) → Value {A = A} most (refused n) Short out r
-  value-refused n r e (least, in-range) enough =
+  value-refused : (n : ℕ) (r : Report) → r ≡ refusal n → T (memb n numbers) → (Short → ⊥) → Value {A = A} numbers (refused n) Short out r
+  value-refused n r e one enough =
       let k : r .kind ≡ n = ap (λ (x : Report). x .kind) e in
+      let low : n ≤ 99 = small-one numbers small n one in
       record {
         number = λ l. ap refused (sym k);
-        range = λ l. (omega arith, omega arith);
+        among = λ l. subst (λ (x : ℕ). T (memb x numbers)) (sym k) one;
         refusals = λ m q l. let same : n ≡ m = cc in k ∙ same;
         short = (λ q. absurd (omega arith), λ s. absurd (enough s));
         unchanged = λ l. ap (figuresIn out) e;
@@ -86,10 +102,10 @@ module _ {A : Type 0} (most : ℕ) (small : most ≤ 99) (Short : Type 0) (out :
       }
 
   -- an answer
-  value-answered : (a : A) (r : Report) → 100 < r .kind → (Short → ⊥) → Value most (answered a) Short out r
+  value-answered : (a : A) (r : Report) → 100 < r .kind → (Short → ⊥) → Value numbers (answered a) Short out r
   value-answered a r above enough = record {
     number = λ l. absurd (omega arith);
-    range = λ l. absurd (omega arith);
+    among = λ l. absurd (omega arith);
     refusals = λ m q l. let z : _≡_ {A = ℕ} 0 1 = cc in absurd (omega arith);
     short = (λ q. absurd (omega arith), λ s. absurd (enough s));
     unchanged = λ l. absurd (omega arith);
@@ -98,7 +114,7 @@ module _ {A : Type 0} (most : ℕ) (small : most ≤ 99) (Short : Type 0) (out :
 
   -- what a report tells, the test of the tables being decided
   value-told : (report : Outcome A → Report) → Reports report → (short : Bool) → Decides short Short → (o : Outcome A)
-      → Numbered most o → Value most o Short out (pick short outTooShort (report o))
+      → OneOf numbers o → Value numbers o Short out (pick short outTooShort (report o))
   value-told report is true d o h = value-short o (d .holds refl)
   value-told report is false d (refused n) h = value-refused n (report (refused n)) (is .refusals n) h (d .fails refl)
   value-told report is false d (answered a) h = value-answered a (report (answered a)) (is .kinds a) (d .fails refl)
@@ -121,32 +137,32 @@ place-untold place false (answered g) l = absurd (omega (arith, nothing-lost .gr
 pub refusals-change-nothing : RefusalsChangeNothing
 refusals-change-nothing = record {
   step = λ f ceiling rec w out.
-      value-told 21 (omega arith) (ShortOut out) out stepReport (nothing-lost .step .reports)
+      value-told stepNumbers tt (ShortOut out) out stepReport (nothing-lost .step .reports)
       (outShort out) (out-decides out)
       (stepOutcome f ceiling rec (length w))
       (nothing-lost .step-numbers f ceiling rec (length w));
   search = λ f ask a w out.
-      value-told 21 (omega arith) (ShortOut out) out searchReport (nothing-lost .search .reports)
+      value-told searchNumbers tt (ShortOut out) out searchReport (nothing-lost .search .reports)
       (outShort out) (out-decides out)
       (searchOutcome f ask (length a) (length w))
       (nothing-lost .search-numbers f ask (length a) (length w));
   next = λ f earlier a w out.
-      value-told 15 (omega arith) (ShortOut out) out nextReport (nothing-lost .next .reports) (outShort out) (out-decides out)
+      value-told nextNumbers tt (ShortOut out) out nextReport (nothing-lost .next .reports) (outShort out) (out-decides out)
       (nextOutcome f earlier (length a) (length w))
       (nothing-lost .next-numbers f earlier (length a) (length w));
   grade = λ f xs k place w out.
-      value-told 12 (omega arith) (ShortOut out ⊎ (length place < 1)) out gradeReport (nothing-lost .grade) (placeShort place out)
+      value-told gradeNumbers tt (ShortOut out ⊎ (length place < 1)) out gradeReport (nothing-lost .grade) (placeShort place out)
       (place-decides place out) (gradeOutcome f xs k (length w)) (nothing-lost .grade-numbers f xs k (length w));
   distances = λ f ceiling output w out.
-      value-told 21 (omega arith) (ShortOut out) out writtenReport (nothing-lost .written .reports)
+      value-told distanceNumbers tt (ShortOut out) out writtenReport (nothing-lost .written .reports)
       (outShort out) (out-decides out)
       (distancesOutcome f ceiling (length output) (length w))
       (nothing-lost .distances-numbers f ceiling (length output) (length w));
   combine = λ f letters p output out.
-      value-told 18 (omega arith) (ShortOut out) out writtenReport (nothing-lost .written .reports)
+      value-told combineNumbers tt (ShortOut out) out writtenReport (nothing-lost .written .reports)
       (outShort out) (out-decides out)
       (combineOutcome f letters p (length output))
-      (broken-numbered 18 (length (combinedFile f letters p)) (combineReasons f letters p (length output)) tt);
+      (broken-one combineNumbers (length (combinedFile f letters p)) (combineReasons f letters p (length output)) tt);
   search-answer = λ f ask a w out.
       answer-untold searchReport (nothing-lost .search .reports) (searched (graphOf f) ask) (firstDue (graphOf f) ask) a
       (outShort out) (firstBroken (searchReasons f ask (length a) (length w)));

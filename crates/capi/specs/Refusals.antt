@@ -5,8 +5,11 @@ use mathlib.Core.Path.{_≡_}
 use mathlib.Core.Logic.{_⊎_}
 use mathlib.Core.List.{List}
 use lib.ListN.{length}
+use lib.Dec.{T}
+use Rattle.lasso.specs.Lists.{memb}
 use Rattle.gate.specs.declared.Ask.{Ask}
 use Rattle.lasso.specs.Rounds.{Record}
+use Rattle.outcomes.specs.Numbers.{stepNumbers, searchNumbers, nextNumbers, gradeNumbers, distanceNumbers, combineNumbers}
 use Rattle.outcomes.specs.Outcome.{Outcome, refused, answered}
 use Rattle.step.specs.Step.{stepOutcome}
 use Rattle.search.specs.Search.{searchOutcome}
@@ -19,12 +22,12 @@ use Rattle.capi.specs.Interface.{stepCall, searchCall, nextCall, gradeCa
 use Rattle.capi.specs.Interface.{answerAfterSearch, answerAfterNext, placeAfterGrade}
 use Rattle.capi.specs.Interface.{outputAfterDistances, outputAfterCombine}
 
--- What a report tells, where the finder answers o, refusals having numbers from 1 to `most`, and `out` was lent. A table
+-- What a report tells, where the finder answers o, refusals having one of these numbers, and `out` was lent. A table
 -- that every answer needs is too short if `Short` holds.
-pub record Value {A : Type 0} (most : ℕ) (o : Outcome A) (Short : Type 0) (out : List ℕ) (r : Report) : Type 0 where
+pub record Value {A : Type 0} (numbers : List ℕ) (o : Outcome A) (Short : Type 0) (out : List ℕ) (r : Report) : Type 0 where
   -- below 100 it is the number of the refusal
   pub number : r .kind < 100 → o ≡ refused (r .kind)
-  pub range : r .kind < 100 → (1 ≤ r .kind) × (r .kind ≤ most)
+  pub among : r .kind < 100 → T (memb (r .kind) numbers)
   -- and every refusal is told so, if no table is too short
   pub refusals : (n : ℕ) → o ≡ refused n → (Short → ⊥) → r .kind ≡ n
   -- 100 is for a table that is, and for nothing else
@@ -42,18 +45,18 @@ ShortOut out = length out < 4
 -- no entry of the answer table, of that for the place and of the output changes.
 pub record RefusalsChangeNothing : Type 0 where
   pub step : (f : List ℕ) (ceiling : ℕ) (rec : Record) (w out : List ℕ)
-      → Value 21 (stepOutcome f ceiling rec (length w)) (ShortOut out) out (stepCall f ceiling rec w out)
+      → Value stepNumbers (stepOutcome f ceiling rec (length w)) (ShortOut out) out (stepCall f ceiling rec w out)
   pub search : (f : List ℕ) (ask : Ask) (a w out : List ℕ)
-      → Value 21 (searchOutcome f ask (length a) (length w)) (ShortOut out) out (searchCall f ask a w out)
+      → Value searchNumbers (searchOutcome f ask (length a) (length w)) (ShortOut out) out (searchCall f ask a w out)
   pub next : (f earlier a w out : List ℕ)
-      → Value 15 (nextOutcome f earlier (length a) (length w)) (ShortOut out) out (nextCall f earlier a w out)
+      → Value nextNumbers (nextOutcome f earlier (length a) (length w)) (ShortOut out) out (nextCall f earlier a w out)
   pub grade : (f xs : List ℕ) (k : ℕ) (place w out : List ℕ)
-      → Value 12 (gradeOutcome f xs k (length w)) (ShortOut out ⊎ (length place < 1)) out (gradeCall f xs k place w out)
+      → Value gradeNumbers (gradeOutcome f xs k (length w)) (ShortOut out ⊎ (length place < 1)) out (gradeCall f xs k place w out)
   pub distances : (f : List ℕ) (ceiling : ℕ) (output w out : List ℕ)
-      → Value 21 (distancesOutcome f ceiling (length output) (length w)) (ShortOut out) out
+      → Value distanceNumbers (distancesOutcome f ceiling (length output) (length w)) (ShortOut out) out
       (distancesCall f ceiling output w out)
   pub combine : (f letters p output out : List ℕ)
-      → Value 18 (combineOutcome f letters p (length output)) (ShortOut out) out (combineCall f letters p output out)
+      → Value combineNumbers (combineOutcome f letters p (length output)) (ShortOut out) out (combineCall f letters p output out)
   pub search-answer : (f : List ℕ) (ask : Ask) (a w out : List ℕ) → searchCall f ask a w out .kind ≤ 100
       → answerAfterSearch f ask a w out ≡ a
   pub next-answer : (f earlier a w out : List ℕ) → nextCall f earlier a w out .kind ≤ 100

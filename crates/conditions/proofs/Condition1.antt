@@ -12,6 +12,7 @@ use Rattle.lasso.specs.Roll.{roll}
 use Rattle.format.specs.Layout.{states}
 use Rattle.model.specs.Model.{graphOf}
 use Rattle.format.specs.Rules.{Reason, firstBroken}
+use Rattle.outcomes.specs.Numbers.{stepNumbers, searchNumbers, nextNumbers, gradeNumbers, distanceNumbers, combineNumbers}
 use Rattle.outcomes.specs.Outcome.{refused, answered, outcome}
 use Rattle.outcomes.specs.Tables.{written, listReasons, unlessRefused}
 use Rattle.step.specs.Step.{stepped, stepReasons}
@@ -22,7 +23,7 @@ use Rattle.distances.specs.Distances.{distanceTable, distanceReasons}
 use Rattle.combine.specs.Combine.{combinedFile, combineReasons}
 use Rattle.gate.specs.Gate.{commonRules, ceilingReason, workAfter, workOf}
 use Rattle.conditions.specs.Reasons.{numbersOf}
-use Rattle.conditions.specs.Condition1.{stepNumbers, searchNumbers, nextNumbers, gradeNumbers, distanceNumbers, combineNumbers, Refuses, AnswerKept, WorkLeft, Condition1Holds}
+use Rattle.conditions.specs.Condition1.{Refuses, AnswerKept, WorkLeft, Condition1Holds}
 use Rattle.conditions.proofs.FirstLaws.{noneHolds-firstBroken, clear-none, broken-first, first-broken, betweenb, broken-between, refused-some, answered-none}
 use Rattle.format.proofs.Reasons.{clear-append, broken-append}
 

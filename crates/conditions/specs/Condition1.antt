@@ -2,13 +2,14 @@
 use Prim.Native.Nat.{ℕ, _≤_, _<_}
 use mathlib.Core.Path.{_≡_}
 use mathlib.Core.Logic.{_↔_}
-use mathlib.Core.List.{List, [], _∷_, _++_}
+use mathlib.Core.List.{List}
 use lib.ListN.{length, replicate}
 use lib.Dec.{T}
-use Rattle.lasso.specs.Lists.{upFrom, differentb}
+use Rattle.lasso.specs.Lists.{differentb}
 use Rattle.lasso.specs.Rounds.{Record}
 use Rattle.gate.specs.declared.Ask.{Ask}
 use Rattle.format.specs.Rules.{Reason}
+use Rattle.outcomes.specs.Numbers.{stepNumbers, searchNumbers, nextNumbers, gradeNumbers, distanceNumbers, combineNumbers}
 use Rattle.outcomes.specs.Outcome.{Outcome, refused, answered}
 use Rattle.step.specs.Step.{stepReasons, stepOutcome}
 use Rattle.search.specs.Search.{searchReasons, searchOutcome, searchAnswer}
@@ -18,27 +19,6 @@ use Rattle.distances.specs.Distances.{distanceReasons, distancesOutcome, distan
 use Rattle.combine.specs.Combine.{combineReasons, combineOutcome, combineOutput}
 use Rattle.gate.specs.Gate.{commonRules, workOf}
 use Rattle.conditions.specs.Reasons.{numbersOf, NoneHolds, FirstHolds}
-
--- the numbers of the reasons that each call applies: a step, a search and a distance call apply 21 behind 12, a search
--- skips 13, the grader goes no further than 12
-abbrev pub stepNumbers : List ℕ
-stepNumbers = upFrom 1 12 ++ 21 ∷ []
-
-abbrev pub searchNumbers : List ℕ
-searchNumbers = upFrom 1 12 ++ 21 ∷ 14 ∷ 15 ∷ []
-
-abbrev pub nextNumbers : List ℕ
-nextNumbers = upFrom 1 15
-
-abbrev pub gradeNumbers : List ℕ
-gradeNumbers = upFrom 1 12
-
-abbrev pub distanceNumbers : List ℕ
-distanceNumbers = upFrom 1 12 ++ 21 ∷ 15 ∷ []
-
--- a combination applies 1 to 11 to its rule, then 16, 17 and 18, last 15
-abbrev pub combineNumbers : List ℕ
-combineNumbers = upFrom 1 11 ++ 16 ∷ 17 ∷ 18 ∷ 15 ∷ []
 
 -- a call with these reasons: they have these numbers, in this order, and no two have the same; the call is refused with n
 -- exactly if reason n holds and none before it, answered exactly if no reason holds, and never both

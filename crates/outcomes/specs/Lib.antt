@@ -1,3 +1,4 @@
--- What a call answers, and what it does to the answer table.
+-- What a call answers, with which numbers it is refused, and what it does to the answer table.
 pub mod Outcome
+pub mod Numbers
 pub mod Tables
