@@ -40,8 +40,8 @@ pub record Tells {A : Type 0} (report : Outcome A → Report) : Type 0 where
 
 -- Nothing is lost: so are the reports of all but a grade, whose report does not hold the place where the list breaks.
 -- With the first entry of the table that is lent for the place it tells the grade, whatever stood in that table before.
--- Every refusal of a call has one of the numbers of the reasons that the call applies; and the record that comes out of a
--- step is the one that its figures give to the next.
+-- Every refusal of a step, a search, a next, a grade or a distance call has one of the numbers of the reasons that the call
+-- applies; and the record that comes out of a step is the one that its figures give to the next.
 pub record NothingLost : Type 0 where
   pub step : Tells stepReport
   pub search : Tells searchReport

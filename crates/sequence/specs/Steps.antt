@@ -30,7 +30,7 @@ stepRows =
     stepRow 4096 (after 0 none) (answered (advanced (after 1 (some 5)))) ∷
     stepRow 5 (after 0 none) (answered (advanced (after 1 (some 5)))) ∷
     stepRow 4 (after 0 none) (answered (advanced (after 1 none))) ∷
-    -- a best above the ceiling is kept
+    -- a best above the ceiling is kept, until a round is shorter
     stepRow 4 (after 0 (some 9)) (answered (advanced (after 1 (some 9)))) ∷
     stepRow 5 (after 0 (some 9)) (answered (advanced (after 1 (some 5)))) ∷
     -- the second round
