@@ -1,20 +1,21 @@
-/* Prints the rounds, a refused step, all shortest runs, a search under a ceiling, the distances and three grades of one
- * model, and the shortest run of a rule that a property marks, through the C interface (docs/CAPI.md). */
+/* Prints the rounds, a refused step, all shortest runs by each mark table, a search under a ceiling, the distances and four
+ * grades of one model, and the shortest run of a rule that a property marks, through the C interface (docs/CAPI.md). */
 #include <stdio.h>
 #include <string.h>
 
 #include "fahkelo.h"
 
-#if FAHKELO_INTERFACE != 5
-#error "this example was written for interface 5"
+#if FAHKELO_INTERFACE != 6
+#error "this example was written for interface 6"
 #endif
 
-/* Five states, 0 to 1 and 2, 1 to 3, 2 to 3, 3 to 1 and 2, 4 to 4; the run starts at 0; 3 and 4 are marked. */
+/* Five states, 0 to 1 and 2, 1 to 3, 2 to 3, 3 to 1 and 2, 4 to 4; the run starts at 0. Mark table 0 marks 3 and 4, mark
+ * table 1 marks 1. */
 static const uint8_t model[] = {
-    5, 0, 7, 0, 0, 0, 0, 0, 24, 0, 0, 0, 36, 0, 0, 0, 50, 0, 0, 0, 51, 0, 0, 0, /* header */
+    5, 0, 7, 0, 0, 0, 0, 0, 24, 0, 0, 0, 36, 0, 0, 0, 50, 0, 0, 0, 52, 0, 0, 0, /* header */
     0, 0, 2, 0, 3, 0, 4, 0, 6, 0, 7, 0,                                         /* row table */
     1, 0, 2, 0, 3, 0, 3, 0, 1, 0, 2, 0, 4, 0,                                   /* edge table */
-    24};                                                                        /* marks */
+    24, 2};                                                                     /* marks, table 0 and table 1 */
 
 /* Lists that are graded: a run that is not of least length, and a list that leaves the model, which has no state 5. */
 static const uint16_t longer[] = {0, 1, 3, 2, 3};
@@ -36,7 +37,7 @@ static const uint8_t property[] = {
     2,                                                                          /* marks */
     1, 0, 2, 0, 1, 0, 2, 0};                                                    /* masks */
 
-static uint8_t combined[FAHKELO_FILE_MOST];
+static uint8_t combined[FAHKELO_COMBINED_MOST];
 static uint16_t work[FAHKELO_WORK_MOST];
 static uint16_t answer[FAHKELO_ANSWER_MOST];
 static uint16_t earlier[FAHKELO_ANSWER_MOST];
@@ -56,7 +57,7 @@ static void print_run(void)
 /* Looks for runs of at most 2 transitions, of which there are none. */
 static int print_ceiling(void)
 {
-    uint16_t kind = fahkelo_search(model, sizeof model, 2, 65535, answer, FAHKELO_ANSWER_MOST,
+    uint16_t kind = fahkelo_search(model, sizeof model, 0, 2, 65535, answer, FAHKELO_ANSWER_MOST,
                                    work, FAHKELO_WORK_MOST, out, FAHKELO_OUT_ENTRIES);
     if (kind != FAHKELO_NONE_WITHIN)
         return 0;
@@ -80,10 +81,10 @@ static int print_distances(void)
 }
 
 /* Grades a list whose loop is said to start at place k, and prints the kind and the place where it leaves the model. */
-static void print_grade(const uint16_t *list, size_t entries, uint16_t k)
+static void print_grade(uint16_t mark_table, const uint16_t *list, size_t entries, uint16_t k)
 {
     size_t place;
-    uint16_t kind = fahkelo_grade(model, sizeof model, list, entries, k, &place, 1,
+    uint16_t kind = fahkelo_grade(model, sizeof model, mark_table, list, entries, k, &place, 1,
                                   work, FAHKELO_WORK_MOST, out, FAHKELO_OUT_ENTRIES);
     printf("grade: kind %u", (unsigned)kind);
     if (kind > FAHKELO_KINDS_FROM && out[0] == 1)
@@ -91,16 +92,17 @@ static void print_grade(const uint16_t *list, size_t entries, uint16_t k)
     printf("\n");
 }
 
-/* Grades the first shortest run, a longer one and a list that is no run. */
+/* Grades the first shortest run by table 0, a longer one, which is no run by table 1, and a list that is no run at all. */
 static int print_grades(void)
 {
-    uint16_t kind = fahkelo_search(model, sizeof model, FAHKELO_CEILING_MOST, 65535, answer, FAHKELO_ANSWER_MOST,
+    uint16_t kind = fahkelo_search(model, sizeof model, 0, FAHKELO_CEILING_MOST, 65535, answer, FAHKELO_ANSWER_MOST,
                                    work, FAHKELO_WORK_MOST, out, FAHKELO_OUT_ENTRIES);
     if (kind != FAHKELO_FOUND)
         return 0;
-    print_grade(answer, (size_t)out[0] + 1, out[1]);
-    print_grade(longer, sizeof longer / sizeof *longer, 2);
-    print_grade(broken, sizeof broken / sizeof *broken, 0);
+    print_grade(0, answer, (size_t)out[0] + 1, out[1]);
+    print_grade(0, longer, sizeof longer / sizeof *longer, 2);
+    print_grade(1, longer, sizeof longer / sizeof *longer, 2);
+    print_grade(0, broken, sizeof broken / sizeof *broken, 0);
     return 1;
 }
 
@@ -115,7 +117,7 @@ static int print_combined(void)
         return 0;
     bytes = out[0];
     printf("combined: %u bytes\n", (unsigned)bytes);
-    kind = fahkelo_search(combined, bytes, FAHKELO_CEILING_MOST, 65535, answer, FAHKELO_ANSWER_MOST,
+    kind = fahkelo_search(combined, bytes, 0, FAHKELO_CEILING_MOST, 65535, answer, FAHKELO_ANSWER_MOST,
                           work, FAHKELO_WORK_MOST, out, FAHKELO_OUT_ENTRIES);
     if (kind != FAHKELO_FOUND)
         return 0;
@@ -129,6 +131,22 @@ static int print_combined(void)
     return 1;
 }
 
+/* Prints all shortest runs by a mark table: the first one, and then the one after each. Returns the last answer. */
+static uint16_t print_runs(uint16_t mark_table)
+{
+    uint16_t kind = fahkelo_search(model, sizeof model, mark_table, FAHKELO_CEILING_MOST, 65535,
+                                   answer, FAHKELO_ANSWER_MOST, work, FAHKELO_WORK_MOST, out, FAHKELO_OUT_ENTRIES);
+    while (kind == FAHKELO_FOUND) {
+        size_t entries = (size_t)out[0] + 1;
+        print_run();
+        memcpy(earlier, answer, entries * sizeof *answer);
+        kind = fahkelo_next(model, sizeof model, mark_table, earlier, entries, answer, FAHKELO_ANSWER_MOST,
+                            work, FAHKELO_WORK_MOST, out, FAHKELO_OUT_ENTRIES);
+    }
+    printf("table %u ended with %u\n", (unsigned)mark_table, (unsigned)kind);
+    return kind;
+}
+
 int main(void)
 {
     uint16_t kind;
@@ -136,31 +154,21 @@ int main(void)
     /* One round at a time: each record goes into the next step as it came out. */
     memset(out, 0, sizeof out);
     do {
-        kind = fahkelo_step(model, sizeof model, FAHKELO_CEILING_MOST, out[0], (uint8_t)out[1], out[2],
+        kind = fahkelo_step(model, sizeof model, 0, FAHKELO_CEILING_MOST, out[0], (uint8_t)out[1], out[2],
                             work, FAHKELO_WORK_MOST, out, FAHKELO_OUT_ENTRIES);
         printf("step: kind %u, rounds %u, has best %u, best %u\n", (unsigned)kind,
                (unsigned)out[0], (unsigned)out[1], (unsigned)out[2]);
     } while (kind == FAHKELO_ADVANCED);
 
     /* A refused call changes nothing: the record is still in out. Here the last byte of the file is missing. */
-    kind = fahkelo_step(model, sizeof model - 1, FAHKELO_CEILING_MOST, out[0], (uint8_t)out[1], out[2],
+    kind = fahkelo_step(model, sizeof model - 1, 0, FAHKELO_CEILING_MOST, out[0], (uint8_t)out[1], out[2],
                         work, FAHKELO_WORK_MOST, out, FAHKELO_OUT_ENTRIES);
     if (kind < FAHKELO_KINDS_FROM)
         printf("refused with %u, rounds %u, has best %u, best %u\n", (unsigned)kind,
                (unsigned)out[0], (unsigned)out[1], (unsigned)out[2]);
 
-    /* All shortest runs: the first one, and then the one after each. */
-    kind = fahkelo_search(model, sizeof model, FAHKELO_CEILING_MOST, 65535, answer, FAHKELO_ANSWER_MOST,
-                          work, FAHKELO_WORK_MOST, out, FAHKELO_OUT_ENTRIES);
-    while (kind == FAHKELO_FOUND) {
-        size_t entries = (size_t)out[0] + 1;
-        print_run();
-        memcpy(earlier, answer, entries * sizeof *answer);
-        kind = fahkelo_next(model, sizeof model, earlier, entries, answer, FAHKELO_ANSWER_MOST,
-                            work, FAHKELO_WORK_MOST, out, FAHKELO_OUT_ENTRIES);
-    }
-    printf("ended with kind %u\n", (unsigned)kind);
-    if (kind != FAHKELO_NO_MORE)
+    /* All shortest runs by each of the two mark tables. There is no table 2: the answer is the refusal 22. */
+    if (print_runs(0) != FAHKELO_NO_MORE || print_runs(1) != FAHKELO_NO_MORE || print_runs(2) != 22)
         return 1;
     return print_ceiling() && print_distances() && print_grades() && print_combined() ? 0 : 1;
 }

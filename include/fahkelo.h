@@ -12,9 +12,10 @@
  * the same time.
  *
  *   file     the bytes of a model file, at most FAHKELO_FILE_MOST (docs/FORMAT.md). Where bytes 6 and 7 are 1, a state
- *            without edges stays where it is: it has an implied step to itself
+ *            without edges stays where it is: it has an implied step to itself. The file has one mark table or two
  *   work     working table: 6 entries for each state of the model, FAHKELO_WORK_MOST for every model. Untouched after
- *            the refusals 1 to 12 and after FAHKELO_OUT_TOO_SHORT; after every other value all its entries are zero
+ *            the refusals 1 to 12 and after FAHKELO_OUT_TOO_SHORT; after every other value, the refusal 22 among them, all
+ *            its entries are zero
  *   answer   the run that is found: entries 0 to L, a run of L transitions having L + 1 states. The run starts at entry 0;
  *            from entry k on it repeats for ever, and entry L equals entry k. FAHKELO_ANSWER_MOST entries do for every
  *            model. Entries past L never change, and no entry does unless the answer is FAHKELO_FOUND
@@ -23,17 +24,23 @@
  *            Entries past the last state's never change, and no entry does unless the answer is FAHKELO_WRITTEN
  *   place    the first place where a list that is graded leaves the model, at entry 0; at least one entry. Entry 0 changes
  *            only if there is such a place, later entries never
- *   output   the model file that fahkelo_combine writes, from byte 0 on; FAHKELO_FILE_MOST bytes do for every result. Bytes
- *            past the file never change, and no byte does unless the answer is FAHKELO_WRITTEN
+ *   output   the model file that fahkelo_combine writes, from byte 0 on; it has one mark table, and FAHKELO_COMBINED_MOST
+ *            bytes do for every result. Bytes past the file never change, and no byte does unless the answer is
+ *            FAHKELO_WRITTEN
  *   out      the figures of the answer: at least FAHKELO_OUT_ENTRIES entries. Entries past the figures never change, and
  *            no entry does after a refusal
+ *
+ * Mark table. fahkelo_step, fahkelo_search, fahkelo_next and fahkelo_grade name one of the file's mark tables, 0 or 1, and
+ * all that they answer is about its marks; what the other one marks changes nothing. In a file with one mark table, table 1
+ * holds no marks. A number above 1 is refused with 22, before the file is looked at, and the working table is all zero then.
+ * fahkelo_distances uses no marks, fahkelo_combine none of the rule's.
  *
  * Ceiling. fahkelo_step, fahkelo_search and fahkelo_distances take one, 0 to FAHKELO_CEILING_MOST: what is longer does
  * not count. With FAHKELO_CEILING_MOST everything counts, since no shortest run and no distance of any model is longer.
  * A ceiling above it is refused with 21.
  *
  * Answers. What a call returns tells by itself what happened. A value below FAHKELO_KINDS_FROM, `kind < 100`, is a refusal:
- * the value is the number of the first reason that holds, 1 to 18 or 21 (docs/REFUSALS.md), and out, answer, distances,
+ * the value is the number of the first reason that holds, 1 to 18, 21 or 22 (docs/REFUSALS.md), and out, answer, distances,
  * place and output are not changed.
  * Every other value is a kind of answer, whose figures are in out, from entry 0 on:
  *
@@ -62,7 +69,7 @@
 #include <stdint.h>
 
 /* Raised whenever a declaration or a number of this file changes: a caller can ask for the one that it was written for. */
-#define FAHKELO_INTERFACE 5
+#define FAHKELO_INTERFACE 6
 
 /* The kinds of answer start here; what is below is the number of a refusal. */
 #define FAHKELO_KINDS_FROM 100
@@ -87,7 +94,8 @@
 /* The entries that out must have, and the table sizes that do for every model. */
 #define FAHKELO_OUT_ENTRIES 4
 #define FAHKELO_STATES_MOST 4096
-#define FAHKELO_FILE_MOST 25114
+#define FAHKELO_FILE_MOST 25626
+#define FAHKELO_COMBINED_MOST 25114
 #define FAHKELO_PROPERTY_MOST 41498
 #define FAHKELO_WORK_MOST 24576
 #define FAHKELO_ANSWER_MOST 4097
@@ -100,11 +108,11 @@ extern "C" {
  * One round. The record given is the rounds done and the best length so far; every has_best but 0 says that there is a
  * best length, and with 0 the number best is not looked at. A search starts from done 0 and has_best 0. A length above
  * the ceiling does not count as found; a best length that is given, also one above the ceiling, is kept until a shorter
- * one is found.
- * Returns a refusal (1 to 12, 21), FAHKELO_FINISHED, FAHKELO_ADVANCED or FAHKELO_OUT_TOO_SHORT.
+ * one is found. There is a round for each state that the mark table marks and that can be reached.
+ * Returns a refusal (22, 1 to 12, 21, in this order), FAHKELO_FINISHED, FAHKELO_ADVANCED or FAHKELO_OUT_TOO_SHORT.
  */
 uint16_t fahkelo_step(const uint8_t *file, size_t file_len,
-                      uint16_t ceiling,
+                      uint16_t mark_table, uint16_t ceiling,
                       uint16_t done, uint8_t has_best, uint16_t best,
                       uint16_t *work, size_t work_len,
                       uint16_t *out, size_t out_len);
@@ -112,22 +120,24 @@ uint16_t fahkelo_step(const uint8_t *file, size_t file_len,
 /*
  * The first of the shortest accepting runs in dictionary order, if they are not longer than the ceiling, with at most
  * `allowance` rounds; 65535 is enough for every model. The number of rounds does not depend on the ceiling.
- * Returns a refusal (1 to 12, 21, 14, 15, in this order), FAHKELO_STOPPED, FAHKELO_FOUND with the run in answer,
+ * Returns a refusal (22, 1 to 12, 21, 14, 15, in this order), FAHKELO_STOPPED, FAHKELO_FOUND with the run in answer,
  * FAHKELO_NONE_WITHIN or FAHKELO_OUT_TOO_SHORT.
  */
 uint16_t fahkelo_search(const uint8_t *file, size_t file_len,
-                        uint16_t ceiling, uint16_t allowance,
+                        uint16_t mark_table, uint16_t ceiling, uint16_t allowance,
                         uint16_t *answer, size_t answer_len,
                         uint16_t *work, size_t work_len,
                         uint16_t *out, size_t out_len);
 
 /*
  * The shortest accepting run that follows an earlier one in dictionary order. `earlier` is a copy of all L + 1 entries of
- * a run that fahkelo_search or fahkelo_next found; any other list is refused with 13. There is no ceiling: the run has
- * as many transitions as the earlier one.
- * Returns a refusal (1 to 15), FAHKELO_FOUND with the run in answer, FAHKELO_NO_MORE or FAHKELO_OUT_TOO_SHORT.
+ * a run that fahkelo_search or fahkelo_next found by the same mark table; a list that is no shortest run by this table is
+ * refused with 13. There is no ceiling: the run has as many transitions as the earlier one.
+ * Returns a refusal (22, 1 to 15, in this order), FAHKELO_FOUND with the run in answer, FAHKELO_NO_MORE or
+ * FAHKELO_OUT_TOO_SHORT.
  */
 uint16_t fahkelo_next(const uint8_t *file, size_t file_len,
+                      uint16_t mark_table,
                       const uint16_t *earlier, size_t earlier_len,
                       uint16_t *answer, size_t answer_len,
                       uint16_t *work, size_t work_len,
@@ -139,12 +149,14 @@ uint16_t fahkelo_next(const uint8_t *file, size_t file_len,
  * It is accepting if it has the entries 0 to L, with L at least 1 and k below L; entry 0 is the state where the model
  * starts; an edge or an implied step leads from each entry to the next; entry L equals entry k; one of the entries k to
  * L - 1 is marked; and the entries 0 to L - 1 are all different. It is a shortest one if no accepting run has fewer entries.
+ * Both are about the marks of the table that is named.
  * The list leaves the model at a place if the entry there is no state or, past place 0, if no edge and no implied step leads
  * to it from the entry before. If there is such a place, out[0] is 1, place[0] is the first one, counted from 0, and the
- * grade is FAHKELO_FALSE; else out[0] is 0 and place is not changed.
- * Returns a refusal (1 to 12), FAHKELO_FALSE, FAHKELO_ACCEPTING, FAHKELO_SHORTEST or FAHKELO_OUT_TOO_SHORT.
+ * grade is FAHKELO_FALSE; else out[0] is 0 and place is not changed. The place does not depend on the marks.
+ * Returns a refusal (22, 1 to 12, in this order), FAHKELO_FALSE, FAHKELO_ACCEPTING, FAHKELO_SHORTEST or FAHKELO_OUT_TOO_SHORT.
  */
 uint16_t fahkelo_grade(const uint8_t *file, size_t file_len,
+                       uint16_t mark_table,
                        const uint16_t *list, size_t list_len,
                        uint16_t k,
                        size_t *place, size_t place_len,
@@ -165,13 +177,13 @@ uint16_t fahkelo_distances(const uint8_t *file, size_t file_len,
 
 /*
  * Combines a rule with a property: a model file whose runs are the pairs of a run of the rule and a run of the property
- * that agree on letters, and whose marks are the property's. The rule is a model file; letters has one byte for each of
- * its states, a letter 0 to 15; the property is a model file with a 16-bit mask for each edge behind its marks, bit l for
- * letter l (docs/FORMAT.md), at most FAHKELO_PROPERTY_MOST bytes.
+ * that agree on letters, and whose marks are the property's. The rule is a model file with one mark table or two; letters
+ * has one byte for each of its states, a letter 0 to 15; the property is a model file with one mark table and a 16-bit mask
+ * for each edge behind its marks, bit l for letter l (docs/FORMAT.md), at most FAHKELO_PROPERTY_MOST bytes.
  * State (s, q) of the result has the number s * Q + q, where the property has Q states. It has an edge to (s', q') exactly
  * if s has one to s' and q has one to q' whose mask holds the letter of s. It is marked if q is; the marks of the rule are
  * not used. An implied step of the rule counts as an edge, one of the property never does. Bytes 6 and 7 of the result
- * are 0.
+ * are 0, and it has one mark table.
  * Returns a refusal (the rule's 1 to 11; 16 for the letters, 17 for the property, 18 for a result that is too large, last
  * 15 for an output that is too short), FAHKELO_WRITTEN with the file in output, or FAHKELO_OUT_TOO_SHORT.
  */

@@ -6,12 +6,12 @@ import itertools
 import os
 import struct
 import sys
-from typing import NamedTuple
+from typing import NamedTuple, Optional
 
 MAX_STATES = 4096
 MAX_EDGES = 8192
 HEADER_BYTES = 24
-MAX_BYTES = 25114
+MAX_BYTES = 25626
 MAX_LETTER = 15
 ALL_LETTERS = 0xFFFF
 
@@ -20,12 +20,14 @@ class Model(NamedTuple):
     """A model. Row s is the ascending list of the targets of state s; marks is a set of states.
 
     stays: bytes 6 and 7 of its file are 1, so a state without edges has an implied step to itself.
+    second: the states marked in mark table 1; None if its file has table 0, that of marks, alone.
     """
 
     start: int
     rows: list
     marks: set
     stays: bool = False
+    second: Optional[set] = None
 
 
 class Property(NamedTuple):
@@ -44,12 +46,22 @@ class Refused(Exception):
         self.words = words
 
 
-def layout(states, edges, masked):
-    """The places of the row table, the edge table, the marks and the masks, and the total length."""
+def mark_bytes(states):
+    """The size of a mark table."""
+    return (states + 7) // 8
+
+
+def layout(states, edges):
+    """The places of the row table, the edge table and the marks, and the place behind mark table 0."""
     edge_table = HEADER_BYTES + 2 * (states + 1)
     marks = edge_table + 2 * edges
-    masks = marks + (states + 7) // 8
-    return [HEADER_BYTES, edge_table, marks, masks, masks + 2 * edges if masked else masks]
+    return [HEADER_BYTES, edge_table, marks, marks + mark_bytes(states)]
+
+
+def totals(states, edges, masked):
+    """The total lengths that are allowed: with one mark table and with two, or if masked with one and the masks."""
+    end = layout(states, edges)[3]
+    return [end + 2 * edges] if masked else [end, end + mark_bytes(states)]
 
 
 def edges_of(model):
@@ -77,11 +89,13 @@ def encode_up_to_masks(model, masked):
     row_table = [0]
     for row in model.rows:
         row_table.append(row_table[-1] + len(row))
-    *offsets, masks, total = layout(states, len(targets), masked)
-    bits = sum(1 << state for state in model.marks)
+    *offsets, end = layout(states, len(targets))
+    tables = [model.marks] if model.second is None else [model.marks, model.second]
+    total = end + (len(tables) - 1) * mark_bytes(states) + (2 * len(targets) if masked else 0)
     data = struct.pack("<4H4I", states, len(targets), model.start, model.stays, *offsets, total)
     data += struct.pack(f"<{states + 1}H{len(targets)}H", *row_table, *targets)
-    return data + bits.to_bytes(masks - len(data), "little")
+    bits = [sum(1 << state for state in table) for table in tables]
+    return data + b"".join(table.to_bytes(mark_bytes(states), "little") for table in bits)
 
 
 def encode(model):
@@ -113,10 +127,13 @@ def decode(data, masked=False):
     if flag > 1:
         raise Refused(5, f"bytes 6 and 7 hold {flag}, and 0 and 1 are allowed")
     names = ["offset of the row table", "offset of the edge table", "offset of the marks", "total length"]
-    *offsets, masks, total = layout(states, edges, masked)
-    for name, place, right in zip(names, places, offsets + [total]):
-        if place != right:
-            raise Refused(6, f"the {name} is {place}; {states} states and {edges} edges give {right}")
+    *offsets, end = layout(states, edges)
+    allowed = [[offset] for offset in offsets] + [totals(states, edges, masked)]
+    for name, place, right in zip(names, places, allowed):
+        if place not in right:
+            numbers = " or ".join(map(str, right))
+            raise Refused(6, f"the {name} is {place}; {states} states and {edges} edges give {numbers}")
+    total = places[3]
     if len(data) != total:
         raise Refused(7, f"the file's own length, {len(data)}, is not its total length, {total}")
     row_table = struct.unpack_from(f"<{states + 1}H", data, offsets[0])
@@ -129,10 +146,17 @@ def decode(data, masked=False):
     for state, row in enumerate(rows):
         if any(one >= other for one, other in zip(row, row[1:])):
             raise Refused(10, f"the targets of state {state} are not strictly ascending")
-    bits = int.from_bytes(data[offsets[2]:masks], "little")
+    marks = decode_marks(data[offsets[2]:end], states, 0)
+    second = None if masked or total == end else decode_marks(data[end:], states, 1)
+    return Model(start, rows, marks, flag == 1, second)
+
+
+def decode_marks(data, states, table):
+    """The states marked in a mark table, given by its bytes; reason 11."""
+    bits = int.from_bytes(data, "little")
     if bits >> states:
-        raise Refused(11, f"a bit after the mark of state {states - 1}, the last one, is set")
-    return Model(start, rows, {state for state in range(states) if bits >> state & 1}, flag == 1)
+        raise Refused(11, f"in mark table {table} a bit after the mark of state {states - 1}, the last one, is set")
+    return {state for state in range(states) if bits >> state & 1}
 
 
 def check_row_table(row_table, edges):
@@ -153,7 +177,7 @@ def decode_property(data):
     except Refused as refused:
         raise Refused(17, f"the property file breaks {refused.number}: {refused.words}") from None
     edges = edges_of(model)
-    place = layout(len(model.rows), len(edges), True)[3]
+    place = layout(len(model.rows), len(edges))[3]
     masks = dict(zip(edges, struct.unpack_from(f"<{len(edges)}H", data, place)))
     for source, target in edges:
         if masks[source, target] == 0:
@@ -174,7 +198,8 @@ def decode_letters(data, states):
 def combine(model, letters, property):
     """The model that a rule, read, gives with its letter table and a property file, both as bytes.
 
-    The rule's implied steps are followed, the property's are not, and the result has none.
+    The rule's implied steps are followed, the property's are not, and the result has none. The rule's marks are not
+    read, whether it has one mark table or two; the result has one.
     Raises Refused 16, 17 or 18, in this order; combine(decode(rule), ..) raises the rule's 1 to 11 before them.
     """
     letters = decode_letters(letters, len(model.rows))
@@ -222,12 +247,16 @@ def distinct(rng, count, limit):
     return found
 
 
-def random_model(rng, states, edges, marks):
-    """A random model with these numbers of states, edges and marks, and any initial state."""
+def random_model(rng, states, edges, marks, second=None):
+    """A random model with these numbers of states, edges and marks, and any initial state.
+
+    second: the number of marks in mark table 1; None gives one table.
+    """
     rows = [[] for _ in range(states)]
     for pair in sorted(distinct(rng, edges, states * states)):
         rows[pair // states].append(pair % states)
-    return Model(below(rng, states), rows, distinct(rng, marks, states))
+    model = Model(below(rng, states), rows, distinct(rng, marks, states))
+    return model if second is None else model._replace(second=distinct(rng, second, states))
 
 
 def random_property(rng, states, edges, marks):

@@ -7,8 +7,7 @@ part of the library. usage: tools/recount.py | diff - crates/compare/stdout
 """
 from itertools import islice
 
-SMALL = [(1, 4), (2, 128), (3, 12288)]
-RANDOM = [(4, 20000), (5, 20000), (6, 20000), (7, 20000)]
+MODELS = [(1, 8), (2, 256), (3, 24576), (4, 38000), (5, 38000), (6, 38000), (7, 38000)]
 WORD = (1 << 64) - 1
 NONE = 65536  # the figure of "none", more than every length
 FULL = 4096  # the greatest ceiling
@@ -58,6 +57,37 @@ def random(n, number, stays):
     d, e = d >> 16, e >> 16
     marks = [1 << d % n, d & e, d, d | e][number // 6 % 4]
     return Model(n, (f >> 8) % n, lambda s, t: edges >> (8 * s + t) & 1, lambda s: marks >> s & 1, stays)
+
+
+def numbered(n, number):
+    """The model with a number among those of n states: an odd number is the model before it, with implied steps."""
+    return (small if n <= 3 else random)(n, number // 2, number % 2 == 1)
+
+
+def placed(n, number):
+    """The model with a number in its files, turn by turn: (model, tables, the one named, whether a bit is flipped).
+
+    The model is what calls see that name the table. Up to two states there is every file with one mark table and with
+    every set of marks in the other of two, and either number. From three on one model in seven has one table; the others
+    have two, of which one is drawn. One in 91 has also the files with each bit of the other marks flipped, and the file
+    with one table, of which table 1 is named.
+    """
+    m, unmarked = numbered(n, number), numbered(n, number)
+    unmarked.marks = [False] * n
+    beside = unmarked, 1, 1, False
+    if n <= 2:
+        yield m, 1, 0, False
+        yield beside
+        for _ in range(2 ** n):
+            yield m, 2, 0, False
+            yield m, 2, 1, False
+        return
+    named = drawn(drawn(number ^ n << 32 ^ 0xD1342543DE82EF95)) >> 20 & 1
+    yield (m, 1, 0, False) if number // 2 % 7 == 0 else (m, 2, named, False)
+    if number // 2 % 91 == 1:
+        for _ in range(n):
+            yield m, 2, named, True
+        yield beside
 
 
 def accepting(m, path):
@@ -158,12 +188,13 @@ def random_lists(m):
 
 
 def compared(m, count):
-    """Counts the answers of all calls on a model; count(call, answer) is told each of them."""
+    """Counts the answers of all calls on a file that name a table by whose marks its model is m.
+
+    count(call, answer) is told each of them.
+    """
     paths = list(accepting(m, [m.initial]))
     t = Truth(m, FULL, paths)
-    count("model", f"least {t.least}" if t.roll else "none")
-    if m.successors != m.targets:
-        count("implied", "any")
+    count("file", f"least {t.least}" if t.roll else "none")
     if len(t.roll) > 1:
         count("several", "any")
     counts = list(range(len(t.rounds) + 2)) + [65535]
@@ -216,22 +247,26 @@ def main():
         return sum(n for (c, answer), n in seen.items() if answer == f"refused {number}")
 
     print("each model with 0 and with 1 in bytes 6 and 7")
-    for n, models in SMALL:
+    for n, models in MODELS:
         for number in range(models):
-            compared(small(n, number, False), count)
-            compared(small(n, number, True), count)
-        print(f"all models of {n} state{'s' if n > 1 else ''}: {2 * models}")
-    for n, models in RANDOM:
-        for number in range(models):
-            compared(random(n, number, False), count)
-            compared(random(n, number, True), count)
-        print(f"random models of {n} states: {2 * models}")
+            for turn, (m, tables, named, flipped) in enumerate(placed(n, number)):
+                if turn == 0 and m.successors != m.targets:
+                    count("implied", "any")
+                count("tables", f"{tables} {named}")
+                if flipped:
+                    count("flipped", "any")
+                compared(m, count)
+        print(f"{'random' if n > 3 else 'all'} models of {n} state{'s' if n > 1 else ''}: {models}")
     print("models with an implied step:", total("implied"))
-    print("models without an accepting path:", total("model", "none"))
+    for tables, words in [(1, "one mark table"), (2, "two mark tables")]:
+        for named in (0, 1):
+            print(f"files with {words}, table {named} named:", total("tables", f"{tables} {named}"))
+    print("files with one bit of the other marks flipped:", total("flipped"))
+    print("files without an accepting path:", total("file", "none"))
     for least in range(1, 8):
-        print(f"models with a least length of {least}:", total("model", f"least {least}"))
-    print("models with several shortest accepting paths:", total("several"))
-    print("ceilings, over all models:", total("ceiling"))
+        print(f"files with a least length of {least}:", total("file", f"least {least}"))
+    print("files with several shortest accepting paths:", total("several"))
+    print("ceilings, over all files:", total("ceiling"))
     for call, plural, answers in [
         ("step", "steps", ["advanced", "finished", "refused"]),
         ("search", "searches", ["found", "none within", "stopped", "refused"]),

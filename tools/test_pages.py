@@ -11,7 +11,7 @@ import tempfile
 import xml.etree.ElementTree as xml
 
 from modelfile import Model, encode
-from testing import D_BYTES, STAYS_BYTES, TOOLS, expect, expect_failure, made, run
+from testing import D_BYTES, STAYS_BYTES, TOOLS, TWO_BYTES, expect, expect_failure, made, run
 
 ROOT = os.path.dirname(TOOLS)
 PROGRAM = os.path.join(ROOT, "target/bin/desk_sheet")
@@ -63,6 +63,7 @@ def long_sheet():
 
 SHEETS = {
     "D": (D_BYTES, D_SHEET),
+    "two mark tables": (TWO_BYTES, D_SHEET),
     "H": (H_BYTES, H_SHEET),
     "stays": (STAYS_BYTES, STAYS_SHEET),
     "stays apart": (APART_BYTES, APART_SHEET),
@@ -231,6 +232,22 @@ def test_page_pictures(desk):
     expect("what a click shows", places == ["show-1", "show-2"], places)
 
 
+@with_desk
+def test_page_two_tables(desk):
+    """The page of a file with two mark tables is that of mark table 0."""
+    for words in [[], ["--dot"], ["--svg"]]:
+        desk.lay(*SHEETS["D"])
+        expected = desk.draw(*words)
+        desk.lay(*SHEETS["two mark tables"])
+        expect(f"the page of two mark tables {words}", desk.draw(*words) == expected)
+    swapped = TWO_BYTES[:-2] + b"\2\x18"
+    desk.lay(swapped, "model 5 7\nrounds 1\nshortest 3\n0 | 1 3\nend 1\n")
+    got = sentences(tree_of("the tables exchanged", desk.draw()))
+    expect("the tables exchanged", got == ["Starts at 0, then repeats 1, 3 for ever; marked: 1."], got)
+    desk.lay(swapped, D_SHEET)
+    desk.fails([], 1, "NO PAGE", "run 2", "its loop holds no marked state")
+
+
 ARROW = "A state that stays as it is has an arrow to itself."
 
 
@@ -269,7 +286,8 @@ def test_page_refusals(desk):
     damages = {2: "0 0", 3: "3 33", 4: "4 5", 5: "7 1", 6: "2 6", 8: "24 1", 9: "36 5", 10: "36 3", 11: "50 56"}
     files = {number: made(f"damage {words}", D_BYTES) for number, words in damages.items()}
     files.update({1: b"", 7: D_BYTES + b"\0" * 30000, 14: D_BYTES})
-    for number, data in files.items():
+    spare = TWO_BYTES[:-1] + b"\x22"
+    for number, data in [*files.items(), (11, spare)]:
         desk.lay(data, f"refused {number}\n")
         text = text_of(tree_of(f"refused {number}", desk.draw()))
         expect(f"refused {number}", f"Refused {number}" in text and card[str(number)].replace("`", "") in text, text)
@@ -497,6 +515,6 @@ def test_look(desk):
 
 
 PAGE_TESTS = [
-    test_page_sentences, test_page_pictures, test_page_words, test_page_refusals, test_page_names, test_page_circle,
-    test_page_bad_names, test_page_wrong_sheets, test_page_failures, test_dot, test_svg, test_program, test_look,
+    test_page_sentences, test_page_pictures, test_page_two_tables, test_page_words, test_page_refusals,
+    test_page_names, test_page_circle, test_page_bad_names, test_page_wrong_sheets, test_page_failures, test_dot, test_svg, test_program, test_look,
 ]

@@ -8,10 +8,10 @@ import re
 import subprocess
 import tempfile
 
-from modelfile import ALL_LETTERS, Model, Property, Refused, below, combine, decode, decode_letters, decode_property
+from modelfile import ALL_LETTERS, Model, Property, below, combine, decode, decode_letters, decode_property
 from modelfile import edges_of, encode, encode_property, random_model, random_property
 from testing import COMBINED_BYTES, D_BYTES, PROPERTY_BYTES, PROPERTY_TEXT, RULE_BYTES, RULE_LETTERS, RULE_TEXT
-from testing import TOOLS, expect, expect_failure, expect_round_trip, made
+from testing import TOOLS, expect, expect_failure, expect_refused, expect_round_trip, made
 
 FORMAT = os.path.join(os.path.dirname(TOOLS), "docs/FORMAT.md")
 MAX_PROPERTY_BYTES = 41498
@@ -34,15 +34,6 @@ def contents_of(path):
     """The bytes of a file."""
     with open(path, "rb") as file:
         return file.read()
-
-
-def expect_refused(case, words, call, *arguments):
-    """A call raises Refused with a message that starts with these words: a number and what is broken."""
-    try:
-        got = call(*arguments)
-    except Refused as refused:
-        got = refused
-    expect(case, isinstance(got, Refused) and str(got).startswith(f"refused {words}"), got)
 
 
 # Texts and files.
@@ -110,6 +101,8 @@ def test_bad_property_texts():
         expect_failure("make-model", text.encode(), 2, *parts)
     expect_failure("make-model --property", b"start 0\n0 -> 1", 2, "line 2:", "the edge 0 -> 1 has no mask")
     expect_failure("make-model --property", b"letter 0 1", 2, "line 1:", "no letters")
+    for words, text in [("make-model --property", b"states 1\nsecond"), ("make-model", b"0 -> 0\nsecond 0\nmask 0 0 1")]:
+        expect_failure(words, text, 2, "line 2:", "a property has one mark table")
 
 
 def test_bad_property_words():
@@ -204,6 +197,28 @@ def test_property_refusals():
         expect_failure(words, data, 1, said)
 
 
+def test_property_mark_tables():
+    """A property has one mark table: with two it is 17, and its masks have no spare bits."""
+    model = decode_property(PROPERTY_BYTES).model
+    masks = {edge: 1 for edge in edges_of(model)}
+    two = Property(model._replace(second={0}), masks)
+    expect_refused("a property with two mark tables", "17: the property file breaks 6: ", encode_property, two)
+    no_edge = encode(Model(0, [[]] * 3, {2}, second={1}))
+    expect_refused("two mark tables and no masks", "17: the property file breaks 6: ", decode_property, no_edge)
+    full = encode_property(Property(model, {edge: ALL_LETTERS for edge in edges_of(model)}))
+    expect("masks of all bits", set(decode_property(full).masks.values()) == {ALL_LETTERS})
+    # With 9 states and one edge the mask is as long as a mark table: the same bytes are a property and a model.
+    both = encode_property(Property(Model(0, [[8]] + [[]] * 8, {8}), {(0, 8): 0x0103}))
+    expect("a property that is a model", decode_property(both).masks == {(0, 8): 0x0103})
+    expect("a model that is a property", decode(both).second == {0, 1, 8}, decode(both))
+    spare = with_word(both, len(both) - 2, 0x0203)
+    expect("a mask above the states", decode_property(spare).masks == {(0, 8): 0x0203})
+    expect_refused("a spare bit of the second table", "11: in mark table 1 ", decode, spare)
+    empty = with_word(both, len(both) - 2, 0)
+    expect("a second table without marks", decode(empty).second == set())
+    expect_refused("a mask that is zero", "17: the mask of the edge 0 -> 8 is zero", decode_property, empty)
+
+
 def bare(states):
     """A rule without edges."""
     return Model(0, [[]] * states, set())
@@ -250,11 +265,12 @@ def test_checking_order():
 
 
 def test_combined_example():
-    """The example to the byte, whatever marks the rule has."""
+    """The example to the byte, whatever marks the rule has, in one table or in two."""
     rule = decode(RULE_BYTES)
-    for marks in [set(), {0}, {0, 1}]:
-        result = encode(combine(rule._replace(marks=marks), RULE_LETTERS, PROPERTY_BYTES))
-        expect(f"the combination with the rule's marks {marks}", result == COMBINED_BYTES, result.hex())
+    for marks, second in itertools.product([set(), {0}, {0, 1}], [None, set(), {1}]):
+        marked = decode(encode(rule._replace(marks=marks, second=second)))
+        result = encode(combine(marked, RULE_LETTERS, PROPERTY_BYTES))
+        expect(f"the combination with the rule's marks {marks} {second}", result == COMBINED_BYTES, result.hex())
 
 
 B_BYTES = encode(Model(0, [[0]], {0}))
@@ -324,6 +340,7 @@ def test_random_combinations():
 
 PROPERTY_TESTS = [
     test_property_text, test_letters, test_bad_property_texts, test_bad_property_words, test_random_properties,
-    test_format_page, test_letter_refusals, test_property_refusals, test_size_refusals, test_checking_order,
+    test_format_page, test_letter_refusals, test_property_refusals, test_property_mark_tables, test_size_refusals,
+    test_checking_order,
     test_combined_example, test_combined_implied_steps, test_random_combinations,
 ]

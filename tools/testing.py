@@ -1,9 +1,11 @@
-# What the tests of the scripts in this folder share: example D, a model that stays, an example of a
-# combination, running a tool, and saying what fails.
+# What the tests of the scripts in this folder share: example D, with one mark table and with two, a model that
+# stays, an example of a combination, running a tool, and saying what fails.
 # A convenience outside the proofs: nothing in crates/ uses it.
 import os
 import subprocess
 import sys
+
+from modelfile import Refused
 
 TOOLS = os.path.dirname(os.path.abspath(__file__))
 D_TEXT = "states 5\nstart 0\n0 -> 1 2\n1 -> 3\n2 -> 3\n3 -> 1 2\n4 -> 4\nmark 3 4\n"
@@ -11,6 +13,9 @@ D_BYTES = bytes.fromhex(
     "0500070000000000 18000000240000003200000033000000"
     "000002000300040006000700 0100020003000300010002000400 18"
 )
+# D with a second mark table, in which state 1 is marked: one byte more, and a total length of 52.
+TWO_TEXT = D_TEXT + "second 1\n"
+TWO_BYTES = D_BYTES[:20] + b"\x34" + D_BYTES[21:] + b"\2"
 # A way from 0 to the marked state 1, which stays for ever.
 STAYS_TEXT = "states 2\nstart 0\nstays\n0 -> 1\nmark 1\n"
 STAYS_BYTES = bytes.fromhex("0200010000000100 180000001e0000002000000021000000 000001000100 0100 02")
@@ -55,6 +60,15 @@ def made(words, data=b"", tools=TOOLS):
 def expect_round_trip(case, data, option=""):
     """A valid file, shown and made again with the same option, is the same file."""
     expect(f"{case}, there and back", made(f"make-model {option}", made(f"show-model {option}", data)) == data)
+
+
+def expect_refused(case, words, call, *arguments):
+    """A call raises Refused with a message that starts with these words: a number and what is broken."""
+    try:
+        got = call(*arguments)
+    except Refused as refused:
+        got = refused
+    expect(case, isinstance(got, Refused) and str(got).startswith(f"refused {words}"), got)
 
 
 def expect_failure(words, data, code, *parts, tools=TOOLS):

@@ -3,7 +3,7 @@
 use crate::examples::{file_d, file_h, file_of, found, with_flag, NOTHING_DONE};
 use crate::fahkelo::{
     distances_into, kind, search_into, step_into, Ask, DistancesAnswer, NextAnswer, Record,
-    SearchAnswer, StepAnswer,
+    SearchAnswer, StepAnswer, TABLE_0,
 };
 use crate::graph::Graph;
 use crate::reference::{distances_by_sweeps, read, Facts};
@@ -26,7 +26,10 @@ fn ring() -> Vec<u8> {
 fn searched_in_h(version: &dyn Finder, ceiling: u16, allowance: u16) -> (SearchAnswer, [u16; 5]) {
     let mut answer = [9; 5];
     let mut work = [9; 42];
-    let ask = Ask { ceiling, allowance };
+    let ask = Ask {
+        allowance,
+        ..Ask::under(ceiling)
+    };
     let result = version.search(&file_h(), ask, &mut answer, &mut work);
     assert_eq!(work, [0; 42]);
     (result, answer)
@@ -66,7 +69,7 @@ fn searches_in_h_under_ceilings() {
 /// The same by what the versions are held to: the rounds and the first list under a ceiling.
 #[test]
 fn rounds_in_h_under_ceilings() {
-    let graph = Graph::of(read(&file_h()).expect("it is accepted"));
+    let graph = Graph::of(read(&file_h()).expect("it is accepted"), TABLE_0);
     let textbook = Textbook::new(&graph);
     let rounds = [
         (4096, [Some(5), Some(3)]),
@@ -107,13 +110,13 @@ fn steps_in_h_under_ceilings() {
     for version in FINDERS {
         for (ceiling, so_far, after) in steps {
             let mut work = [9; 42];
-            let got = version.step(&file_h(), ceiling, so_far, &mut work);
+            let got = version.step(&file_h(), TABLE_0, ceiling, so_far, &mut work);
             let what = format!("{} {ceiling} {so_far:?}", version.name());
             assert_eq!(got, StepAnswer::Advanced(after), "{what}");
             assert_eq!(work, [0; 42], "{what}");
         }
         let done = record(2, Some(9));
-        let got = version.step(&file_h(), 0, done, &mut [9; 42]);
+        let got = version.step(&file_h(), TABLE_0, 0, done, &mut [9; 42]);
         assert_eq!(got, StepAnswer::Finished(done));
     }
 }
@@ -124,7 +127,10 @@ fn ceilings_above_4096() {
     let file = file_h();
     for (version, ceiling) in FINDERS.into_iter().flat_map(|v| [(v, 4097), (v, 65535)]) {
         for (answer_len, allowance) in [(4, 65535), (3, 65535), (0, 65535), (4, 1), (4, 0)] {
-            let ask = Ask { ceiling, allowance };
+            let ask = Ask {
+                allowance,
+                ..Ask::under(ceiling)
+            };
             let (mut answer, mut work) = ([9; 4], [9; 42]);
             let got = version.search(&file, ask, &mut answer[..answer_len], &mut work[..41]);
             assert_eq!((got, work), (SearchAnswer::Refused(12), [9; 42]));
@@ -136,9 +142,9 @@ fn ceilings_above_4096() {
         }
         for so_far in [NOTHING_DONE, record(1, Some(5)), record(2, Some(3))] {
             let mut work = [9; 42];
-            let got = version.step(&file, ceiling, so_far, &mut work[..41]);
+            let got = version.step(&file, TABLE_0, ceiling, so_far, &mut work[..41]);
             assert_eq!((got, work), (StepAnswer::Refused(12), [9; 42]));
-            let got = version.step(&file, ceiling, so_far, &mut work);
+            let got = version.step(&file, TABLE_0, ceiling, so_far, &mut work);
             assert_eq!((got, work), (StepAnswer::Refused(21), [0; 42]));
         }
     }
@@ -185,7 +191,7 @@ fn a_sequence_with_two_ceilings() {
         let second = version.search(&file, Ask::under(2), &mut answer, &mut work);
         assert_eq!(second, SearchAnswer::NoneWithin { rounds: 1 });
         assert_eq!(answer, copy);
-        let third = version.next(&file, &copy, &mut answer, &mut work);
+        let third = version.next(&file, TABLE_0, &copy, &mut answer, &mut work);
         let follower = NextAnswer::Found {
             length: 3,
             loop_start: 1,
@@ -211,13 +217,13 @@ fn the_figures_under_a_ceiling() {
         21
     );
     assert_eq!(
-        step_into(&file, 4097, NOTHING_DONE, &mut work, &mut out),
+        step_into(&file, TABLE_0, 4097, NOTHING_DONE, &mut work, &mut out),
         21
     );
     assert_eq!((out, answer), ([7; 4], [9; 4]));
     let nine = record(0, Some(9));
     assert_eq!(
-        step_into(&file, 4, nine, &mut work, &mut out),
+        step_into(&file, TABLE_0, 4, nine, &mut work, &mut out),
         kind::ADVANCED
     );
     assert_eq!(out, [1, 1, 9, 7]);
@@ -300,7 +306,7 @@ fn the_figure_of_distances() {
 fn distances_round_the_longest_ring() {
     let file = ring();
     let whole: Vec<u16> = (0..4096).collect();
-    let graph = Graph::of(read(&file).expect("it is accepted"));
+    let graph = Graph::of(read(&file).expect("it is accepted"), TABLE_0);
     let by_sweeps = distances_by_sweeps(&graph);
     assert!(by_sweeps.into_iter().eq(whole.iter().copied().map(Some)));
     for version in DISTANCE_WRITERS {

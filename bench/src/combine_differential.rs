@@ -6,16 +6,17 @@ use std::collections::BTreeMap;
 use crate::combinations::{Input, COMBINATIONS};
 use crate::combine_measure::OUTPUT_MOST;
 use crate::combine_samples::{
-    at_limits, damage_input, dirty_bytes, large, middle, output_len, small,
+    at_limits, damage_input, dirty_bytes, has_two_tables, large, middle, output_len, small,
 };
 use crate::counts;
 use crate::differential::{compare_roll, verdict_of};
-use crate::fahkelo::{combine_into, kind, CombineAnswer};
+use crate::fahkelo::{combine_into, kind, CombineAnswer, TABLE_0};
 use crate::model::Model;
 use crate::product::{is_pair_of_paths, product};
 use crate::random::Random;
 use crate::reference::{read, read_property};
 use crate::samples::dirty;
+use crate::trials::Case;
 use crate::versions::{Combiner, PAIRED, SAFE};
 
 /// Lists of a result's roll that are compared.
@@ -27,6 +28,8 @@ struct Counts {
     combinations: u64,
     rules_implying: u64,
     properties_implying: u64,
+    rules_with_two: u64,
+    properties_with_two: u64,
     values: BTreeMap<u16, u64>,
     largest: (usize, usize),
     paths: u64,
@@ -92,8 +95,11 @@ fn print(counts: &Counts) {
         counts.combinations, counts.largest.0, counts.largest.1, counts.paths
     );
     println!(
-        "bytes 6–7 are 1 and some state has no edge: {} rules, {} properties",
-        counts.rules_implying, counts.properties_implying
+        "bytes 6–7 are 1 and some state has no edge: {} rules, {} properties; two mark tables: {} rules, {} properties (17)",
+        counts.rules_implying,
+        counts.properties_implying,
+        counts.rules_with_two,
+        counts.properties_with_two
     );
     println!(
         "calls by value: {}; of the calls in C, with too short a table for the figures: {}",
@@ -107,7 +113,7 @@ fn print(counts: &Counts) {
 /// All comparisons on one input: several outputs, and searches on the result.
 fn compare(lot: &mut Random, counts: &mut Counts, input: &Input) {
     counts.combinations += 1;
-    count_implying(counts, input);
+    count_kinds(counts, input);
     let verdict = product(&input.rule, &input.letters, &input.property);
     let file = verdict.as_ref().map(Model::to_bytes).map_err(|&n| n);
     let needed = match &file {
@@ -126,12 +132,17 @@ fn compare(lot: &mut Random, counts: &mut Counts, input: &Input) {
     }
 }
 
-/// Counts the rule and the property, if they are accepted and have implied steps.
-fn count_implying(counts: &mut Counts, input: &Input) {
-    let rule = read(&input.rule).is_ok_and(|rule| rule.implies_steps());
-    let property = read_property(&input.property).is_ok_and(|(model, _)| model.implies_steps());
-    counts.rules_implying += u64::from(rule);
-    counts.properties_implying += u64::from(property);
+/// Counts the rule and the property, if they are accepted and have implied steps; the rule, if it is accepted and has two
+/// mark tables; the property, if it has two and the masks behind them.
+fn count_kinds(counts: &mut Counts, input: &Input) {
+    if let Ok(rule) = read(&input.rule) {
+        counts.rules_implying += u64::from(rule.implies_steps());
+        counts.rules_with_two += u64::from(rule.second.is_some());
+    }
+    if let Ok((property, _)) = read_property(&input.property) {
+        counts.properties_implying += u64::from(property.implies_steps());
+    }
+    counts.properties_with_two += u64::from(has_two_tables(&input.property));
 }
 
 /// The answer for an output of a length.
@@ -217,18 +228,16 @@ fn compare_searches(
         return;
     }
     let verdict = verdict_of(&mut counts.searches, &written, Some(model));
-    let Ok((_, facts)) = &verdict else {
+    let case = Case {
+        file: &written,
+        verdict: &verdict,
+        mark_table: TABLE_0,
+    };
+    let Ok((_, facts)) = case.named() else {
         return;
     };
     let roll = &facts.roll[..facts.roll.len().min(MOST_LISTS)];
-    compare_roll(
-        lot,
-        &mut counts.searches,
-        &written,
-        &verdict,
-        roll,
-        model.states(),
-    );
+    compare_roll(lot, &mut counts.searches, case, roll, model.states());
     for list in roll {
         counts.paths += 1;
         if !is_pair_of_paths(rule, letters, property, list) {

@@ -5,7 +5,7 @@ use crate::combinations::Input;
 use crate::model::Model;
 use crate::property::Property;
 use crate::random::Random;
-use crate::samples::{damage, random_model};
+use crate::samples::{add_table, damage, marks_of, random_model};
 
 /// Bytes of any contents.
 pub fn dirty_bytes(lot: &mut Random, len: usize) -> Vec<u8> {
@@ -32,17 +32,40 @@ fn with_masks(lot: &mut Random, model: Model, letters: usize) -> Property {
     property
 }
 
-/// The files of a rule and a property of at most so many states each.
-fn of_sizes(lot: &mut Random, rule_states: [usize; 2], property_states: [usize; 2]) -> Input {
-    let rule = random_model(lot, rule_states[0], rule_states[1]);
+/// The files of a rule, its letters drawn, and of a property. Once in two times the rule has a second mark table, and once
+/// in sixteen the property, which then is refused.
+fn files_of(lot: &mut Random, mut rule: Model, mut model: Model) -> Input {
     let count = lot.between(1, 16);
     let letters = (0..rule.states()).map(|_| lot.below(count) as u8).collect();
-    let model = random_model(lot, property_states[0], property_states[1]);
+    if lot.once_in(2) {
+        add_table(lot, &mut rule);
+    }
+    if lot.once_in(16) {
+        add_table(lot, &mut model);
+    }
     Input {
         rule: rule.to_bytes(),
         letters,
         property: with_masks(lot, model, count).to_bytes(),
     }
+}
+
+/// The property file has two mark tables, and the masks behind them.
+pub fn has_two_tables(property: &[u8]) -> bool {
+    if property.len() < 24 {
+        return false;
+    }
+    let (marks, size) = marks_of(property);
+    let edges = u16::from_le_bytes([property[2], property[3]]) as usize;
+    let total = marks + 2 * size + 2 * edges;
+    property.len() == total && property[20..24] == (total as u32).to_le_bytes()
+}
+
+/// The files of a rule and a property of at most so many states each.
+fn of_sizes(lot: &mut Random, rule_states: [usize; 2], property_states: [usize; 2]) -> Input {
+    let rule = random_model(lot, rule_states[0], rule_states[1]);
+    let model = random_model(lot, property_states[0], property_states[1]);
+    files_of(lot, rule, model)
 }
 
 /// A combination whose result is small: it is tried exhaustively if it has at most 7 states.
@@ -75,17 +98,11 @@ pub fn large(lot: &mut Random) -> Input {
     } else {
         lot.between(1, most)
     };
-    let count = lot.between(1, 16);
     let edges = |lot: &mut Random, n: usize| lot.between(0, (n * n).min(2000));
     let (rule_edges, property_edges) = (edges(lot, n), edges(lot, q));
     let rule = dense(lot, n, rule_edges);
-    let letters = (0..n).map(|_| lot.below(count) as u8).collect();
     let model = dense(lot, q, property_edges);
-    Input {
-        rule: rule.to_bytes(),
-        letters,
-        property: with_masks(lot, model, count).to_bytes(),
-    }
+    files_of(lot, rule, model)
 }
 
 /// Damages one, two or all of the rule, the letters and the property.
@@ -180,6 +197,23 @@ fn states(n: usize, q: usize) -> Input {
     }
 }
 
+/// The longest rule, with 8,192 edges and two mark tables, by a property of one state that holds each of its letters.
+fn longest_rule() -> Input {
+    let mut rule = Model::new(4096);
+    for s in 0..4096 {
+        rule.edge(s, (s + 1) % 4096);
+        rule.edge(s, (s + 2) % 4096);
+    }
+    rule.second = Some(vec![true; 4096]);
+    let mut model = Model::new(1);
+    model.edge(0, 0);
+    Input {
+        rule: rule.to_bytes(),
+        letters: vec![15; 4096],
+        property: Property::new(model, 1 << 15).to_bytes(),
+    }
+}
+
 /// Combinations at the limits and just above them, with the reason to refuse them.
 pub fn at_limits() -> Vec<(Input, Option<u16>)> {
     vec![
@@ -189,6 +223,7 @@ pub fn at_limits() -> Vec<(Input, Option<u16>)> {
         (edges_above(Model::new(2).staying(true), 0), None),
         (edges_above(Model::new(2).staying(true), 1), Some(18)),
         (edges_above(Model::new(2), 1), None),
+        (longest_rule(), None),
         (states(64, 64), None),
         (states(17, 241), Some(18)),
         (states(4096, 1), None),

@@ -13,6 +13,7 @@ pub struct Counts {
     pub large: u64,
     pub staying: u64,
     pub implying: u64,
+    pub two_tables: u64,
     pub refused_files: [u64; 16],
     pub damaged: u64,
     pub steps: u64,
@@ -79,8 +80,8 @@ impl Counts {
             self.small, self.large
         );
         println!(
-            "bytes 6–7 are 1 in {} of them, {} with implied steps",
-            self.staying, self.implying
+            "bytes 6–7 are 1 in {} of them, {} with implied steps; {} have two mark tables",
+            self.staying, self.implying, self.two_tables
         );
         println!(
             "files damaged: {}; refused by rule: {}",

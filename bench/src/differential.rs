@@ -2,7 +2,7 @@
 //! with what the reference says. The library is called by its C functions, the versions in Rust beside it.
 
 use crate::counts::Counts;
-use crate::fahkelo::{Ask, Record, StepAnswer, FULL_CEILING};
+use crate::fahkelo::{Record, StepAnswer, FULL_CEILING, TABLE_0, TABLE_1};
 use crate::families::FAMILIES;
 use crate::graph::Graph;
 use crate::model::Model;
@@ -10,33 +10,39 @@ use crate::oracle::{self, Verdict};
 use crate::random::Random;
 use crate::reference::{distances_by_sweeps, read, rounds_by_formula, Facts, SMALL};
 use crate::samples::{
-    answer_len, ceiling_about, damage, random_model, random_record, walk, work_len, wrong_list,
+    add_table, answer_len, ceiling_about, damage, random_model, random_record, table_above_1, walk,
+    work_len, wrong_list,
 };
 use crate::sequences::compare_sequence;
 use crate::textbook::{Lister, Textbook};
-use crate::trials::{compare_distances, compare_next, compare_search, compare_step};
+use crate::trials::{compare_distances, compare_next, compare_search, compare_step, Case};
 
 /// Lists of a larger model's roll that are compared.
 const MOST_LISTS: usize = 60;
 
-/// Runs the comparison on so many files, two of each model: bytes 6–7 are 0 and 1. The number of differences.
+/// Runs the comparison on so many files, two of each model: bytes 6–7 are 0 and 1. Half of the models have two mark tables,
+/// and so have the families. The number of differences.
 pub fn run(count: u64, seed: u64) -> u64 {
     let mut lot = Random::new(seed);
     let mut counts = Counts::default();
     for round in 0..count.div_ceil(2) {
         let damaged = round % 2 == 1;
         let large = round % 20 >= 18;
-        let model = if large {
+        let mut model = if large {
             random_model(&mut lot, SMALL + 1, 40)
         } else {
             random_model(&mut lot, 1, SMALL)
         };
+        if lot.once_in(2) {
+            add_table(&mut lot, &mut model);
+        }
         for stays in [false, true] {
             compare_model(&mut lot, &mut counts, &model.staying(stays), damaged);
         }
     }
     for family in FAMILIES {
-        let model = (family.make)(256);
+        let mut model = (family.make)(256);
+        add_table(&mut lot, &mut model);
         for stays in [false, true] {
             compare_family(&mut lot, &mut counts, &model.staying(stays).to_bytes());
         }
@@ -55,28 +61,46 @@ fn compare_model(lot: &mut Random, counts: &mut Counts, model: &Model, damaged: 
     compare_file(lot, counts, &file, (!damaged).then_some(model));
 }
 
-/// Searches and steps under some ceilings, the lists behind the first, a sequence and distances, on a file of a measured
-/// family.
+/// The file of a measured family, by both mark tables, and its distances.
 fn compare_family(lot: &mut Random, counts: &mut Counts, file: &[u8]) {
-    let verdict = verdict_of(counts, file, None);
-    let Ok((graph, facts)) = &verdict else {
-        counts.difference("a family's file is refused", file);
-        return;
-    };
+    let verdict = &verdict_of(counts, file, None);
+    for mark_table in [TABLE_0, TABLE_1] {
+        let case = Case {
+            file,
+            verdict,
+            mark_table,
+        };
+        let Ok((graph, facts)) = case.named() else {
+            counts.difference("a family's file is refused", file);
+            return;
+        };
+        compare_family_by(lot, counts, case, graph, facts);
+        if mark_table == TABLE_0 {
+            let ceilings = some_ceilings(greatest(&facts.distances));
+            compare_all_distances(lot, counts, case, &ceilings, graph.states());
+        }
+    }
+}
+
+/// Searches and steps under some ceilings, the lists behind the first, and a sequence, by one mark table of a family.
+fn compare_family_by(
+    lot: &mut Random,
+    counts: &mut Counts,
+    case: Case,
+    graph: &Graph,
+    facts: &Facts,
+) {
     let states = graph.states();
     let needed = facts.length().map_or(1, |length| length + 1);
     for ceiling in some_ceilings(needed as u16 - 1) {
         let (answer, work) = (answer_len(lot, needed), work_len(lot, states));
-        let ask = Ask::under(ceiling);
-        compare_search(lot, counts, file, &verdict, ask, answer, work);
+        compare_search(lot, counts, case, ceiling, 65535, answer, work);
         let record = random_record(lot, facts.candidates.len(), needed, ceiling);
-        compare_step(lot, counts, file, &verdict, ceiling, record, 6 * states);
+        compare_step(lot, counts, case, ceiling, record, 6 * states);
     }
     let roll = &facts.roll[..facts.roll.len().min(20)];
-    compare_roll(lot, counts, file, &verdict, roll, states);
-    compare_sequence(lot, counts, file, &verdict);
-    let ceilings = some_ceilings(greatest(&facts.distances));
-    compare_all_distances(lot, counts, file, &verdict, &ceilings, states);
+    compare_roll(lot, counts, case, roll, states);
+    compare_sequence(lot, counts, case);
 }
 
 /// The ceilings that are above 4,096 or just not.
@@ -122,15 +146,27 @@ pub fn verdict_of(counts: &mut Counts, file: &[u8], written: Option<&Model>) -> 
     }
     counts.staying += u64::from(model.stays);
     counts.implying += u64::from(model.implies_steps());
-    let graph = Graph::of(model);
-    let by_textbook = textbook_facts(&graph);
-    if graph.states() > SMALL {
+    counts.two_tables += u64::from(model.second.is_some());
+    if model.states() > SMALL {
         counts.large += 1;
-        return Ok((graph, by_textbook));
+    } else {
+        counts.small += 1;
     }
-    counts.small += 1;
-    let facts = Facts::by_exhaustion(&graph, FULL_CEILING);
-    if facts.round_lengths != rounds_by_formula(&graph, &facts.candidates) {
+    Ok([TABLE_0, TABLE_1].map(|mark_table| {
+        let graph = Graph::of(model.clone(), mark_table);
+        let facts = facts_of(counts, file, &graph);
+        (graph, facts)
+    }))
+}
+
+/// The facts of a graph: exhaustive ones of a small one, to which the textbook version is held, and else those of that.
+fn facts_of(counts: &mut Counts, file: &[u8], graph: &Graph) -> Facts {
+    let by_textbook = textbook_facts(graph);
+    if graph.states() > SMALL {
+        return by_textbook;
+    }
+    let facts = Facts::by_exhaustion(graph, FULL_CEILING);
+    if facts.round_lengths != rounds_by_formula(graph, &facts.candidates) {
         counts.difference("rounds: exhaustive search and formula", file);
     }
     let known = facts.roll.len().min(MOST_LISTS);
@@ -140,7 +176,7 @@ pub fn verdict_of(counts: &mut Counts, file: &[u8], written: Option<&Model>) -> 
     {
         counts.difference("exhaustive search and textbook", file);
     }
-    Ok((graph, facts))
+    facts
 }
 
 /// The facts of a graph by the textbook version.
@@ -193,66 +229,113 @@ fn check_ceilings(counts: &mut Counts, file: &[u8], graph: &Graph, facts: &Facts
     }
 }
 
-/// All comparisons on one file.
+/// All comparisons on one file. A file that is refused is tried by one of its mark tables, any other by both, and each by
+/// a number above 1.
 fn compare_file(lot: &mut Random, counts: &mut Counts, file: &[u8], written: Option<&Model>) {
-    let verdict = verdict_of(counts, file, written);
-    let (states, needed, roll, ceilings, distance_ceilings) = match &verdict {
-        Err(_) => (4, 3, Vec::new(), all_ceilings(0), all_ceilings(0)),
+    let verdict = &verdict_of(counts, file, written);
+    let case = |mark_table| Case {
+        file,
+        verdict,
+        mark_table,
+    };
+    match verdict {
+        Err(_) => {
+            let mark_table = lot.below(2) as u16;
+            compare_naming(lot, counts, case(mark_table));
+        }
+        Ok(tables) => {
+            for mark_table in [TABLE_0, TABLE_1] {
+                compare_naming(lot, counts, case(mark_table));
+                compare_sequence(lot, counts, case(mark_table));
+            }
+            let (graph, facts) = &tables[0];
+            let ceilings = all_ceilings(greatest(&facts.distances));
+            compare_all_distances(lot, counts, case(TABLE_0), &ceilings, graph.states());
+        }
+    }
+    let no_table = table_above_1(lot);
+    compare_no_table(lot, counts, case(no_table));
+}
+
+/// Steps, searches and nexts that name a mark table, 0 or 1; and distances on a file that is refused.
+fn compare_naming(lot: &mut Random, counts: &mut Counts, case: Case) {
+    let (states, needed, roll, ceilings) = match case.named() {
+        Err(_) => (4, 3, Vec::new(), all_ceilings(0)),
         Ok((graph, facts)) => (
             graph.states(),
             facts.length().map_or(1, |length| length + 1),
             facts.roll.clone(),
             all_ceilings(greatest(&facts.round_lengths)),
-            all_ceilings(greatest(&facts.distances)),
         ),
     };
-    for ceiling in ceilings {
-        compare_under(lot, counts, file, &verdict, ceiling, states, needed);
+    for &ceiling in &ceilings {
+        compare_under(lot, counts, case, ceiling, states, needed);
     }
-    compare_all_steps(lot, counts, file, &verdict, states, |lot| {
+    compare_all_steps(lot, counts, case, states, |lot| {
         ceiling_about(lot, needed - 1)
     });
-    compare_roll(lot, counts, file, &verdict, &roll, states);
+    compare_roll(lot, counts, case, &roll, states);
     for _ in 0..6 {
-        let earlier = match &verdict {
+        let earlier = match case.named() {
             Ok((graph, _)) if lot.once_in(3) => walk(lot, graph, needed),
             _ => wrong_list(lot, &roll, states, needed),
         };
         let (answer, work) = (answer_len(lot, needed), work_len(lot, states));
-        if may_ask(&verdict, &earlier) {
-            compare_next(lot, counts, file, &verdict, &earlier, answer, work);
+        if may_ask(case, &earlier) {
+            compare_next(lot, counts, case, &earlier, answer, work);
         }
     }
-    compare_sequence(lot, counts, file, &verdict);
-    compare_all_distances(lot, counts, file, &verdict, &distance_ceilings, states);
+    if case.verdict.is_err() {
+        compare_all_distances(lot, counts, case, &ceilings, states);
+    }
+}
+
+/// Steps, searches and nexts that name a number above 1, with any other arguments: lists of table 0 are among those lent.
+fn compare_no_table(lot: &mut Random, counts: &mut Counts, case: Case) {
+    let (states, needed, roll) = match oracle::named(case.verdict, TABLE_0) {
+        Err(_) => (4, 3, &[][..]),
+        Ok((graph, facts)) => (
+            graph.states(),
+            facts.length().map_or(1, |length| length + 1),
+            &facts.roll[..],
+        ),
+    };
+    let ceiling = ceiling_about(lot, needed - 1);
+    compare_under(lot, counts, case, ceiling, states, needed);
+    let lists = [
+        roll.first().cloned().unwrap_or_default(),
+        wrong_list(lot, roll, states, needed),
+    ];
+    for earlier in lists {
+        let (answer, work) = (answer_len(lot, needed), work_len(lot, states));
+        compare_next(lot, counts, case, &earlier, answer, work);
+    }
 }
 
 /// Steps and searches under one ceiling.
 fn compare_under(
     lot: &mut Random,
     counts: &mut Counts,
-    file: &[u8],
-    verdict: &Verdict,
+    case: Case,
     ceiling: u16,
     states: usize,
     needed: usize,
 ) {
     let mut rounds = 1;
-    if let Ok((graph, facts)) = verdict {
+    if let Ok((graph, facts)) = case.named() {
         rounds = facts.candidates.len();
-        check_ceilings(counts, file, graph, facts, ceiling);
+        check_ceilings(counts, case.file, graph, facts, ceiling);
     }
     for _ in 0..4 {
         let record = random_record(lot, rounds, needed, ceiling);
         let length = work_len(lot, states);
-        compare_step(lot, counts, file, verdict, ceiling, record, length);
+        compare_step(lot, counts, case, ceiling, record, length);
     }
-    compare_all_steps(lot, counts, file, verdict, states, |_| ceiling);
+    compare_all_steps(lot, counts, case, states, |_| ceiling);
     let up_to_enough = 0..=(rounds + 1) as u16;
     for allowance in up_to_enough.chain([65535, lot.word()]) {
         let (answer, work) = (answer_len(lot, needed), work_len(lot, states));
-        let ask = Ask { ceiling, allowance };
-        compare_search(lot, counts, file, verdict, ask, answer, work);
+        compare_search(lot, counts, case, ceiling, allowance, answer, work);
     }
 }
 
@@ -261,24 +344,23 @@ fn compare_under(
 fn compare_all_distances(
     lot: &mut Random,
     counts: &mut Counts,
-    file: &[u8],
-    verdict: &Verdict,
+    case: Case,
     ceilings: &[u16],
     states: usize,
 ) {
     for &ceiling in ceilings {
         for table in [states - 1, states, states + 3] {
             let work = 6 * states + lot.below(3);
-            compare_distances(lot, counts, file, verdict, ceiling, table, work);
+            compare_distances(lot, counts, case, ceiling, table, work);
         }
         let (table, work) = (answer_len(lot, states), work_len(lot, states));
-        compare_distances(lot, counts, file, verdict, ceiling, table, work);
+        compare_distances(lot, counts, case, ceiling, table, work);
     }
 }
 
 /// The oracle knows what follows the list.
-fn may_ask(verdict: &Verdict, earlier: &[u16]) -> bool {
-    match verdict {
+fn may_ask(case: Case, earlier: &[u16]) -> bool {
+    match case.named() {
         Ok((graph, facts)) if facts.cut_off => {
             !oracle::is_shortest(graph, facts, earlier)
                 || facts
@@ -294,8 +376,7 @@ fn may_ask(verdict: &Verdict, earlier: &[u16]) -> bool {
 fn compare_all_steps(
     lot: &mut Random,
     counts: &mut Counts,
-    file: &[u8],
-    verdict: &Verdict,
+    case: Case,
     states: usize,
     ceiling_of: impl Fn(&mut Random) -> u16,
 ) {
@@ -305,8 +386,8 @@ fn compare_all_steps(
     };
     loop {
         let ceiling = ceiling_of(lot);
-        compare_step(lot, counts, file, verdict, ceiling, record, 6 * states);
-        match oracle::step(verdict, ceiling, record, 6 * states) {
+        compare_step(lot, counts, case, ceiling, record, 6 * states);
+        match oracle::step(case.verdict, case.mark_table, ceiling, record, 6 * states) {
             StepAnswer::Advanced(after) => record = after,
             _ => return,
         }
@@ -317,18 +398,16 @@ fn compare_all_steps(
 pub fn compare_roll(
     lot: &mut Random,
     counts: &mut Counts,
-    file: &[u8],
-    verdict: &Verdict,
+    case: Case,
     roll: &[Vec<u16>],
     states: usize,
 ) {
     let needed = roll.first().map_or(1, Vec::len);
-    let ask = Ask::under(FULL_CEILING);
-    compare_search(lot, counts, file, verdict, ask, needed, 6 * states);
+    compare_search(lot, counts, case, FULL_CEILING, 65535, needed, 6 * states);
     for list in roll {
-        if may_ask(verdict, list) {
+        if may_ask(case, list) {
             let answer = answer_len(lot, needed);
-            compare_next(lot, counts, file, verdict, list, answer, 6 * states);
+            compare_next(lot, counts, case, list, answer, 6 * states);
         }
     }
 }

@@ -3,7 +3,7 @@
 use std::hint::black_box;
 use std::time::Duration;
 
-use crate::fahkelo::{DistancesAnswer, FULL_CEILING, NOT_REACHED};
+use crate::fahkelo::{DistancesAnswer, FULL_CEILING, NOT_REACHED, TABLE_0};
 use crate::families::{Family, FAMILIES};
 use crate::graph::Graph;
 use crate::measure::{least_times, ratio};
@@ -48,7 +48,7 @@ pub fn distances_once(
 fn agreed(family: &Family, file: &[u8]) -> (usize, usize, u16) {
     let model = read(file).expect("the families are valid files");
     let edges = model.edges();
-    let graph = Graph::of(model);
+    let graph = Graph::of(model, TABLE_0);
     let by_sweeps = distances_by_sweeps(&graph);
     let reached = by_sweeps.iter().flatten();
     let greatest = *reached.clone().max().expect("the start is reached");

@@ -1,9 +1,10 @@
 //! The examples of the contract through the wrapper, for `cargo test`; they show how the calls are used. Searches and
-//! steps have the full ceiling here; `ceiling_examples.rs` has others, and distances.
+//! steps have the full ceiling here, and all calls name mark table 0; `ceiling_examples.rs` has other ceilings, and
+//! distances, `table_examples.rs` files with two mark tables.
 
 use crate::fahkelo::{
     combine, combine_into, grade, grade_into, kind, next, search, step, Ask, CombineAnswer,
-    GradeAnswer, NextAnswer, Record, SearchAnswer, StepAnswer, Verdict, FULL_CEILING,
+    GradeAnswer, NextAnswer, Record, SearchAnswer, StepAnswer, Verdict, FULL_CEILING, TABLE_0,
 };
 use crate::model::Model;
 use crate::property::Property;
@@ -63,8 +64,8 @@ fn searched(file: &[u8], allowance: u16) -> (SearchAnswer, Vec<u16>) {
     let mut answer = [0; 4097];
     let mut work = vec![0; 6 * 4096];
     let ask = Ask {
-        ceiling: FULL_CEILING,
         allowance,
+        ..Ask::under(FULL_CEILING)
     };
     let result = search(file, ask, &mut answer, &mut work);
     match result {
@@ -85,7 +86,7 @@ pub fn found(length: u16, loop_start: u16, rounds: u16) -> SearchAnswer {
 fn next_in_d(earlier: &[u16]) -> (NextAnswer, [u16; 4]) {
     let mut answer = [9; 4];
     let mut work = [9; 30];
-    let result = next(&file_d(), earlier, &mut answer, &mut work);
+    let result = next(&file_d(), TABLE_0, earlier, &mut answer, &mut work);
     assert_eq!(work, [0; 30]);
     (result, answer)
 }
@@ -141,19 +142,19 @@ fn stopped_searches_and_steps() {
     assert_eq!(searched(&file_h(), 1).0, SearchAnswer::Stopped(after_one));
     let mut work = [0; 42];
     assert_eq!(
-        step(&file_h(), FULL_CEILING, NOTHING_DONE, &mut work),
+        step(&file_h(), TABLE_0, FULL_CEILING, NOTHING_DONE, &mut work),
         StepAnswer::Advanced(after_one)
     );
     assert_eq!(
-        step(&file_h(), FULL_CEILING, after_one, &mut work),
+        step(&file_h(), TABLE_0, FULL_CEILING, after_one, &mut work),
         StepAnswer::Advanced(after_two)
     );
     assert_eq!(
-        step(&file_h(), FULL_CEILING, after_two, &mut work),
+        step(&file_h(), TABLE_0, FULL_CEILING, after_two, &mut work),
         StepAnswer::Finished(after_two)
     );
     assert_eq!(
-        step(&file_h(), FULL_CEILING, after_two, &mut work[..41]),
+        step(&file_h(), TABLE_0, FULL_CEILING, after_two, &mut work[..41]),
         StepAnswer::Refused(12)
     );
 }
@@ -178,17 +179,17 @@ fn a_state_that_stays() {
     };
     let mut work = [9; 6];
     assert_eq!(
-        step(&file, FULL_CEILING, NOTHING_DONE, &mut work),
+        step(&file, TABLE_0, FULL_CEILING, NOTHING_DONE, &mut work),
         StepAnswer::Advanced(after_one)
     );
     assert_eq!(
-        step(&file, FULL_CEILING, after_one, &mut work),
+        step(&file, TABLE_0, FULL_CEILING, after_one, &mut work),
         StepAnswer::Finished(after_one)
     );
     assert_eq!(searched(&file, 65535), (found(1, 0, 1), vec![0, 0]));
     let mut answer = [9; 2];
     assert_eq!(
-        next(&file, &[0, 0], &mut answer, &mut work),
+        next(&file, TABLE_0, &[0, 0], &mut answer, &mut work),
         NextAnswer::NoMore
     );
     assert_eq!((answer, work), ([9; 2], [0; 6]));
@@ -216,8 +217,8 @@ fn a_flag_where_every_state_has_edges() {
         }
         let mut work = [0; 42];
         assert_eq!(
-            step(&staying, FULL_CEILING, NOTHING_DONE, &mut work),
-            step(&file, FULL_CEILING, NOTHING_DONE, &mut work)
+            step(&staying, TABLE_0, FULL_CEILING, NOTHING_DONE, &mut work),
+            step(&file, TABLE_0, FULL_CEILING, NOTHING_DONE, &mut work)
         );
     }
 }
@@ -229,11 +230,11 @@ fn flags_above_1() {
         assert_eq!(searched(&file, 65535).0, SearchAnswer::Refused(5));
         let mut work = [0; 6];
         assert_eq!(
-            step(&file, FULL_CEILING, NOTHING_DONE, &mut work),
+            step(&file, TABLE_0, FULL_CEILING, NOTHING_DONE, &mut work),
             StepAnswer::Refused(5)
         );
         assert_eq!(
-            next(&file, &[0, 0], &mut [0; 2], &mut work),
+            next(&file, TABLE_0, &[0, 0], &mut [0; 2], &mut work),
             NextAnswer::Refused(5)
         );
     }
@@ -427,7 +428,7 @@ type Grade = (Verdict, Option<usize>);
 fn graded(file: &[u8], list: &[u16], k: u16) -> Grade {
     let states = u16::from_le_bytes([file[0], file[1]]) as usize;
     let mut work = vec![9; 6 * states];
-    let answer = grade(file, list, k, &mut work);
+    let answer = grade(file, TABLE_0, list, k, &mut work);
     assert_eq!(work, vec![0; 6 * states]);
     match answer {
         GradeAnswer::Graded(verdict, place) => (verdict, place),
@@ -492,7 +493,7 @@ fn the_grade_of_a_list_received() {
     };
     let list = &answer[..=length as usize];
     assert_eq!(
-        grade(&file_h(), list, loop_start, &mut work),
+        grade(&file_h(), TABLE_0, list, loop_start, &mut work),
         GradeAnswer::Graded(Verdict::Shortest, None)
     );
 }
@@ -514,7 +515,15 @@ fn the_figure_and_the_place_of_a_grade() {
     let mut work = [9; 30];
     let (mut out, mut place) = ([7; 5], [usize::MAX; 2]);
     assert_eq!(
-        grade_into(&file, &[0, 1, 3, 1], 1, &mut place, &mut work, &mut out),
+        grade_into(
+            &file,
+            TABLE_0,
+            &[0, 1, 3, 1],
+            1,
+            &mut place,
+            &mut work,
+            &mut out
+        ),
         kind::SHORTEST
     );
     assert_eq!(
@@ -522,7 +531,7 @@ fn the_figure_and_the_place_of_a_grade() {
         ([0, 7, 7, 7, 7], [usize::MAX; 2], [0; 30])
     );
     assert_eq!(
-        grade_into(&file, &[0, 3], 0, &mut place, &mut work, &mut out),
+        grade_into(&file, TABLE_0, &[0, 3], 0, &mut place, &mut work, &mut out),
         kind::FALSE
     );
     assert_eq!((out, place), ([1, 7, 7, 7, 7], [1, usize::MAX]));
@@ -535,7 +544,15 @@ fn refused_grades() {
     let mut refused = |file: &[u8], work_len, place_len, out_len| {
         let (work_lent, place_lent) = (&mut work[..work_len], &mut place[..place_len]);
         let out_lent = &mut out[..out_len];
-        let number = grade_into(file, &[0, 1, 3, 1], 1, place_lent, work_lent, out_lent);
+        let number = grade_into(
+            file,
+            TABLE_0,
+            &[0, 1, 3, 1],
+            1,
+            place_lent,
+            work_lent,
+            out_lent,
+        );
         assert_eq!((work, out, place), ([9; 30], [7; 4], [usize::MAX]));
         number
     };

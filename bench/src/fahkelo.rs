@@ -10,6 +10,7 @@ mod c {
         pub fn fahkelo_step(
             file: *const u8,
             file_len: usize,
+            mark_table: u16,
             ceiling: u16,
             done: u16,
             has_best: u8,
@@ -22,6 +23,7 @@ mod c {
         pub fn fahkelo_search(
             file: *const u8,
             file_len: usize,
+            mark_table: u16,
             ceiling: u16,
             allowance: u16,
             answer: *mut u16,
@@ -34,6 +36,7 @@ mod c {
         pub fn fahkelo_next(
             file: *const u8,
             file_len: usize,
+            mark_table: u16,
             earlier: *const u16,
             earlier_len: usize,
             answer: *mut u16,
@@ -58,6 +61,7 @@ mod c {
         pub fn fahkelo_grade(
             file: *const u8,
             file_len: usize,
+            mark_table: u16,
             list: *const u16,
             list_len: usize,
             k: u16,
@@ -85,18 +89,24 @@ mod c {
 /// The greatest ceiling: no shortest accepting path is above it, so that the answers are those of the whole model.
 pub const FULL_CEILING: u16 = 4096;
 
-/// What a search names beside the file and the tables: the length that no path may exceed, at most `FULL_CEILING`, and
-/// the rounds that it is allowed.
+/// The mark tables that a call may name. Table 1 of a file with one mark table holds no marks.
+pub const TABLE_0: u16 = 0;
+pub const TABLE_1: u16 = 1;
+
+/// What a search names beside the file and the tables: the mark table, the length that no path may exceed, at most
+/// `FULL_CEILING`, and the rounds that it is allowed.
 #[derive(Clone, Copy, Debug, PartialEq, Eq)]
 pub struct Ask {
+    pub mark_table: u16,
     pub ceiling: u16,
     pub allowance: u16,
 }
 
 impl Ask {
-    /// All rounds, whatever the model, under a ceiling.
+    /// All rounds, whatever the model, for the marks of table 0 and under a ceiling.
     pub fn under(ceiling: u16) -> Ask {
         Ask {
+            mark_table: TABLE_0,
             ceiling,
             allowance: u16::MAX,
         }
@@ -194,6 +204,7 @@ pub mod kind {
 /// `fahkelo_step` over slices: the kind, with its figures in `out`, or the number of the refusal.
 pub fn step_into(
     file: &[u8],
+    mark_table: u16,
     ceiling: u16,
     so_far: Record,
     work: &mut [u16],
@@ -208,6 +219,7 @@ pub fn step_into(
         c::fahkelo_step(
             file.as_ptr(),
             file.len(),
+            mark_table,
             ceiling,
             so_far.done,
             has_best,
@@ -233,6 +245,7 @@ pub fn search_into(
         c::fahkelo_search(
             file.as_ptr(),
             file.len(),
+            ask.mark_table,
             ask.ceiling,
             ask.allowance,
             answer.as_mut_ptr(),
@@ -248,6 +261,7 @@ pub fn search_into(
 /// `fahkelo_next` over slices: the kind, with its figures in `out`, or the number of the refusal.
 pub fn next_into(
     file: &[u8],
+    mark_table: u16,
     earlier: &[u16],
     answer: &mut [u16],
     work: &mut [u16],
@@ -258,6 +272,7 @@ pub fn next_into(
         c::fahkelo_next(
             file.as_ptr(),
             file.len(),
+            mark_table,
             earlier.as_ptr(),
             earlier.len(),
             answer.as_mut_ptr(),
@@ -299,6 +314,7 @@ pub fn combine_into(
 /// number of the refusal.
 pub fn grade_into(
     file: &[u8],
+    mark_table: u16,
     list: &[u16],
     k: u16,
     place: &mut [usize],
@@ -310,6 +326,7 @@ pub fn grade_into(
         c::fahkelo_grade(
             file.as_ptr(),
             file.len(),
+            mark_table,
             list.as_ptr(),
             list.len(),
             k,
@@ -355,11 +372,17 @@ fn record_of(figures: &[u16; 4]) -> Record {
     }
 }
 
-/// The record after one more round under a ceiling; any record may be given, and its best is kept unless the round finds
-/// a lesser length.
-pub fn step(file: &[u8], ceiling: u16, so_far: Record, work: &mut [u16]) -> StepAnswer {
+/// The record after one more round under a ceiling, for the marks of a table; any record may be given, and its best is
+/// kept unless the round finds a lesser length.
+pub fn step(
+    file: &[u8],
+    mark_table: u16,
+    ceiling: u16,
+    so_far: Record,
+    work: &mut [u16],
+) -> StepAnswer {
     let mut out = [0; 4];
-    match step_into(file, ceiling, so_far, work, &mut out) {
+    match step_into(file, mark_table, ceiling, so_far, work, &mut out) {
         number if number < kind::FROM => StepAnswer::Refused(number),
         kind::FINISHED => StepAnswer::Finished(record_of(&out)),
         kind::ADVANCED => StepAnswer::Advanced(record_of(&out)),
@@ -384,10 +407,16 @@ pub fn search(file: &[u8], ask: Ask, answer: &mut [u16], work: &mut [u16]) -> Se
     }
 }
 
-/// The shortest accepting path that follows an earlier one, in dictionary order.
-pub fn next(file: &[u8], earlier: &[u16], answer: &mut [u16], work: &mut [u16]) -> NextAnswer {
+/// The shortest accepting path that follows an earlier one, in dictionary order, for the marks of a table.
+pub fn next(
+    file: &[u8],
+    mark_table: u16,
+    earlier: &[u16],
+    answer: &mut [u16],
+    work: &mut [u16],
+) -> NextAnswer {
     let mut out = [0; 4];
-    match next_into(file, earlier, answer, work, &mut out) {
+    match next_into(file, mark_table, earlier, answer, work, &mut out) {
         number if number < kind::FROM => NextAnswer::Refused(number),
         kind::FOUND => NextAnswer::Found {
             length: out[0],
@@ -408,11 +437,11 @@ pub fn combine(rule: &[u8], letters: &[u8], property: &[u8], output: &mut [u8]) 
     }
 }
 
-/// The grade of a list, of any length, with a claimed k.
-pub fn grade(file: &[u8], list: &[u16], k: u16, work: &mut [u16]) -> GradeAnswer {
+/// The grade of a list, of any length, with a claimed k, for the marks of a table.
+pub fn grade(file: &[u8], mark_table: u16, list: &[u16], k: u16, work: &mut [u16]) -> GradeAnswer {
     let mut out = [0; 4];
     let mut place = [0];
-    let verdict = match grade_into(file, list, k, &mut place, work, &mut out) {
+    let verdict = match grade_into(file, mark_table, list, k, &mut place, work, &mut out) {
         number if number < kind::FROM => return GradeAnswer::Refused(number),
         kind::FALSE => Verdict::False,
         kind::ACCEPTING => Verdict::Accepting,

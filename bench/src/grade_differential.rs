@@ -7,7 +7,8 @@ use std::collections::BTreeMap;
 use crate::counts;
 use crate::differential::verdict_of;
 use crate::fahkelo::{
-    grade_into, kind, Ask, GradeAnswer, NextAnswer, SearchAnswer, Verdict, FULL_CEILING,
+    grade_into, kind, Ask, GradeAnswer, NextAnswer, SearchAnswer, Verdict, FULL_CEILING, TABLE_0,
+    TABLE_1,
 };
 use crate::families::FAMILIES;
 use crate::grade_oracle::{self, is_accepting};
@@ -17,7 +18,10 @@ use crate::model::Model;
 use crate::oracle;
 use crate::random::Random;
 use crate::reference::{accepting, SMALL};
-use crate::samples::{damage, dirty, dirty_places, random_model, work_len};
+use crate::samples::{
+    add_table, damage, dirty, dirty_places, random_model, table_above_1, work_len,
+};
+use crate::trials::Case;
 use crate::versions::{Finder, Grader, Proved, PAIRED, SAFE, UNCHECKED};
 
 /// Lists of each kind that are drawn for a file, and for a file of a family.
@@ -44,12 +48,13 @@ struct Counts {
 }
 
 impl Counts {
-    fn difference(&mut self, what: &str, file: &[u8], call: &Call) {
-        self.files.difference(what, file);
+    fn difference(&mut self, what: &str, case: Case, call: &Call) {
+        self.files.difference(what, case.file);
         if self.files.differences <= 10 {
             let shown = &call.list[..call.list.len().min(40)];
             println!(
-                "  list of {} entries {shown:?}, k {}, working table of {}",
+                "  mark table {}, list of {} entries {shown:?}, k {}, working table of {}",
+                case.mark_table,
                 call.list.len(),
                 call.k,
                 call.work_len
@@ -58,7 +63,7 @@ impl Counts {
     }
 }
 
-/// The arguments of a call beside the file.
+/// The arguments of a call beside the file and the mark table.
 struct Call<'a> {
     kind: Kind,
     list: &'a [u16],
@@ -66,7 +71,8 @@ struct Call<'a> {
     work_len: usize,
 }
 
-/// Runs the comparison on so many files, two of each model: bytes 6–7 are 0 and 1. The number of differences.
+/// Runs the comparison on so many files, two of each model: bytes 6–7 are 0 and 1. Half of the models have two mark tables,
+/// and so have the families. The number of differences.
 pub fn run(count: u64, seed: u64) -> u64 {
     let mut lot = Random::new(seed);
     let mut counts = Counts::default();
@@ -77,13 +83,17 @@ pub fn run(count: u64, seed: u64) -> u64 {
         } else {
             (1, SMALL)
         };
-        let model = random_model(&mut lot, least, most);
+        let mut model = random_model(&mut lot, least, most);
+        if lot.once_in(2) {
+            add_table(&mut lot, &mut model);
+        }
         for stays in [false, true] {
             compare_model(&mut lot, &mut counts, &model.staying(stays), damaged);
         }
     }
     for family in FAMILIES {
-        let model = (family.make)(256);
+        let mut model = (family.make)(256);
+        add_table(&mut lot, &mut model);
         for stays in [false, true] {
             let model = model.staying(stays);
             let file = model.to_bytes();
@@ -132,7 +142,7 @@ fn compare_model(lot: &mut Random, counts: &mut Counts, model: &Model, damaged: 
     compare_file(lot, counts, &file, (!damaged).then_some(model), LISTS);
 }
 
-/// All comparisons on one file, with so many lists of each kind.
+/// All comparisons on one file, with so many lists of each kind: by both mark tables, and by a number above 1.
 fn compare_file(
     lot: &mut Random,
     counts: &mut Counts,
@@ -140,10 +150,34 @@ fn compare_file(
     written: Option<&Model>,
     lists: usize,
 ) {
-    let verdict = verdict_of(&mut counts.files, file, written);
+    let verdict = &verdict_of(&mut counts.files, file, written);
+    for mark_table in [TABLE_0, TABLE_1, table_above_1(lot)] {
+        let case = Case {
+            file,
+            verdict,
+            mark_table,
+        };
+        compare_lists(lot, counts, case, lists);
+        if let Ok((graph, facts)) = case.named() {
+            let expected = facts.roll.len().min(MOST_RECEIVED);
+            if compare_received(lot, counts, case, graph.states()) != expected {
+                counts
+                    .files
+                    .difference("the number of lists received", file);
+            }
+        }
+    }
+}
+
+/// So many lists of each kind. Where there is no such mark table, they are drawn for table 0.
+fn compare_lists(lot: &mut Random, counts: &mut Counts, case: Case, lists: usize) {
+    let drawn_for = match case.named() {
+        Err(22) => oracle::named(case.verdict, TABLE_0),
+        named => named,
+    };
     for kind in KINDS {
         for _ in 0..lists {
-            let (list, states) = match &verdict {
+            let (list, states) = match drawn_for {
                 Ok((graph, facts)) => (draw(lot, kind, graph, facts), graph.states()),
                 Err(_) => (any_list(lot, 4), 4),
             };
@@ -153,15 +187,7 @@ fn compare_file(
                 list: &list,
                 work_len: work_len(lot, states),
             };
-            compare(lot, counts, file, &verdict, &call);
-        }
-    }
-    if let Ok((graph, facts)) = &verdict {
-        let expected = facts.roll.len().min(MOST_RECEIVED);
-        if compare_received(lot, counts, file, &verdict, graph.states()) != expected {
-            counts
-                .files
-                .difference("the number of lists received", file);
+            compare(lot, counts, case, &call);
         }
     }
 }
@@ -179,6 +205,11 @@ fn compare_long(lot: &mut Random, counts: &mut Counts, name: &str) {
         let mut file = input.file.clone();
         file[6] = stays;
         let verdict = verdict_of(&mut counts.files, &file, None);
+        let case = Case {
+            file: &file,
+            verdict: &verdict,
+            mark_table: TABLE_0,
+        };
         for (kind, list) in [(kind, &input.list), (Kind::LongBroken, &broken)] {
             let call = Call {
                 kind,
@@ -186,22 +217,22 @@ fn compare_long(lot: &mut Random, counts: &mut Counts, name: &str) {
                 k: claim(lot, list),
                 work_len: 6 * 4096,
             };
-            compare(lot, counts, &file, &verdict, &call);
+            compare(lot, counts, case, &call);
         }
     }
 }
 
 /// The lists that a search and next bring, each with its k; how many they are, as far as they are asked for.
-fn compare_received(
-    lot: &mut Random,
-    counts: &mut Counts,
-    file: &[u8],
-    verdict: &oracle::Verdict,
-    states: usize,
-) -> usize {
+fn compare_received(lot: &mut Random, counts: &mut Counts, case: Case, states: usize) -> usize {
+    let Case {
+        file, mark_table, ..
+    } = case;
     let mut answer = vec![0; states + 1];
     let mut work = vec![0; 6 * states];
-    let ask = Ask::under(FULL_CEILING);
+    let ask = Ask {
+        mark_table,
+        ..Ask::under(FULL_CEILING)
+    };
     let found = Proved.search(file, ask, &mut answer, &mut work);
     let SearchAnswer::Found {
         length, loop_start, ..
@@ -219,11 +250,11 @@ fn compare_received(
             k,
             work_len: 6 * states,
         };
-        let expected = compare(lot, counts, file, verdict, &call);
+        let expected = compare(lot, counts, case, &call);
         if expected != GradeAnswer::Graded(Verdict::Shortest, None) {
-            counts.difference("a list received is not graded shortest", file, &call);
+            counts.difference("a list received is not graded shortest", case, &call);
         }
-        match Proved.next(file, &list, &mut answer, &mut work) {
+        match Proved.next(file, mark_table, &list, &mut answer, &mut work) {
             NextAnswer::Found { loop_start, .. } => k = loop_start,
             _ => return received,
         }
@@ -259,31 +290,30 @@ fn count(counts: &mut Counts, call: &Call, answer: GradeAnswer) {
 }
 
 /// One call of the C function and of each version, with copies of the tables; the answer that is expected.
-fn compare(
-    lot: &mut Random,
-    counts: &mut Counts,
-    file: &[u8],
-    verdict: &oracle::Verdict,
-    call: &Call,
-) -> GradeAnswer {
-    let expected = grade_oracle::grade(verdict, call.list, call.k, call.work_len);
+fn compare(lot: &mut Random, counts: &mut Counts, case: Case, call: &Call) -> GradeAnswer {
+    let Case {
+        file,
+        verdict,
+        mark_table,
+    } = case;
+    let expected = grade_oracle::grade(verdict, mark_table, call.list, call.k, call.work_len);
     count(counts, call, expected);
-    if let Ok((graph, _)) = verdict {
+    if let Ok((graph, _)) = case.named() {
         let k = call.k as usize;
         if is_accepting(graph, call.list, k) != (accepting(graph, call.list) == Some(k)) {
-            counts.difference("accepting: the oracle and the reference", file, call);
+            counts.difference("accepting: the oracle and the reference", case, call);
         }
     }
     let work = dirty(lot, call.work_len);
-    let work_after = oracle::work_after(verdict, &work);
-    if !agrees_in_c(lot, counts, file, call, expected, &work, &work_after) {
-        counts.difference("grade: in C", file, call);
+    let work_after = oracle::work_after(verdict, mark_table, &work);
+    if !agrees_in_c(lot, counts, case, call, expected, &work, &work_after) {
+        counts.difference("grade: in C", case, call);
     }
     for version in [&Proved as &dyn Grader, &SAFE, &PAIRED, &UNCHECKED] {
         let mut used = work.clone();
-        let got = version.grade(file, call.list, call.k, &mut used);
+        let got = version.grade(file, mark_table, call.list, call.k, &mut used);
         if got != expected || used != work_after {
-            counts.difference(&format!("grade: {}", version.name()), file, call);
+            counts.difference(&format!("grade: {}", version.name()), case, call);
         }
     }
     expected
@@ -293,7 +323,7 @@ fn compare(
 fn agrees_in_c(
     lot: &mut Random,
     counts: &mut Counts,
-    file: &[u8],
+    case: Case,
     call: &Call,
     expected: GradeAnswer,
     work: &[u16],
@@ -311,7 +341,15 @@ fn agrees_in_c(
     let mut place = dirty_places(lot, place_len);
     let mut used = work.to_vec();
     let (mut out_after, mut place_after) = (out.clone(), place.clone());
-    let got = grade_into(file, call.list, call.k, &mut place, &mut used, &mut out);
+    let got = grade_into(
+        case.file,
+        case.mark_table,
+        call.list,
+        call.k,
+        &mut place,
+        &mut used,
+        &mut out,
+    );
     if out_len < 4 || place_len < 1 {
         counts.out_too_short += u64::from(out_len < 4);
         counts.place_too_short += u64::from(place_len < 1);

@@ -3,7 +3,7 @@
 use std::hint::black_box;
 use std::time::Duration;
 
-use crate::fahkelo::GradeAnswer;
+use crate::fahkelo::{GradeAnswer, TABLE_0};
 use crate::grades::{self, Graded, Input, LONG};
 use crate::measure::{least_times, ratio};
 use crate::ported::access::{Counting, Work};
@@ -16,7 +16,7 @@ pub const WORK_ENTRIES: usize = 6 * 4096;
 /// One grade by one version.
 #[inline(never)]
 pub fn grade_once(version: &dyn Grader, input: &Input, work: &mut [u16]) -> GradeAnswer {
-    version.grade(&input.file, &input.list, input.k, work)
+    version.grade(&input.file, TABLE_0, &input.list, input.k, work)
 }
 
 /// All versions must give the verdict and the place of the family.
@@ -76,7 +76,7 @@ pub fn run(word: &str) {
 fn count_work(input: &Input) -> Work {
     let mut work = [0; WORK_ENTRIES];
     Counting::take();
-    grade::grade::<Counting>(&input.file, &input.list, input.k, &mut work);
+    grade::grade::<Counting>(&input.file, TABLE_0, &input.list, input.k, &mut work);
     Counting::take()
 }
 

@@ -53,9 +53,15 @@ pub fn is_accepting(graph: &Graph, list: &[u16], k: usize) -> bool {
     list[k..last].iter().any(|&s| graph.marks[s as usize])
 }
 
-/// The answer for a file's verdict, a list with a claimed k, and a working table of a length.
-pub fn grade(file: &oracle::Verdict, list: &[u16], k: u16, work_len: usize) -> GradeAnswer {
-    let (graph, facts) = match admitted(file, work_len) {
+/// The answer for a file's verdict, the mark table named, a list with a claimed k, and a working table of a length.
+pub fn grade(
+    file: &oracle::Verdict,
+    mark_table: u16,
+    list: &[u16],
+    k: u16,
+    work_len: usize,
+) -> GradeAnswer {
+    let (graph, facts) = match admitted(file, mark_table, work_len) {
         Err(number) => return GradeAnswer::Refused(number),
         Ok(admitted) => admitted,
     };

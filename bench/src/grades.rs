@@ -1,7 +1,7 @@
 //! The families of lists that are graded and measured, on models of 4,096 states: long lists, whose steps are most of the
 //! work; the first shortest list of each family of models, whose rounds are; and a list that breaks at once.
 
-use crate::fahkelo::{Verdict, FULL_CEILING};
+use crate::fahkelo::{Verdict, FULL_CEILING, TABLE_0};
 use crate::families::{self, Family, FAMILIES};
 use crate::graph::Graph;
 use crate::measure::textbook_once;
@@ -121,7 +121,8 @@ fn broken_at_0() -> Input {
 fn shortest_of(family: &Family) -> Input {
     let file = (family.make)(STATES).to_bytes();
     let list = textbook_once(&file, FULL_CEILING).expect("the family has an accepting path");
-    let graph = Graph::of(read(&file).expect("the families are valid files"));
+    let model = read(&file).expect("the families are valid files");
+    let graph = Graph::of(model, TABLE_0);
     let k = accepting(&graph, &list).expect("the list is accepting") as u16;
     Input { file, list, k }
 }

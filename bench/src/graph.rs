@@ -1,5 +1,7 @@
-//! The graph that a model stands for, of which the definitions speak: the edges of the file, and the implied steps.
+//! The graph that a model stands for, of which the definitions speak: the edges of the file and the implied steps, with
+//! the marks of the table that is named.
 
+use crate::fahkelo::TABLE_0;
 use crate::model::Model;
 
 /// The initial state, the successors of each state, the marks.
@@ -10,8 +12,14 @@ pub struct Graph {
 }
 
 impl Graph {
-    /// The graph of a model. Where bytes 6–7 are 1, a state without edges has a step to itself.
-    pub fn of(model: Model) -> Graph {
+    /// The graph of a model with the marks of a table, 0 or 1. Where bytes 6–7 are 1, a state without edges has a step to
+    /// itself; table 1 of a file with one mark table holds no marks.
+    pub fn of(model: Model, mark_table: u16) -> Graph {
+        let states = model.states();
+        let marks = match mark_table {
+            TABLE_0 => model.marks,
+            _ => model.second.unwrap_or_else(|| vec![false; states]),
+        };
         let mut succs = model.succs;
         if model.stays {
             for (s, row) in succs.iter_mut().enumerate() {
@@ -23,7 +31,7 @@ impl Graph {
         Graph {
             start: model.start,
             succs,
-            marks: model.marks,
+            marks,
         }
     }
 

@@ -21,6 +21,8 @@ mod grade_oracle;
 mod grade_samples;
 mod grades;
 mod graph;
+#[cfg(test)]
+mod isolation;
 mod measure;
 mod model;
 mod oracle;
@@ -31,6 +33,8 @@ mod random;
 mod reference;
 mod samples;
 mod sequences;
+#[cfg(test)]
+mod table_examples;
 mod textbook;
 mod trials;
 mod versions;

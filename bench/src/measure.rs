@@ -6,7 +6,7 @@ use std::process::Command;
 use std::time::{Duration, Instant};
 
 use crate::clock::{children_time, process_time};
-use crate::fahkelo::{Ask, SearchAnswer, FULL_CEILING};
+use crate::fahkelo::{Ask, SearchAnswer, FULL_CEILING, TABLE_0};
 use crate::families::{Family, FAMILIES};
 use crate::graph::Graph;
 use crate::model::Model;
@@ -47,7 +47,7 @@ pub fn search_once(
 #[inline(never)]
 pub fn textbook_once(file: &[u8], ceiling: u16) -> Option<Vec<u16>> {
     let model = read(file).expect("the families are valid files");
-    let textbook = Textbook::new(&Graph::of(model));
+    let textbook = Textbook::new(&Graph::of(model, TABLE_0));
     textbook.solve(ceiling).map(|lister| lister.list().to_vec())
 }
 
@@ -142,7 +142,7 @@ pub fn agreed_answer(file: &[u8], states: usize, ceiling: u16) -> SearchAnswer {
 fn sheet_text(file: &[u8]) -> String {
     let model = read(file).expect("the families are valid files");
     let (states, edges) = (model.states(), model.edges());
-    let graph = Graph::of(model);
+    let graph = Graph::of(model, TABLE_0);
     let textbook = Textbook::new(&graph);
     let rounds = textbook.candidates().len();
     let head = format!("model {states} {edges}\nrounds {rounds}\n");

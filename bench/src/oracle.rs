@@ -1,13 +1,23 @@
 //! What each call must answer and leave in its tables, from the facts of a file: the reasons to refuse in order, the
-//! round record, the roll, the distances. The facts are those of the whole model; what a ceiling does to them is said
-//! here.
+//! round record, the roll, the distances. The facts are those of the whole model, with the marks of each table; what a
+//! ceiling does to them is said here.
 
-use crate::fahkelo::{Ask, DistancesAnswer, NextAnswer, Record, SearchAnswer, StepAnswer};
+use crate::fahkelo::{Ask, DistancesAnswer, NextAnswer, Record, SearchAnswer, StepAnswer, TABLE_0};
 use crate::graph::Graph;
 use crate::reference::{accepting, Facts};
 
-/// A file's verdict: the number of the rule it breaks, or its graph and facts.
-pub type Verdict = Result<(Graph, Facts), u16>;
+/// A file's verdict: the number of the rule it breaks, or for each mark table its graph and facts.
+pub type Verdict = Result<[(Graph, Facts); 2], u16>;
+
+/// The graph and the facts for the mark table named; else 22, which comes first, or the number of the rule that the file
+/// breaks.
+pub fn named(verdict: &Verdict, mark_table: u16) -> Result<&(Graph, Facts), u16> {
+    if mark_table > 1 {
+        return Err(22);
+    }
+    let tables = verdict.as_ref().map_err(|&number| number)?;
+    Ok(&tables[mark_table as usize])
+}
 
 /// The lesser of two lengths, none counting as more than every length.
 fn lesser(a: Option<u16>, b: Option<u16>) -> Option<u16> {
@@ -36,30 +46,41 @@ fn after_round(facts: &Facts, ceiling: u16, so_far: Record) -> Option<Record> {
     })
 }
 
-/// The reasons 1 to 11 of the file, then 12.
-pub fn admitted(verdict: &Verdict, work_len: usize) -> Result<&(Graph, Facts), u16> {
-    let admitted = verdict.as_ref().map_err(|&number| number)?;
+/// The reason 22, the reasons 1 to 11 of the file, then 12.
+pub fn admitted(
+    verdict: &Verdict,
+    mark_table: u16,
+    work_len: usize,
+) -> Result<&(Graph, Facts), u16> {
+    let admitted = named(verdict, mark_table)?;
     if work_len < 6 * admitted.0.states() {
         return Err(12);
     }
     Ok(admitted)
 }
 
-/// The reasons 1 to 12, and behind them 21: the ceiling is above 4,096.
+/// The reasons 22 and 1 to 12, and behind them 21: the ceiling is above 4,096.
 fn admitted_under(
     verdict: &Verdict,
+    mark_table: u16,
     ceiling: u16,
     work_len: usize,
 ) -> Result<&(Graph, Facts), u16> {
-    let admitted = admitted(verdict, work_len)?;
+    let admitted = admitted(verdict, mark_table, work_len)?;
     if ceiling > 4096 {
         return Err(21);
     }
     Ok(admitted)
 }
 
-pub fn step(verdict: &Verdict, ceiling: u16, so_far: Record, work_len: usize) -> StepAnswer {
-    match admitted_under(verdict, ceiling, work_len) {
+pub fn step(
+    verdict: &Verdict,
+    mark_table: u16,
+    ceiling: u16,
+    so_far: Record,
+    work_len: usize,
+) -> StepAnswer {
+    match admitted_under(verdict, mark_table, ceiling, work_len) {
         Err(number) => StepAnswer::Refused(number),
         Ok((_, facts)) => match after_round(facts, ceiling, so_far) {
             None => StepAnswer::Finished(so_far),
@@ -90,8 +111,12 @@ pub fn search(
     answer_len: usize,
     work_len: usize,
 ) -> (SearchAnswer, &[u16]) {
-    let Ask { ceiling, allowance } = ask;
-    let (graph, facts) = match admitted_under(verdict, ceiling, work_len) {
+    let Ask {
+        mark_table,
+        ceiling,
+        allowance,
+    } = ask;
+    let (graph, facts) = match admitted_under(verdict, mark_table, ceiling, work_len) {
         Err(number) => return (SearchAnswer::Refused(number), &[]),
         Ok(admitted) => admitted,
     };
@@ -127,11 +152,12 @@ pub fn search(
 /// The answer of next, and the list that it writes. An earlier list of a roll that is cut off must not be its last.
 pub fn next<'a>(
     verdict: &'a Verdict,
+    mark_table: u16,
     earlier: &[u16],
     answer_len: usize,
     work_len: usize,
 ) -> (NextAnswer, &'a [u16]) {
-    let (graph, facts) = match admitted(verdict, work_len) {
+    let (graph, facts) = match admitted(verdict, mark_table, work_len) {
         Err(number) => return (NextAnswer::Refused(number), &[]),
         Ok(admitted) => admitted,
     };
@@ -158,14 +184,14 @@ pub fn next<'a>(
 }
 
 /// The answer of a distance call, and the entries that it writes: the distance of each state if it is not above the
-/// ceiling, else 65,535.
+/// ceiling, else 65,535. It names no mark table, and depends on none.
 pub fn distances(
     verdict: &Verdict,
     ceiling: u16,
     table_len: usize,
     work_len: usize,
 ) -> (DistancesAnswer, Vec<u16>) {
-    let (graph, facts) = match admitted_under(verdict, ceiling, work_len) {
+    let (graph, facts) = match admitted_under(verdict, TABLE_0, ceiling, work_len) {
         Err(number) => return (DistancesAnswer::Refused(number), vec![]),
         Ok(admitted) => admitted,
     };
@@ -185,11 +211,11 @@ pub fn is_shortest(graph: &Graph, facts: &Facts, list: &[u16]) -> bool {
     accepting(graph, list).is_some() && Some(list.len() - 1) == facts.length()
 }
 
-/// The working table afterwards: untouched after the refusals 1 to 12, otherwise all zero.
-pub fn work_after(verdict: &Verdict, before: &[u16]) -> Vec<u16> {
-    match admitted(verdict, before.len()) {
-        Err(_) => before.to_vec(),
-        Ok(_) => vec![0; before.len()],
+/// The working table afterwards: untouched after the refusals 1 to 12, otherwise all zero, after 22 too.
+pub fn work_after(verdict: &Verdict, mark_table: u16, before: &[u16]) -> Vec<u16> {
+    match admitted(verdict, mark_table, before.len()) {
+        Err(1..=12) => before.to_vec(),
+        _ => vec![0; before.len()],
     }
 }
 

@@ -3,6 +3,7 @@
 
 use std::collections::BTreeSet;
 
+use crate::fahkelo::TABLE_0;
 use crate::graph::Graph;
 use crate::model::Model;
 use crate::reference::{read, read_property};
@@ -15,7 +16,7 @@ type Pair = (u16, u16);
 
 /// The combined model, or the number of the first reason of 1 to 11 and 16 to 18 that holds.
 pub fn product(rule: &[u8], letters: &[u8], property: &[u8]) -> Result<Model, u16> {
-    let rule = Graph::of(read(rule)?);
+    let rule = Graph::of(read(rule)?, TABLE_0);
     if letters.len() != rule.states() || letters.iter().any(|&letter| letter > 15) {
         return Err(16);
     }
@@ -84,7 +85,7 @@ pub fn is_pair_of_paths(rule: &[u8], letters: &[u8], property: &[u8], list: &[u1
     let (Ok(rule), Ok((property, masks))) = (read(rule), read_property(property)) else {
         return false;
     };
-    let rule = Graph::of(rule);
+    let rule = Graph::of(rule, TABLE_0);
     let size = property.states() as u16;
     let steps: BTreeSet<(Pair, u16)> = pairs_of(&property.succs).zip(masks).collect();
     list.windows(2).all(|two| {

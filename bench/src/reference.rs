@@ -15,21 +15,38 @@ fn long(file: &[u8], at: usize) -> u64 {
     u64::from(word(file, at)) + (u64::from(word(file, at + 2)) << 16)
 }
 
+/// The kinds of file: a model has one mark table or two, a property one, and behind it two bytes for each edge.
+#[derive(Clone, Copy, PartialEq, Eq)]
+enum Kind {
+    Model,
+    Property,
+}
+
 /// The model that a file holds, or the number of the first rule from 1 to 11 that it breaks.
 pub fn read(file: &[u8]) -> Result<Model, u16> {
-    read_kind(file, 0)
+    read_kind(file, Kind::Model)
 }
 
 /// The model and the masks that a property file holds, the masks in the order of the edges, or the number of the first
-/// rule from 1 to 11 that it breaks. Its total length counts two bytes more for each edge.
+/// rule from 1 to 11 that it breaks.
 pub fn read_property(file: &[u8]) -> Result<(Model, Vec<u16>), u16> {
-    let model = read_kind(file, 2)?;
+    let model = read_kind(file, Kind::Property)?;
     let masks = file[file.len() - 2 * model.edges()..].chunks_exact(2);
     Ok((model, masks.map(|two| word(two, 0)).collect()))
 }
 
-/// The model of a file that has so many bytes for each edge behind the marks.
-fn read_kind(file: &[u8], bytes_an_edge: usize) -> Result<Model, u16> {
+/// The states below n that are marked in a table of bytes, and whether a bit behind them is set.
+fn read_marks(table: &[u8], n: usize) -> (Vec<bool>, bool) {
+    let bits = table
+        .iter()
+        .flat_map(|&byte| (0..8).map(move |bit| byte & (1 << bit) != 0));
+    let mut marks: Vec<bool> = bits.collect();
+    let spare = marks.split_off(n);
+    (marks, spare.contains(&true))
+}
+
+/// The model of a file of a kind.
+fn read_kind(file: &[u8], kind: Kind) -> Result<Model, u16> {
     if file.len() < 24 {
         return Err(1);
     }
@@ -53,13 +70,19 @@ fn read_kind(file: &[u8], bytes_an_edge: usize) -> Result<Model, u16> {
     let rows_at = 24;
     let edges_at = rows_at + 2 * (n + 1);
     let marks_at = edges_at + 2 * m;
-    let marks_end = marks_at + n / 8 + usize::from(n % 8 != 0);
-    let total = marks_end + bytes_an_edge * m;
-    let given = [8, 12, 16, 20].map(|at| long(file, at));
-    if given != [rows_at, edges_at, marks_at, total].map(|number| number as u64) {
+    let mark_bytes = n / 8 + usize::from(n % 8 != 0);
+    let totals = match kind {
+        Kind::Model => vec![marks_at + mark_bytes, marks_at + 2 * mark_bytes],
+        Kind::Property => vec![marks_at + mark_bytes + 2 * m],
+    };
+    let given = [8, 12, 16].map(|at| long(file, at));
+    let total = long(file, 20);
+    if given != [rows_at, edges_at, marks_at].map(|number| number as u64)
+        || !totals.iter().any(|&allowed| allowed as u64 == total)
+    {
         return Err(6);
     }
-    if file.len() != total {
+    if file.len() as u64 != total {
         return Err(7);
     }
     let table = |from: usize, to: usize| -> Vec<u16> {
@@ -83,16 +106,23 @@ fn read_kind(file: &[u8], bytes_an_edge: usize) -> Result<Model, u16> {
     {
         return Err(10);
     }
-    let bit = |s: usize| file[marks_at + s / 8] & (1 << (s % 8)) != 0;
-    if (n..8 * (marks_end - marks_at)).any(bit) {
+    let (first, behind) = file[marks_at..].split_at(mark_bytes);
+    let (marks, mut spare) = read_marks(first, n);
+    let mut second = None;
+    if kind == Kind::Model && !behind.is_empty() {
+        let (marks, spare_of_second) = read_marks(behind, n);
+        spare |= spare_of_second;
+        second = Some(marks);
+    }
+    if spare {
         return Err(11);
     }
-    let marks = (0..n).map(bit).collect();
     Ok(Model {
         start,
         stays: word(file, 6) == 1,
         succs,
         marks,
+        second,
     })
 }
 

@@ -29,10 +29,27 @@ pub fn random_model(lot: &mut Random, least: usize, most: usize) -> Model {
     model
 }
 
+/// Gives a model a second mark table: with few marks or many, with those of the first one, or with none.
+pub fn add_table(lot: &mut Random, model: &mut Model) {
+    let n = model.states();
+    let rarity = lot.between(1, n.min(12));
+    let drawn = (0..n).map(|_| lot.once_in(rarity)).collect();
+    model.second = Some(match lot.below(8) {
+        0 => model.marks.clone(),
+        1 => vec![false; n],
+        _ => drawn,
+    });
+}
+
+/// The number of a mark table that there is not.
+pub fn table_above_1(lot: &mut Random) -> u16 {
+    [2, 3, 255, 256, 257, 65535, lot.word().max(2)][lot.below(7)]
+}
+
 /// Damages a file in one of several ways, up to three times.
 pub fn damage(lot: &mut Random, file: &mut Vec<u8>) {
     for _ in 0..lot.between(1, 3) {
-        match lot.below(8) {
+        match lot.below(10) {
             0 if !file.is_empty() => {
                 let at = lot.below(file.len());
                 file[at] ^= 1 << lot.below(8);
@@ -60,12 +77,51 @@ pub fn damage(lot: &mut Random, file: &mut Vec<u8>) {
                 let value = [0, 1, 2, 256, 257, lot.word()][lot.below(6)];
                 file[6..8].copy_from_slice(&value.to_le_bytes());
             }
+            7 if file.len() >= 24 => damage_size(lot, file),
+            8 if file.len() >= 24 => set_spare_bit(lot, file),
             _ => {
                 if let Some(last) = file.last_mut() {
                     *last ^= 1 << lot.below(8);
                 }
             }
         }
+    }
+}
+
+/// Where the marks of a file should stand, and how many bytes a mark table has, by the numbers in its header.
+pub fn marks_of(file: &[u8]) -> (usize, usize) {
+    let word = |at: usize| u16::from_le_bytes([file[at], file[at + 1]]) as usize;
+    let (n, m) = (word(0), word(2));
+    (24 + 2 * (n + 1) + 2 * m, n.div_ceil(8))
+}
+
+/// Puts a total length with one, two or three mark tables into the header, or one between them or beside them; once in two
+/// times the file gets that length.
+fn damage_size(lot: &mut Random, file: &mut Vec<u8>) {
+    let (marks, size) = marks_of(file);
+    let total = match lot.below(6) {
+        0 => marks + size,
+        1 | 2 => marks + 2 * size,
+        3 => marks + 3 * size,
+        _ => marks + lot.below(3 * size + 2),
+    };
+    file[20..24].copy_from_slice(&(total as u32).to_le_bytes());
+    if lot.once_in(2) {
+        file.truncate(total);
+        let zeros = lot.once_in(2);
+        while file.len() < total {
+            file.push(if zeros { 0 } else { lot.byte() });
+        }
+    }
+}
+
+/// Sets a bit behind the last state's in one of the mark tables, if there is such a bit and the table is there.
+fn set_spare_bit(lot: &mut Random, file: &mut [u8]) {
+    let (marks, size) = marks_of(file);
+    let spare = 8 * size - u16::from_le_bytes([file[0], file[1]]) as usize;
+    let last = marks + (1 + lot.below(2)) * size;
+    if spare > 0 && last <= file.len() {
+        file[last - 1] |= 0x80 >> lot.below(spare);
     }
 }
 

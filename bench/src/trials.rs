@@ -5,10 +5,12 @@
 use crate::counts::Counts;
 use crate::fahkelo::{
     distances_into, kind, next_into, search_into, step_into, Ask, DistancesAnswer, NextAnswer,
-    Record, SearchAnswer, StepAnswer,
+    Record, SearchAnswer, StepAnswer, TABLE_0,
 };
+use crate::graph::Graph;
 use crate::oracle::{self, Verdict};
 use crate::random::Random;
+use crate::reference::Facts;
 use crate::samples::dirty;
 use crate::versions::{DistanceWriter, Finder, Proved, PAIRED, SAFE, UNCHECKED};
 
@@ -74,6 +76,30 @@ impl Figures for DistancesAnswer {
     }
 }
 
+/// What calls are made on: a file with its verdict, and the mark table that they name. Distances name none.
+#[derive(Clone, Copy)]
+pub struct Case<'a> {
+    pub file: &'a [u8],
+    pub verdict: &'a Verdict,
+    pub mark_table: u16,
+}
+
+impl<'a> Case<'a> {
+    /// The graph and the facts for the mark table, or the number of the reason against it or the file.
+    pub fn named(&self) -> Result<&'a (Graph, Facts), u16> {
+        oracle::named(self.verdict, self.mark_table)
+    }
+
+    /// What a search names.
+    fn ask(&self, ceiling: u16, allowance: u16) -> Ask {
+        Ask {
+            mark_table: self.mark_table,
+            ceiling,
+            allowance,
+        }
+    }
+}
+
 /// The tables of one call before it, and what they must hold after it. The answer table is that of distances too.
 struct Tables {
     answer: Vec<u16>,
@@ -83,9 +109,11 @@ struct Tables {
 }
 
 impl Tables {
+    /// Tables for a call that names a mark table.
     fn new(
         lot: &mut Random,
         verdict: &Verdict,
+        mark_table: u16,
         answer_len: usize,
         work_len: usize,
         written: &[u16],
@@ -94,7 +122,7 @@ impl Tables {
         let work = dirty(lot, work_len);
         Tables {
             answer_after: oracle::answer_after(&answer, written),
-            work_after: oracle::work_after(verdict, &work),
+            work_after: oracle::work_after(verdict, mark_table, &work),
             answer,
             work,
         }
@@ -150,28 +178,33 @@ fn count_value(counts: &mut Counts, expected: &impl Figures) {
 pub fn compare_step(
     lot: &mut Random,
     counts: &mut Counts,
-    file: &[u8],
-    verdict: &Verdict,
+    case: Case,
     ceiling: u16,
     so_far: Record,
     work_len: usize,
 ) {
+    let Case {
+        file,
+        verdict,
+        mark_table,
+    } = case;
     counts.steps += 1;
-    let expected = oracle::step(verdict, ceiling, so_far, work_len);
+    let expected = oracle::step(verdict, mark_table, ceiling, so_far, work_len);
     count_value(counts, &expected);
     if let StepAnswer::Advanced(Record { best: Some(b), .. }) = expected {
         counts.bests_above += u64::from(b > ceiling);
     }
-    let what = |version: &str| format!("step under {ceiling} {so_far:?}: {version}");
-    let tables = Tables::new(lot, verdict, 0, work_len, &[]);
+    let what =
+        |version: &str| format!("step, table {mark_table}, under {ceiling} {so_far:?}: {version}");
+    let tables = Tables::new(lot, verdict, mark_table, 0, work_len, &[]);
     if !tables.agree_in_c(lot, counts, &expected, |_, work, out| {
-        step_into(file, ceiling, so_far, work, out)
+        step_into(file, mark_table, ceiling, so_far, work, out)
     }) {
         counts.difference(&what("proved"), file);
     }
     for version in FINDERS {
         if !tables.agree(&expected, |_, work| {
-            version.step(file, ceiling, so_far, work)
+            version.step(file, mark_table, ceiling, so_far, work)
         }) {
             counts.difference(&what(version.name()), file);
         }
@@ -181,20 +214,22 @@ pub fn compare_step(
 pub fn compare_search(
     lot: &mut Random,
     counts: &mut Counts,
-    file: &[u8],
-    verdict: &Verdict,
-    ask: Ask,
+    case: Case,
+    ceiling: u16,
+    allowance: u16,
     answer_len: usize,
     work_len: usize,
 ) {
+    let Case { file, verdict, .. } = case;
+    let ask = case.ask(ceiling, allowance);
     counts.searches += 1;
     let (expected, list) = oracle::search(verdict, ask, answer_len, work_len);
     count_value(counts, &expected);
-    if let (SearchAnswer::NoneWithin { .. }, Ok((_, facts))) = (expected, verdict) {
+    if let (SearchAnswer::NoneWithin { .. }, Ok((_, facts))) = (expected, case.named()) {
         counts.lists_above += u64::from(facts.length().is_some());
     }
     let what = |version: &str| format!("search {ask:?}: {version}");
-    let tables = Tables::new(lot, verdict, answer_len, work_len, list);
+    let tables = Tables::new(lot, verdict, case.mark_table, answer_len, work_len, list);
     if !tables.agree_in_c(lot, counts, &expected, |answer, work, out| {
         search_into(file, ask, answer, work, out)
     }) {
@@ -212,25 +247,29 @@ pub fn compare_search(
 pub fn compare_next(
     lot: &mut Random,
     counts: &mut Counts,
-    file: &[u8],
-    verdict: &Verdict,
+    case: Case,
     earlier: &[u16],
     answer_len: usize,
     work_len: usize,
 ) {
+    let Case {
+        file,
+        verdict,
+        mark_table,
+    } = case;
     counts.nexts += 1;
-    let (expected, list) = oracle::next(verdict, earlier, answer_len, work_len);
+    let (expected, list) = oracle::next(verdict, mark_table, earlier, answer_len, work_len);
     count_value(counts, &expected);
-    let what = |version: &str| format!("next {earlier:?}: {version}");
-    let tables = Tables::new(lot, verdict, answer_len, work_len, list);
+    let what = |version: &str| format!("next, table {mark_table}, {earlier:?}: {version}");
+    let tables = Tables::new(lot, verdict, mark_table, answer_len, work_len, list);
     if !tables.agree_in_c(lot, counts, &expected, |answer, work, out| {
-        next_into(file, earlier, answer, work, out)
+        next_into(file, mark_table, earlier, answer, work, out)
     }) {
         counts.difference(&what("proved"), file);
     }
     for version in FINDERS {
         if !tables.agree(&expected, |answer, work| {
-            version.next(file, earlier, answer, work)
+            version.next(file, mark_table, earlier, answer, work)
         }) {
             counts.difference(&what(version.name()), file);
         }
@@ -240,17 +279,17 @@ pub fn compare_next(
 pub fn compare_distances(
     lot: &mut Random,
     counts: &mut Counts,
-    file: &[u8],
-    verdict: &Verdict,
+    case: Case,
     ceiling: u16,
     table_len: usize,
     work_len: usize,
 ) {
+    let Case { file, verdict, .. } = case;
     counts.distances += 1;
     let (expected, entries) = oracle::distances(verdict, ceiling, table_len, work_len);
     count_value(counts, &expected);
     let what = |version: &str| format!("distances up to {ceiling}, {table_len}: {version}");
-    let tables = Tables::new(lot, verdict, table_len, work_len, &entries);
+    let tables = Tables::new(lot, verdict, TABLE_0, table_len, work_len, &entries);
     if !tables.agree_in_c(lot, counts, &expected, |distances, work, out| {
         distances_into(file, ceiling, distances, work, out)
     }) {

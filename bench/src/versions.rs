@@ -12,11 +12,19 @@ use crate::ported::{combine, distances, finder, grade};
 /// A finder with the three operations.
 pub trait Finder {
     fn name(&self) -> &'static str;
-    fn step(&self, file: &[u8], ceiling: u16, so_far: Record, work: &mut [u16]) -> StepAnswer;
+    fn step(
+        &self,
+        file: &[u8],
+        mark_table: u16,
+        ceiling: u16,
+        so_far: Record,
+        work: &mut [u16],
+    ) -> StepAnswer;
     fn search(&self, file: &[u8], ask: Ask, answer: &mut [u16], work: &mut [u16]) -> SearchAnswer;
     fn next(
         &self,
         file: &[u8],
+        mark_table: u16,
         earlier: &[u16],
         answer: &mut [u16],
         work: &mut [u16],
@@ -38,7 +46,14 @@ pub trait Combiner {
 /// What grades a list with a claimed k.
 pub trait Grader {
     fn name(&self) -> &'static str;
-    fn grade(&self, file: &[u8], list: &[u16], k: u16, work: &mut [u16]) -> GradeAnswer;
+    fn grade(
+        &self,
+        file: &[u8],
+        mark_table: u16,
+        list: &[u16],
+        k: u16,
+        work: &mut [u16],
+    ) -> GradeAnswer;
 }
 
 /// What writes the distances from the initial state.
@@ -77,8 +92,15 @@ impl Grader for Proved {
         "proved"
     }
 
-    fn grade(&self, file: &[u8], list: &[u16], k: u16, work: &mut [u16]) -> GradeAnswer {
-        fahkelo::grade(file, list, k, work)
+    fn grade(
+        &self,
+        file: &[u8],
+        mark_table: u16,
+        list: &[u16],
+        k: u16,
+        work: &mut [u16],
+    ) -> GradeAnswer {
+        fahkelo::grade(file, mark_table, list, k, work)
     }
 }
 
@@ -103,8 +125,15 @@ impl Finder for Proved {
         "proved"
     }
 
-    fn step(&self, file: &[u8], ceiling: u16, so_far: Record, work: &mut [u16]) -> StepAnswer {
-        fahkelo::step(file, ceiling, so_far, work)
+    fn step(
+        &self,
+        file: &[u8],
+        mark_table: u16,
+        ceiling: u16,
+        so_far: Record,
+        work: &mut [u16],
+    ) -> StepAnswer {
+        fahkelo::step(file, mark_table, ceiling, so_far, work)
     }
 
     fn search(&self, file: &[u8], ask: Ask, answer: &mut [u16], work: &mut [u16]) -> SearchAnswer {
@@ -114,11 +143,12 @@ impl Finder for Proved {
     fn next(
         &self,
         file: &[u8],
+        mark_table: u16,
         earlier: &[u16],
         answer: &mut [u16],
         work: &mut [u16],
     ) -> NextAnswer {
-        fahkelo::next(file, earlier, answer, work)
+        fahkelo::next(file, mark_table, earlier, answer, work)
     }
 }
 
@@ -139,8 +169,15 @@ impl<A: Access> Finder for Ported<A> {
         self.0
     }
 
-    fn step(&self, file: &[u8], ceiling: u16, so_far: Record, work: &mut [u16]) -> StepAnswer {
-        finder::step::<A>(file, ceiling, so_far, work)
+    fn step(
+        &self,
+        file: &[u8],
+        mark_table: u16,
+        ceiling: u16,
+        so_far: Record,
+        work: &mut [u16],
+    ) -> StepAnswer {
+        finder::step::<A>(file, mark_table, ceiling, so_far, work)
     }
 
     fn search(&self, file: &[u8], ask: Ask, answer: &mut [u16], work: &mut [u16]) -> SearchAnswer {
@@ -150,11 +187,12 @@ impl<A: Access> Finder for Ported<A> {
     fn next(
         &self,
         file: &[u8],
+        mark_table: u16,
         earlier: &[u16],
         answer: &mut [u16],
         work: &mut [u16],
     ) -> NextAnswer {
-        finder::next::<A>(file, earlier, answer, work)
+        finder::next::<A>(file, mark_table, earlier, answer, work)
     }
 }
 
@@ -179,8 +217,15 @@ impl<A: Access> Grader for Ported<A> {
         self.0
     }
 
-    fn grade(&self, file: &[u8], list: &[u16], k: u16, work: &mut [u16]) -> GradeAnswer {
-        grade::grade::<A>(file, list, k, work)
+    fn grade(
+        &self,
+        file: &[u8],
+        mark_table: u16,
+        list: &[u16],
+        k: u16,
+        work: &mut [u16],
+    ) -> GradeAnswer {
+        grade::grade::<A>(file, mark_table, list, k, work)
     }
 }
 

@@ -1,7 +1,7 @@
 //! The three operations, with every refusal in order.
 
 use super::access::{Access, Phase};
-use super::gate::{ceiling_too_high, enter};
+use super::gate::{ceiling_too_high, enter_naming};
 use super::model::Header;
 use super::paths::is_lasso;
 use super::places::{advance, first, write_list};
@@ -10,9 +10,15 @@ use super::spread::{get, put};
 use super::starts::prepare;
 use crate::fahkelo::{Ask, NextAnswer, Record, SearchAnswer, StepAnswer, FULL_CEILING};
 
-/// The record after one more round under a ceiling.
-pub fn step<A: Access>(file: &[u8], ceiling: u16, so_far: Record, work: &mut [u16]) -> StepAnswer {
-    let h = match enter::<A>(file, work) {
+/// The record after one more round under a ceiling, for the marks of a table.
+pub fn step<A: Access>(
+    file: &[u8],
+    mark_table: u16,
+    ceiling: u16,
+    so_far: Record,
+    work: &mut [u16],
+) -> StepAnswer {
+    let h = match enter_naming::<A>(file, mark_table, work) {
         Err(number) => return StepAnswer::Refused(number),
         Ok(h) => h,
     };
@@ -47,7 +53,7 @@ pub fn search<A: Access>(
     answer: &mut [u16],
     work: &mut [u16],
 ) -> SearchAnswer {
-    let h = match enter::<A>(file, work) {
+    let h = match enter_naming::<A>(file, ask.mark_table, work) {
         Err(number) => return SearchAnswer::Refused(number),
         Ok(h) => h,
     };
@@ -109,14 +115,15 @@ fn first_list<A: Access>(
     }
 }
 
-/// The shortest accepting path that follows an earlier one, written to the answer table.
+/// The shortest accepting path that follows an earlier one, for the marks of a table, written to the answer table.
 pub fn next<A: Access>(
     file: &[u8],
+    mark_table: u16,
     earlier: &[u16],
     answer: &mut [u16],
     work: &mut [u16],
 ) -> NextAnswer {
-    let h = match enter::<A>(file, work) {
+    let h = match enter_naming::<A>(file, mark_table, work) {
         Err(number) => return NextAnswer::Refused(number),
         Ok(h) => h,
     };

@@ -1,4 +1,5 @@
-//! The gate of the calls on one model: the reasons 1 to 12, and reason 21 of those that take a ceiling.
+//! The gate of the calls on one model: reason 22 of those that name a mark table, the reasons 1 to 12, and reason 21 of
+//! those that take a ceiling.
 
 use super::access::Access;
 use super::model::{check, Header};
@@ -11,6 +12,21 @@ pub fn enter<A: Access>(file: &[u8], work: &[u16]) -> Result<Header, u16> {
         return Err(12);
     }
     Ok(h)
+}
+
+/// The header, with the mark table that is named, or the number of the first reason that holds: 22, whatever the file,
+/// behind which the working table is zero, or 1 to 12.
+#[inline]
+pub fn enter_naming<A: Access>(
+    file: &[u8],
+    mark_table: u16,
+    work: &mut [u16],
+) -> Result<Header, u16> {
+    if 1 < mark_table {
+        work.fill(0);
+        return Err(22);
+    }
+    Ok(enter::<A>(file, work)?.naming(mark_table as usize))
 }
 
 /// The ceiling is above 4,096: reason 21, which is applied behind 12.

@@ -1,7 +1,7 @@
 //! The grade of a list with a claimed k, with every refusal in order.
 
 use super::access::Access;
-use super::gate::enter;
+use super::gate::enter_naming;
 use super::model::Header;
 use super::paths::{closes_at, first_break};
 use super::rounds::{count_candidates, run_rounds, start_distances};
@@ -84,9 +84,16 @@ fn grade_of_model<A: Access>(
     }
 }
 
-/// Grades a list with a claimed k: false, accepting or shortest, and the first place where the list breaks.
-pub fn grade<A: Access>(file: &[u8], list: &[u16], k: u16, work: &mut [u16]) -> GradeAnswer {
-    let h = match enter::<A>(file, work) {
+/// Grades a list with a claimed k, for the marks of a table: false, accepting or shortest, and the first place where the
+/// list breaks.
+pub fn grade<A: Access>(
+    file: &[u8],
+    mark_table: u16,
+    list: &[u16],
+    k: u16,
+    work: &mut [u16],
+) -> GradeAnswer {
+    let h = match enter_naming::<A>(file, mark_table, work) {
         Err(number) => return GradeAnswer::Refused(number),
         Ok(h) => h,
     };

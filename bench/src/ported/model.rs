@@ -4,13 +4,22 @@
 
 use super::access::Access;
 
-/// The fields of an accepted file. `stays`: a state without edges has an implied step to itself.
+/// The fields of an accepted file, and the mark table by which it is read. `stays`: a state without edges has an implied
+/// step to itself.
 #[derive(Clone, Copy)]
 pub struct Header {
     pub states: usize,
     pub edges: usize,
     pub start: usize,
     pub stays: bool,
+    pub table: usize,
+}
+
+impl Header {
+    /// The same header, by which another mark table is read.
+    pub fn naming(self, table: usize) -> Header {
+        Header { table, ..self }
+    }
 }
 
 /// A 16-bit number by one part of two bytes, with one check.
@@ -37,9 +46,14 @@ fn long<A: Access>(file: &[u8], at: usize) -> usize {
     word::<A>(file, at) + 65536 * word::<A>(file, at + 2)
 }
 
+/// Bit s of the bytes from a place on; past the end of the file no bit is set.
 #[inline]
 pub fn bit<A: Access>(file: &[u8], at: usize, s: usize) -> bool {
-    (A::get(file, at + s / 8) >> (s % 8)) % 2 == 1
+    let byte = at + s / 8;
+    if file.len() <= byte {
+        return false;
+    }
+    (A::get(file, byte) >> (s % 8)) % 2 == 1
 }
 
 /// The offset of the edge table.
@@ -54,22 +68,31 @@ pub fn marks_at(n: usize, m: usize) -> usize {
     edges_at(n) + 2 * m
 }
 
-/// The number of mark bytes.
+/// The number of bytes of a mark table.
 #[inline]
 pub fn mark_bytes(n: usize) -> usize {
     n.div_ceil(8)
 }
 
-/// The total length of a model file.
+/// The offset of mark table t.
+#[inline]
+fn table_at(n: usize, m: usize, t: usize) -> usize {
+    marks_at(n, m) + t * mark_bytes(n)
+}
+
+/// The total length of a model file with one mark table.
 #[inline]
 pub fn total_of(n: usize, m: usize) -> usize {
     marks_at(n, m) + mark_bytes(n)
 }
 
-/// The header, or the number of the first broken rule.
+/// The most mark tables that a model file may have.
+const MARK_TABLES: usize = 2;
+
+/// The header, which names mark table 0, or the number of the first broken rule.
 pub fn check<A: Access>(file: &[u8]) -> Result<Header, u16> {
     let h = check_head::<A>(file)?;
-    check_tables::<A>(file, h, total_of(h.states, h.edges))
+    check_tables::<A>(file, h, total_of(h.states, h.edges), MARK_TABLES)
 }
 
 /// The rules 1 to 5.
@@ -98,14 +121,21 @@ pub fn check_head<A: Access>(file: &[u8]) -> Result<Header, u16> {
         edges,
         start,
         stays: reserved == 1,
+        table: 0,
     })
 }
 
-/// The rules 6 to 11, by the total length that the kind of file is to have.
-pub fn check_tables<A: Access>(file: &[u8], h: Header, total: usize) -> Result<Header, u16> {
+/// The rules 6 to 11, by the total length that the kind of file has with one mark table, and the most mark tables that
+/// it may have.
+pub fn check_tables<A: Access>(
+    file: &[u8],
+    h: Header,
+    total: usize,
+    tables: usize,
+) -> Result<Header, u16> {
     let n = h.states;
     let m = h.edges;
-    if offsets_broken::<A>(file, n, m, total) {
+    if offsets_broken::<A>(file, n, m, total, tables) {
         return Err(6);
     }
     if file.len() != long::<A>(file, 20) {
@@ -120,17 +150,23 @@ pub fn check_tables<A: Access>(file: &[u8], h: Header, total: usize) -> Result<H
     if order_broken::<A>(file, n) {
         return Err(10);
     }
-    if spare_set::<A>(file, n, m) {
+    if spare_set::<A>(file, n, m, tables) {
         return Err(11);
     }
     Ok(h)
 }
 
-fn offsets_broken<A: Access>(file: &[u8], n: usize, m: usize, total: usize) -> bool {
+fn total_fits<A: Access>(file: &[u8], n: usize, total: usize, tables: usize) -> bool {
+    let size = mark_bytes(n);
+    let given = long::<A>(file, 20);
+    (0..tables).any(|t| given == total + t * size)
+}
+
+fn offsets_broken<A: Access>(file: &[u8], n: usize, m: usize, total: usize, tables: usize) -> bool {
     long::<A>(file, 8) != 24
         || long::<A>(file, 12) != edges_at(n)
         || long::<A>(file, 16) != marks_at(n, m)
-        || long::<A>(file, 20) != total
+        || !total_fits::<A>(file, n, total, tables)
 }
 
 fn rows_broken<A: Access>(file: &[u8], n: usize, m: usize) -> bool {
@@ -158,9 +194,13 @@ fn order_broken<A: Access>(file: &[u8], n: usize) -> bool {
     (0..n).any(|s| !ascends::<A>(row::<A>(file, n, s)))
 }
 
-fn spare_set<A: Access>(file: &[u8], n: usize, m: usize) -> bool {
-    let marks = marks_at(n, m);
-    (n..8 * mark_bytes(n)).any(|s| bit::<A>(file, marks, s))
+fn spare_of_table<A: Access>(file: &[u8], n: usize, m: usize, t: usize) -> bool {
+    let at = table_at(n, m, t);
+    (n..8 * mark_bytes(n)).any(|s| bit::<A>(file, at, s))
+}
+
+fn spare_set<A: Access>(file: &[u8], n: usize, m: usize, tables: usize) -> bool {
+    (0..tables).any(|t| spare_of_table::<A>(file, n, m, t))
 }
 
 /// The part of a table with a 16-bit number for each edge, from byte `base` on, that belongs to row s.
@@ -238,8 +278,9 @@ pub fn has_edge<A: Access>(file: &[u8], h: Header, s: usize, t: usize) -> bool {
     false
 }
 
-/// State s is marked.
+/// State s is marked in the mark table that the header names.
 #[inline]
 pub fn is_marked<A: Access>(file: &[u8], h: Header, s: usize) -> bool {
-    bit::<A>(file, marks_at(h.states, h.edges), s)
+    let at = table_at(h.states, h.edges, h.table);
+    bit::<A>(file, at, s)
 }

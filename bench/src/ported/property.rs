@@ -5,11 +5,11 @@ use super::model::{
     bit, check_head, check_tables, edge_part, entry, marks_at, row, total_of, word, Header,
 };
 
-/// The header, or the number of the first broken rule; the total length counts the masks.
+/// The header, or the number of the first broken rule; there is one mark table, and the total length counts the masks.
 pub fn check_property<A: Access>(file: &[u8]) -> Result<Header, u16> {
     let h = check_head::<A>(file)?;
     let total = total_of(h.states, h.edges) + 2 * h.edges;
-    check_tables::<A>(file, h, total)
+    check_tables::<A>(file, h, total, 1)
 }
 
 /// Some edge has a zero mask.

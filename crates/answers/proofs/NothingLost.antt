@@ -21,7 +21,7 @@ use Rattle.search.specs.Search.{Searched, stopped, noneWithin, searched, search
 use Rattle.next.specs.Next.{Followed, noMore, followed, nextReasons}
 use Rattle.grader.specs.Grade.{Said, accepting, shortest, Grade, gradeOf}
 use Rattle.distances.specs.Distances.{distanceReasons}
-use Rattle.gate.specs.Gate.{commonRules}
+use Rattle.gate.specs.Gate.{namedRules}
 use Rattle.answers.specs.Kinds.{Report, isThere, bestFigure, recordGiven, verdictKind, placeDue, placeIn}
 use Rattle.answers.specs.Kinds.{stepReport, searchReport, nextReport, writtenReport, gradeReport}
 use Rattle.answers.specs.NothingLost.{Numbered, NothingLost}
@@ -167,13 +167,13 @@ nothing-lost = record {
   };
   grade = record { refusals = λ n. refl; kinds = λ g. grade-kinds (g .verdict) };
   grade-injective = grade-injective;
-  step-numbers = λ f ceiling rec work.
-      broken-one _ (stepped (graphOf f) ceiling rec) (stepReasons f ceiling work) tt;
+  step-numbers = λ f t ceiling rec work.
+      broken-one _ (stepped (graphOf f t) ceiling rec) (stepReasons f t ceiling work) tt;
   search-numbers = λ f ask answer work.
-      broken-one _ (searched (graphOf f) ask) (searchReasons f ask answer work) tt;
-  next-numbers = λ f earlier answer work.
-      broken-one _ (followed (following earlier (roll (graphOf f)))) (nextReasons f earlier answer work) tt;
-  grade-numbers = λ f xs k work. broken-one _ (gradeOf (graphOf f) xs k) (commonRules f work) tt;
+      broken-one _ (searched (graphOf f (ask .table)) ask) (searchReasons f ask answer work) tt;
+  next-numbers = λ f t earlier answer work.
+      broken-one _ (followed (following earlier (roll (graphOf f t)))) (nextReasons f t earlier answer work) tt;
+  grade-numbers = λ f t xs k work. broken-one _ (gradeOf (graphOf f t) xs k) (namedRules f t work) tt;
   distances-numbers = λ f ceiling output work.
       broken-one _ (states f) (distanceReasons f ceiling output work) tt;
   record-back = record-back;

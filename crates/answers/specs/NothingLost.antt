@@ -50,9 +50,9 @@ pub record NothingLost : Type 0 where
   pub grade : Reports gradeReport
   pub grade-injective : (o p : Outcome Grade) (before-o before-p : List ℕ) → Numbered 99 o → Numbered 99 p
       → gradeReport o ≡ gradeReport p → getD (placeIn before-o o) 0 0 ≡ getD (placeIn before-p p) 0 0 → o ≡ p
-  pub step-numbers : (f : List ℕ) (ceiling : ℕ) (rec : Record) (work : ℕ) → OneOf stepNumbers (stepOutcome f ceiling rec work)
+  pub step-numbers : (f : List ℕ) (t ceiling : ℕ) (rec : Record) (work : ℕ) → OneOf stepNumbers (stepOutcome f t ceiling rec work)
   pub search-numbers : (f : List ℕ) (ask : Ask) (answer work : ℕ) → OneOf searchNumbers (searchOutcome f ask answer work)
-  pub next-numbers : (f earlier : List ℕ) (answer work : ℕ) → OneOf nextNumbers (nextOutcome f earlier answer work)
-  pub grade-numbers : (f xs : List ℕ) (k work : ℕ) → OneOf gradeNumbers (gradeOutcome f xs k work)
+  pub next-numbers : (f : List ℕ) (t : ℕ) (earlier : List ℕ) (answer work : ℕ) → OneOf nextNumbers (nextOutcome f t earlier answer work)
+  pub grade-numbers : (f : List ℕ) (t : ℕ) (xs : List ℕ) (k work : ℕ) → OneOf gradeNumbers (gradeOutcome f t xs k work)
   pub distances-numbers : (f : List ℕ) (ceiling output work : ℕ) → OneOf distanceNumbers (distancesOutcome f ceiling output work)
   pub record-back : (rec : Record) → recordGiven (rec .done) (isThere (rec .best)) (bestFigure (rec .best)) ≡ rec

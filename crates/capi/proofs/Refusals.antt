@@ -20,7 +20,7 @@ use Rattle.outcomes.specs.Numbers.{stepNumbers, searchNumbers, nextNumbers, gra
 use Rattle.outcomes.specs.Outcome.{Outcome, refused, answered, outcome}
 use Rattle.outcomes.specs.Tables.{written, unlessRefused}
 use Rattle.step.specs.Step.{stepOutcome}
-use Rattle.search.specs.Search.{searched, firstDue, searchReasons, searchOutcome}
+use Rattle.search.specs.Search.{searched, firstDue, graphAsked, searchReasons, searchOutcome}
 use Rattle.next.specs.Next.{followed, nextReasons, nextOutcome}
 use Rattle.grader.specs.Grade.{Grade, gradeOutcome}
 use Rattle.distances.specs.Distances.{distanceTable, distanceReasons, distancesOutcome}
@@ -136,23 +136,23 @@ place-untold place false (answered g) l = absurd (omega (arith, nothing-lost .gr
 -- a refused call changes nothing that was lent but the working table
 pub refusals-change-nothing : RefusalsChangeNothing
 refusals-change-nothing = record {
-  step = λ f ceiling rec w out.
+  step = λ f t ceiling rec w out.
       value-told stepNumbers tt (ShortOut out) out stepReport (nothing-lost .step .reports)
       (outShort out) (out-decides out)
-      (stepOutcome f ceiling rec (length w))
-      (nothing-lost .step-numbers f ceiling rec (length w));
+      (stepOutcome f t ceiling rec (length w))
+      (nothing-lost .step-numbers f t ceiling rec (length w));
   search = λ f ask a w out.
       value-told searchNumbers tt (ShortOut out) out searchReport (nothing-lost .search .reports)
       (outShort out) (out-decides out)
       (searchOutcome f ask (length a) (length w))
       (nothing-lost .search-numbers f ask (length a) (length w));
-  next = λ f earlier a w out.
+  next = λ f t earlier a w out.
       value-told nextNumbers tt (ShortOut out) out nextReport (nothing-lost .next .reports) (outShort out) (out-decides out)
-      (nextOutcome f earlier (length a) (length w))
-      (nothing-lost .next-numbers f earlier (length a) (length w));
-  grade = λ f xs k place w out.
+      (nextOutcome f t earlier (length a) (length w))
+      (nothing-lost .next-numbers f t earlier (length a) (length w));
+  grade = λ f t xs k place w out.
       value-told gradeNumbers tt (ShortOut out ⊎ (length place < 1)) out gradeReport (nothing-lost .grade) (placeShort place out)
-      (place-decides place out) (gradeOutcome f xs k (length w)) (nothing-lost .grade-numbers f xs k (length w));
+      (place-decides place out) (gradeOutcome f t xs k (length w)) (nothing-lost .grade-numbers f t xs k (length w));
   distances = λ f ceiling output w out.
       value-told distanceNumbers tt (ShortOut out) out writtenReport (nothing-lost .written .reports)
       (outShort out) (out-decides out)
@@ -164,15 +164,16 @@ refusals-change-nothing = record {
       (combineOutcome f letters p (length output))
       (broken-one combineNumbers (length (combinedFile f letters p)) (combineReasons f letters p (length output)) tt);
   search-answer = λ f ask a w out.
-      answer-untold searchReport (nothing-lost .search .reports) (searched (graphOf f) ask) (firstDue (graphOf f) ask) a
+      answer-untold searchReport (nothing-lost .search .reports) (searched (graphAsked f ask) ask) (firstDue (graphAsked f ask) ask) a
       (outShort out) (firstBroken (searchReasons f ask (length a) (length w)));
-  next-answer = λ f earlier a w out.
-      answer-untold nextReport (nothing-lost .next .reports) (followed (following earlier (roll (graphOf f)))) (following earlier (roll (graphOf f))) a
-      (outShort out) (firstBroken (nextReasons f earlier (length a) (length w)));
-  grade-place = λ f xs k place w out. place-untold place (placeShort place out) (gradeOutcome f xs k (length w));
+  next-answer = λ f t earlier a w out.
+      let due = following earlier (roll (graphOf f t)) in
+      answer-untold nextReport (nothing-lost .next .reports) (followed due) due a
+      (outShort out) (firstBroken (nextReasons f t earlier (length a) (length w)));
+  grade-place = λ f t xs k place w out. place-untold place (placeShort place out) (gradeOutcome f t xs k (length w));
   distances-output = λ f ceiling output w out.
       answer-untold writtenReport (nothing-lost .written .reports) (states f)
-      (some (distanceTable (graphOf f) ceiling)) output (outShort out)
+      (some (distanceTable (graphOf f 0) ceiling)) output (outShort out)
       (firstBroken (distanceReasons f ceiling (length output) (length w)));
   combine-output = λ f letters p output out.
       answer-untold writtenReport (nothing-lost .written .reports) (length (combinedFile f letters p))

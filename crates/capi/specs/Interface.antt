@@ -36,21 +36,21 @@ placeShort place out = outShort out || ltb (length place) 1
 abbrev pub ifPlaceShort : {A : Type 0} → (place out : List ℕ) → A → A → A
 ifPlaceShort place out short enough = pick (placeShort place out) short enough
 
--- the report of a step on a file under a ceiling from a record, lent the working table and `out`
-abbrev pub stepCall : List ℕ → (ceiling : ℕ) → Record → (w out : List ℕ) → Report
-stepCall f ceiling rec w out = ifShort out outTooShort (stepReport (stepOutcome f ceiling rec (length w)))
+-- the report of a step on a file by mark table t under a ceiling from a record, lent the working table and `out`
+abbrev pub stepCall : List ℕ → (t ceiling : ℕ) → Record → (w out : List ℕ) → Report
+stepCall f t ceiling rec w out = ifShort out outTooShort (stepReport (stepOutcome f t ceiling rec (length w)))
 
 -- the report of a search, lent the answer table too
 abbrev pub searchCall : List ℕ → Ask → (a w out : List ℕ) → Report
 searchCall f ask a w out = ifShort out outTooShort (searchReport (searchOutcome f ask (length a) (length w)))
 
 -- the report of next
-abbrev pub nextCall : (f earlier a w out : List ℕ) → Report
-nextCall f earlier a w out = ifShort out outTooShort (nextReport (nextOutcome f earlier (length a) (length w)))
+abbrev pub nextCall : List ℕ → (t : ℕ) → (earlier a w out : List ℕ) → Report
+nextCall f t earlier a w out = ifShort out outTooShort (nextReport (nextOutcome f t earlier (length a) (length w)))
 
 -- the report of a grade of a list with a claimed k, lent a table for the place too
-abbrev pub gradeCall : (f xs : List ℕ) → ℕ → (place w out : List ℕ) → Report
-gradeCall f xs k place w out = ifPlaceShort place out outTooShort (gradeReport (gradeOutcome f xs k (length w)))
+abbrev pub gradeCall : List ℕ → (t : ℕ) → List ℕ → (k : ℕ) → (place w out : List ℕ) → Report
+gradeCall f t xs k place w out = ifPlaceShort place out outTooShort (gradeReport (gradeOutcome f t xs k (length w)))
 
 -- the report of a distance call up to a ceiling, lent the output, the working table and `out`
 abbrev pub distancesCall : List ℕ → (ceiling : ℕ) → (output w out : List ℕ) → Report
@@ -67,12 +67,12 @@ abbrev pub answerAfterSearch : List ℕ → Ask → (a w out : List ℕ) → Lis
 answerAfterSearch f ask a w out = ifShort out a (searchAnswer f ask a (length w))
 
 -- the answer table after next: untouched if `out` is too short
-abbrev pub answerAfterNext : (f earlier a w out : List ℕ) → List ℕ
-answerAfterNext f earlier a w out = ifShort out a (nextAnswer f earlier a (length w))
+abbrev pub answerAfterNext : List ℕ → (t : ℕ) → (earlier a w out : List ℕ) → List ℕ
+answerAfterNext f t earlier a w out = ifShort out a (nextAnswer f t earlier a (length w))
 
 -- the table for the place after a grade: untouched if it or `out` is too short
-abbrev pub placeAfterGrade : (f xs : List ℕ) → ℕ → (place w out : List ℕ) → List ℕ
-placeAfterGrade f xs k place w out = ifPlaceShort place out place (placeIn place (gradeOutcome f xs k (length w)))
+abbrev pub placeAfterGrade : List ℕ → (t : ℕ) → List ℕ → (k : ℕ) → (place w out : List ℕ) → List ℕ
+placeAfterGrade f t xs k place w out = ifPlaceShort place out place (placeIn place (gradeOutcome f t xs k (length w)))
 
 -- the output after a distance call: untouched if `out` is too short
 abbrev pub outputAfterDistances : List ℕ → (ceiling : ℕ) → (output w out : List ℕ) → List ℕ
@@ -82,10 +82,11 @@ outputAfterDistances f ceiling output w out = ifShort out output (distancesOutpu
 abbrev pub outputAfterCombine : (f letters p output out : List ℕ) → List ℕ
 outputAfterCombine f letters p output out = ifShort out output (combineOutput f letters p output)
 
--- the working table after step, search, next and a distance call: untouched if `out` is too short
-abbrev pub workAfterCall : (f w out : List ℕ) → List ℕ
-workAfterCall f w out = ifShort out w (workOf f w)
+-- the working table after step, search and next by mark table t, and after a distance call, which is as one by table 0:
+-- untouched if `out` is too short
+abbrev pub workAfterCall : List ℕ → (t : ℕ) → (w out : List ℕ) → List ℕ
+workAfterCall f t w out = ifShort out w (workOf f t w)
 
 -- and after a grade: untouched if `out` or the table for the place is too short
-abbrev pub workAfterGrade : (f place w out : List ℕ) → List ℕ
-workAfterGrade f place w out = ifPlaceShort place out w (workOf f w)
+abbrev pub workAfterGrade : List ℕ → (t : ℕ) → (place w out : List ℕ) → List ℕ
+workAfterGrade f t place w out = ifPlaceShort place out w (workOf f t w)

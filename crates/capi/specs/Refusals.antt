@@ -44,14 +44,15 @@ ShortOut out = length out < 4
 -- So it is with all six functions, where `out` is too short or, for a grade, the table for the place is; and up to 100
 -- no entry of the answer table, of that for the place and of the output changes.
 pub record RefusalsChangeNothing : Type 0 where
-  pub step : (f : List ℕ) (ceiling : ℕ) (rec : Record) (w out : List ℕ)
-      → Value stepNumbers (stepOutcome f ceiling rec (length w)) (ShortOut out) out (stepCall f ceiling rec w out)
+  pub step : (f : List ℕ) (t ceiling : ℕ) (rec : Record) (w out : List ℕ)
+      → Value stepNumbers (stepOutcome f t ceiling rec (length w)) (ShortOut out) out (stepCall f t ceiling rec w out)
   pub search : (f : List ℕ) (ask : Ask) (a w out : List ℕ)
       → Value searchNumbers (searchOutcome f ask (length a) (length w)) (ShortOut out) out (searchCall f ask a w out)
-  pub next : (f earlier a w out : List ℕ)
-      → Value nextNumbers (nextOutcome f earlier (length a) (length w)) (ShortOut out) out (nextCall f earlier a w out)
-  pub grade : (f xs : List ℕ) (k : ℕ) (place w out : List ℕ)
-      → Value gradeNumbers (gradeOutcome f xs k (length w)) (ShortOut out ⊎ (length place < 1)) out (gradeCall f xs k place w out)
+  pub next : (f : List ℕ) (t : ℕ) (earlier a w out : List ℕ)
+      → Value nextNumbers (nextOutcome f t earlier (length a) (length w)) (ShortOut out) out (nextCall f t earlier a w out)
+  pub grade : (f : List ℕ) (t : ℕ) (xs : List ℕ) (k : ℕ) (place w out : List ℕ)
+      → Value gradeNumbers (gradeOutcome f t xs k (length w)) (ShortOut out ⊎ (length place < 1)) out
+      (gradeCall f t xs k place w out)
   pub distances : (f : List ℕ) (ceiling : ℕ) (output w out : List ℕ)
       → Value distanceNumbers (distancesOutcome f ceiling (length output) (length w)) (ShortOut out) out
       (distancesCall f ceiling output w out)
@@ -59,10 +60,10 @@ pub record RefusalsChangeNothing : Type 0 where
       → Value combineNumbers (combineOutcome f letters p (length output)) (ShortOut out) out (combineCall f letters p output out)
   pub search-answer : (f : List ℕ) (ask : Ask) (a w out : List ℕ) → searchCall f ask a w out .kind ≤ 100
       → answerAfterSearch f ask a w out ≡ a
-  pub next-answer : (f earlier a w out : List ℕ) → nextCall f earlier a w out .kind ≤ 100
-      → answerAfterNext f earlier a w out ≡ a
-  pub grade-place : (f xs : List ℕ) (k : ℕ) (place w out : List ℕ) → gradeCall f xs k place w out .kind ≤ 100
-      → placeAfterGrade f xs k place w out ≡ place
+  pub next-answer : (f : List ℕ) (t : ℕ) (earlier a w out : List ℕ) → nextCall f t earlier a w out .kind ≤ 100
+      → answerAfterNext f t earlier a w out ≡ a
+  pub grade-place : (f : List ℕ) (t : ℕ) (xs : List ℕ) (k : ℕ) (place w out : List ℕ) → gradeCall f t xs k place w out .kind ≤ 100
+      → placeAfterGrade f t xs k place w out ≡ place
   pub distances-output : (f : List ℕ) (ceiling : ℕ) (output w out : List ℕ)
       → distancesCall f ceiling output w out .kind ≤ 100 → outputAfterDistances f ceiling output w out ≡ output
   pub combine-output : (f letters p output out : List ℕ) → combineCall f letters p output out .kind ≤ 100

@@ -60,6 +60,7 @@ fn record_given(done: u16, has_best: u8, best: u16) -> RoundRecord
 #[no_mangle]
 pub extern "C" fn fahkelo_step(
     file: &[u8],
+    mark_table: u16,
     ceiling: u16,
     done: u16,
     has_best: u8,
@@ -67,18 +68,18 @@ pub extern "C" fn fahkelo_step(
     work: &mut [u16],
     out: &mut [u16],
 ) -> u16
-    ensures value { λ r. ⌜ r ≡ stepCall (now (file .entry)) ceiling (recordGiven done «has_best» best)
+    ensures value { λ r. ⌜ r ≡ stepCall (now (file .entry)) «mark_table» ceiling (recordGiven done «has_best» best)
         (now (work .entry)) (now (out .entry)) .kind ⌝ }
-    ensures out { λ _. ⌜ now (out .exit) ≡ figuresIn (now (out .entry)) (stepCall (now (file .entry)) ceiling
+    ensures out { λ _. ⌜ now (out .exit) ≡ figuresIn (now (out .entry)) (stepCall (now (file .entry)) «mark_table» ceiling
         (recordGiven done «has_best» best) (now (work .entry)) (now (out .entry))) ⌝ }
-    ensures work { λ _. ⌜ now (work .exit) ≡ workAfterCall (now (file .entry)) (now (work .entry))
+    ensures work { λ _. ⌜ now (work .exit) ≡ workAfterCall (now (file .entry)) «mark_table» (now (work .entry))
         (now (out .entry)) ⌝ }
 {
     if out.len() < OUT_ENTRIES {
         return OUT_TOO_SHORT;
     }
     let so_far = record_given(done, has_best, best);
-    let stepped = step(file, Transitions(ceiling), so_far, work);
+    let stepped = step(file, mark_table, Transitions(ceiling), so_far, work);
     report_step(stepped, out)
 }
 
@@ -86,26 +87,28 @@ pub extern "C" fn fahkelo_step(
 #[no_mangle]
 pub extern "C" fn fahkelo_search(
     file: &[u8],
+    mark_table: u16,
     ceiling: u16,
     allowance: u16,
     answer: &mut [u16],
     work: &mut [u16],
     out: &mut [u16],
 ) -> u16
-    ensures value { λ r. ⌜ r ≡ searchCall (now (file .entry)) (asking ceiling allowance)
+    ensures value { λ r. ⌜ r ≡ searchCall (now (file .entry)) (asking «mark_table» ceiling allowance)
         (now (answer .entry)) (now (work .entry)) (now (out .entry)) .kind ⌝ }
     ensures out { λ _. ⌜ now (out .exit) ≡ figuresIn (now (out .entry))
-        (searchCall (now (file .entry)) (asking ceiling allowance)
+        (searchCall (now (file .entry)) (asking «mark_table» ceiling allowance)
         (now (answer .entry)) (now (work .entry)) (now (out .entry))) ⌝ }
-    ensures answer { λ _. ⌜ now (answer .exit) ≡ answerAfterSearch (now (file .entry)) (asking ceiling allowance)
+    ensures answer { λ _. ⌜ now (answer .exit) ≡ answerAfterSearch (now (file .entry)) (asking «mark_table» ceiling allowance)
         (now (answer .entry)) (now (work .entry)) (now (out .entry)) ⌝ }
-    ensures work { λ _. ⌜ now (work .exit) ≡ workAfterCall (now (file .entry)) (now (work .entry))
+    ensures work { λ _. ⌜ now (work .exit) ≡ workAfterCall (now (file .entry)) «mark_table» (now (work .entry))
         (now (out .entry)) ⌝ }
 {
     if out.len() < OUT_ENTRIES {
         return OUT_TOO_SHORT;
     }
     let ask = Ask {
+        table: mark_table,
         ceiling: Transitions(ceiling),
         allowance,
     };
@@ -117,24 +120,25 @@ pub extern "C" fn fahkelo_search(
 #[no_mangle]
 pub extern "C" fn fahkelo_next(
     file: &[u8],
+    mark_table: u16,
     earlier: &[u16],
     answer: &mut [u16],
     work: &mut [u16],
     out: &mut [u16],
 ) -> u16
-    ensures value { λ r. ⌜ r ≡ nextCall (now (file .entry)) (now (earlier .entry))
+    ensures value { λ r. ⌜ r ≡ nextCall (now (file .entry)) «mark_table» (now (earlier .entry))
         (now (answer .entry)) (now (work .entry)) (now (out .entry)) .kind ⌝ }
-    ensures out { λ _. ⌜ now (out .exit) ≡ figuresIn (now (out .entry)) (nextCall (now (file .entry))
+    ensures out { λ _. ⌜ now (out .exit) ≡ figuresIn (now (out .entry)) (nextCall (now (file .entry)) «mark_table»
         (now (earlier .entry)) (now (answer .entry)) (now (work .entry)) (now (out .entry))) ⌝ }
-    ensures answer { λ _. ⌜ now (answer .exit) ≡ answerAfterNext (now (file .entry)) (now (earlier .entry))
+    ensures answer { λ _. ⌜ now (answer .exit) ≡ answerAfterNext (now (file .entry)) «mark_table» (now (earlier .entry))
         (now (answer .entry)) (now (work .entry)) (now (out .entry)) ⌝ }
-    ensures work { λ _. ⌜ now (work .exit) ≡ workAfterCall (now (file .entry)) (now (work .entry))
+    ensures work { λ _. ⌜ now (work .exit) ≡ workAfterCall (now (file .entry)) «mark_table» (now (work .entry))
         (now (out .entry)) ⌝ }
 {
     if out.len() < OUT_ENTRIES {
         return OUT_TOO_SHORT;
     }
-    let followed = next(file, earlier, answer, work);
+    let followed = next(file, mark_table, earlier, answer, work);
     report_next(followed, out)
 }
 
@@ -142,19 +146,20 @@ pub extern "C" fn fahkelo_next(
 #[no_mangle]
 pub extern "C" fn fahkelo_grade(
     file: &[u8],
+    mark_table: u16,
     list: &[u16],
     k: u16,
     place: &mut [usize],
     work: &mut [u16],
     out: &mut [u16],
 ) -> u16
-    ensures value { λ r. ⌜ r ≡ gradeCall (now (file .entry)) (now (list .entry)) k
+    ensures value { λ r. ⌜ r ≡ gradeCall (now (file .entry)) «mark_table» (now (list .entry)) k
         (now (place .entry)) (now (work .entry)) (now (out .entry)) .kind ⌝ }
-    ensures out { λ _. ⌜ now (out .exit) ≡ figuresIn (now (out .entry)) (gradeCall (now (file .entry))
+    ensures out { λ _. ⌜ now (out .exit) ≡ figuresIn (now (out .entry)) (gradeCall (now (file .entry)) «mark_table»
         (now (list .entry)) k (now (place .entry)) (now (work .entry)) (now (out .entry))) ⌝ }
-    ensures place { λ _. ⌜ now (place .exit) ≡ placeAfterGrade (now (file .entry)) (now (list .entry)) k
+    ensures place { λ _. ⌜ now (place .exit) ≡ placeAfterGrade (now (file .entry)) «mark_table» (now (list .entry)) k
         (now (place .entry)) (now (work .entry)) (now (out .entry)) ⌝ }
-    ensures work { λ _. ⌜ now (work .exit) ≡ workAfterGrade (now (file .entry)) (now (place .entry))
+    ensures work { λ _. ⌜ now (work .exit) ≡ workAfterGrade (now (file .entry)) «mark_table» (now (place .entry))
         (now (work .entry)) (now (out .entry)) ⌝ }
 {
     if out.len() < OUT_ENTRIES {
@@ -163,7 +168,7 @@ pub extern "C" fn fahkelo_grade(
     if place.len() < PLACE_ENTRIES {
         return OUT_TOO_SHORT;
     }
-    let graded = grade(file, list, k, work);
+    let graded = grade(file, mark_table, list, k, work);
     report_grade(graded, place, out)
 }
 
@@ -182,7 +187,7 @@ pub extern "C" fn fahkelo_distances(
         (now (output .entry)) (now (work .entry)) (now (out .entry))) ⌝ }
     ensures output { λ _. ⌜ now (output .exit) ≡ outputAfterDistances (now (file .entry)) ceiling
         (now (output .entry)) (now (work .entry)) (now (out .entry)) ⌝ }
-    ensures work { λ _. ⌜ now (work .exit) ≡ workAfterCall (now (file .entry)) (now (work .entry))
+    ensures work { λ _. ⌜ now (work .exit) ≡ workAfterCall (now (file .entry)) 0 (now (work .entry))
         (now (out .entry)) ⌝ }
 {
     if out.len() < OUT_ENTRIES {

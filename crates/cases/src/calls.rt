@@ -15,12 +15,14 @@ use table::put;
 use trials::wrong_answer;
 use trials::wrong_work;
 
-// What a case says in numbers: the least and the greatest size of the file that is lent, the ceiling, the best length
-// that a step starts from, the search's allowance, the entries of the answer table, which is also the output for the
-// distances, and of the working table that are lent; and whether the answers are printed.
+// What a case says in numbers: the least and the greatest size of the file that is lent, the mark table that step, search
+// and next name, the ceiling, the best length that a step starts from, the search's allowance, the entries of the answer
+// table, which is also the output for the distances, and of the working table that are lent; and whether the answers are
+// printed.
 pub struct CaseNumbers {
     pub from: usize,
     pub size: usize,
+    pub mark_table: u16,
     pub ceiling: u16,
     pub best: u64,
     pub allowance: u16,
@@ -80,7 +82,15 @@ fn step(file: &[u8], f: CaseNumbers) -> u64
     requires { ⌜ f .entries ≤ 24576 ⌝ }
 {
     let mut work = [0u16; 24576];
-    let code = trials::step(file, f.ceiling, 0, f.best, &mut work, f.entries);
+    let code = trials::step(
+        file,
+        f.mark_table,
+        f.ceiling,
+        0,
+        f.best,
+        &mut work,
+        f.entries,
+    );
     told(code, &work, f.shown)
 }
 
@@ -92,6 +102,7 @@ fn search(file: &[u8], f: CaseNumbers) -> u64
     let mut work = [0u16; 24576];
     let code = trials::search(
         file,
+        f.mark_table,
         f.ceiling,
         f.allowance,
         &mut answer,
@@ -108,7 +119,15 @@ fn next(file: &[u8], earlier: &[u16], f: CaseNumbers) -> u64
 {
     let mut answer = [0u16; 4097];
     let mut work = [0u16; 24576];
-    let code = trials::next(file, earlier, &mut answer, f.room, &mut work, f.entries);
+    let code = trials::next(
+        file,
+        f.mark_table,
+        earlier,
+        &mut answer,
+        f.room,
+        &mut work,
+        f.entries,
+    );
     told(code, &answer, f.shown)
 }
 
@@ -137,11 +156,11 @@ pub fn try_all(file: &[u8], earlier: &[u16], f: CaseNumbers) -> Answers
     }
 }
 
-// Looks at three tables that are spoilt on purpose and at one that is right; answers how many count as wrong.
+// Looks at four tables that are spoilt on purpose and at one that is right; answers how many count as wrong.
 pub fn spoilt() -> u64 {
     let mut table = [0u16; 8];
     fill(&mut table, VARIED);
-    let work = wrong_work(&table, 13);
+    let work = wrong_work(&table, 13) + wrong_work(&table, 22);
     put(&mut table, 5, 0);
     work + wrong_work(&table, 12) + wrong_answer(&table, 5) + wrong_answer(&table, 6)
 }

@@ -41,7 +41,7 @@ fn within(value: usize, most: usize) -> usize
 // A case's size, allowance and entries, from four places of a line, and what it shares with others.
 fn figures_at(line: &[u8], from: usize, size: usize, shown: bool, shared: Setting) -> CaseNumbers
     requires { ⌜ (size ≤ length (now line)) ⌝ }
-    ensures { λ r. ⌜ (r .size ≤ 25200) × (r .room ≤ 4097) × (r .entries ≤ 24576) ⌝ }
+    ensures { λ r. ⌜ (r .size ≤ 25800) × (r .room ≤ 4097) × (r .entries ≤ 24576) ⌝ }
 {
     let bytes = next_number(line, size);
     let allowance = next_number(line, bytes.next);
@@ -49,7 +49,8 @@ fn figures_at(line: &[u8], from: usize, size: usize, shown: bool, shared: Settin
     let entries = next_number(line, room.next);
     CaseNumbers {
         from: from,
-        size: within(bytes.value, 25200),
+        size: within(bytes.value, 25800),
+        mark_table: shared.mark_table,
         ceiling: shared.ceiling,
         best: shared.best,
         allowance: (allowance.value % 65536) as u16,
@@ -161,7 +162,7 @@ fn run_lent(
     f: CaseNumbers,
     before: Judged,
 ) -> Judged
-    requires { ⌜ (f .size ≤ 25200) × (f .room ≤ 4097) × (f .entries ≤ 24576) ⌝ }
+    requires { ⌜ (f .size ≤ 25800) × (f .room ≤ 4097) × (f .entries ≤ 24576) ⌝ }
 {
     let earlier = first(list, count);
     match mark {
@@ -174,9 +175,9 @@ fn run_lent(
 // Runs a case whose model, changes and list stand at places of its line.
 fn run_parts(line: &[u8], colon: usize, end: usize, f: CaseNumbers, before: Judged) -> Judged
     requires { ⌜ (colon ≤ length (now line)) × (end ≤ length (now line)) ⌝ }
-    requires { ⌜ (f .size ≤ 25200) × (f .room ≤ 4097) × (f .entries ≤ 24576) ⌝ }
+    requires { ⌜ (f .size ≤ 25800) × (f .room ≤ 4097) × (f .entries ≤ 24576) ⌝ }
 {
-    let mut file = [0u8; 25200];
+    let mut file = [0u8; 25800];
     let mut list = [0u16; 4097];
     let slash = find(line, end, b'/');
     put_model(byte_behind(line, colon, 2), &mut file);

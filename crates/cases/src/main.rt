@@ -36,7 +36,7 @@ fn run(script: &[u8]) -> Judged {
 }
 
 fn main() {
-    let mut input = [0u8; 40000];
+    let mut input = [0u8; 50000];
     let got = io::read_full(STDIN_FILENO, &mut input);
     let all = run(&input[..got]);
     say(

@@ -3,7 +3,7 @@ use harness::example_d;
 use harness::put_circle;
 
 // The buffer for a file.
-pub type File = [u8; 25200];
+pub type File = [u8; 25800];
 
 // Makes the buffer the file of a model: eight, nine, ring and over are rings of 8, 9, 4,096 and 4,097 states, ladder has
 // 2,048 rungs, D is the example. Any other letter stands for a buffer of zeros, as which it is lent.

@@ -14,16 +14,16 @@ use harness::refusal_of;
 use harness::say;
 use harness::text;
 
-// Twenty-two counts each for the step, the search, next and the distances: first the calls that were not refused, then
+// Twenty-three counts each for the step, the search, next and the distances: first the calls that were not refused, then
 // the refusals by their number.
-type Counts = [u64; 88];
+type Counts = [u64; 92];
 
 // Counts an answer of the call whose counts begin at a place.
 fn count(counts: &mut Counts, call: usize, code: u64)
-    requires { ⌜ call ≤ 66 ⌝ }
+    requires { ⌜ call ≤ 69 ⌝ }
 {
     let refusal = refusal_of(code);
-    if refusal < 22 {
+    if refusal < 23 {
         let old = counts[call + refusal];
         if old < 1000000000 {
             counts[call + refusal] = old + 1;
@@ -34,9 +34,9 @@ fn count(counts: &mut Counts, call: usize, code: u64)
 // Counts the answers of four calls.
 fn note(counts: &mut Counts, answers: Answers) {
     count(counts, 0, answers.step);
-    count(counts, 22, answers.search);
-    count(counts, 44, answers.next);
-    count(counts, 66, answers.distances);
+    count(counts, 23, answers.search);
+    count(counts, 46, answers.next);
+    count(counts, 69, answers.distances);
 }
 
 // 0 for what was not refused, 1 for a refusal.
@@ -46,12 +46,12 @@ fn refused(refusal: usize) -> usize {
 
 // Prints the counts of one number, if it occurs: the step's, the search's, those of next and of the distances.
 fn show_number(counts: &Counts, refusal: usize)
-    requires { ⌜ refusal < 22 ⌝ }
+    requires { ⌜ refusal < 23 ⌝ }
 {
     let a = counts[refusal];
-    let b = counts[22 + refusal];
-    let c = counts[44 + refusal];
-    let d = counts[66 + refusal];
+    let b = counts[23 + refusal];
+    let c = counts[46 + refusal];
+    let d = counts[69 + refusal];
     if a | b | c | d == 0 {
         return;
     }
@@ -70,7 +70,7 @@ fn show_number(counts: &Counts, refusal: usize)
 // Prints a line for each number that occurs.
 fn show_counts(counts: &Counts) {
     let mut refusal = 0;
-    while refusal < 22 {
+    while refusal < 23 {
         show_number(counts, refusal);
         refusal += 1;
     }
@@ -78,7 +78,7 @@ fn show_counts(counts: &Counts) {
 
 // The four calls on the first bytes of a buffer, on a line.
 pub fn once(file: &File, earlier: &[u16], f: CaseNumbers, before: Judged) -> Judged
-    requires { ⌜ (f .size ≤ 25200) × (f .room ≤ 4097) × (f .entries ≤ 24576) ⌝ }
+    requires { ⌜ (f .size ≤ 25800) × (f .room ≤ 4097) × (f .entries ≤ 24576) ⌝ }
 {
     let answers = try_all(part(file, 0, f.size), earlier, f);
     text(b"\n");
@@ -87,9 +87,9 @@ pub fn once(file: &File, earlier: &[u16], f: CaseNumbers, before: Judged) -> Jud
 
 // The first bytes of a buffer, at every length from the least up to the greatest.
 pub fn lengths(file: &File, earlier: &[u16], f: CaseNumbers, before: Judged) -> Judged
-    requires { ⌜ (f .size ≤ 25200) × (f .room ≤ 4097) × (f .entries ≤ 24576) ⌝ }
+    requires { ⌜ (f .size ≤ 25800) × (f .room ≤ 4097) × (f .entries ≤ 24576) ⌝ }
 {
-    let mut counts = [0u64; 88];
+    let mut counts = [0u64; 92];
     let mut so_far = before;
     let mut size = f.from;
     while size <= f.size {
@@ -111,7 +111,7 @@ fn with_value(
     earlier: &[u16],
     f: CaseNumbers,
 ) -> Answers
-    requires { ⌜ (f .size ≤ 25200) × (f .room ≤ 4097) × (f .entries ≤ 24576) ⌝ }
+    requires { ⌜ (f .size ≤ 25800) × (f .room ≤ 4097) × (f .entries ≤ 24576) ⌝ }
 {
     put_byte(file, at, value);
     let answers = try_all(part(file, 0, f.size), earlier, f);
@@ -121,9 +121,9 @@ fn with_value(
 
 // Every one of the first bytes of a buffer changed to every other value.
 pub fn changes(file: &mut File, earlier: &[u16], f: CaseNumbers, before: Judged) -> Judged
-    requires { ⌜ (f .size ≤ 25200) × (f .room ≤ 4097) × (f .entries ≤ 24576) ⌝ }
+    requires { ⌜ (f .size ≤ 25800) × (f .room ≤ 4097) × (f .entries ≤ 24576) ⌝ }
 {
-    let mut counts = [0u64; 88];
+    let mut counts = [0u64; 92];
     let mut so_far = before;
     let mut turn = 0;
     while turn < 256 * f.size {

@@ -19,7 +19,7 @@ use Rattle.outcomes.proofs.ReadBack.{loses-nothing}
 use Rattle.writer.specs.File.{edgeTotal, fileOf}
 use Rattle.writer.specs.Holds.{Writable}
 use Rattle.writer.proofs.ReadLaws.{file-reserved}
-use Rattle.writer.proofs.HoldsLaws.{files-hold}
+use Rattle.writer.proofs.HoldsLaws.{file-laid-out, files-hold}
 use Rattle.product.specs.Product.{product}
 use Rattle.product.specs.Paths.{Combines}
 use Rattle.product.proofs.ProductLaws.{product-well-formed, product-marks}
@@ -36,21 +36,21 @@ use Rattle.combine.proofs.ReasonLaws.{firstBehind, reasons-behind-decid
 
 -- the combined model of a combination that is not refused can be written, and combines the rule with the property
 written-model : (f letters p : List ℕ) (out : ℕ) → combineBroken f letters p out ≡ none
-    → Writable (combined f letters p) × Combines (combined f letters p) (graphOf f) (letterOf letters) (propertyOf p)
+    → Writable (combined f letters p) × Combines (combined f letters p) (graphOf f 0) (letterOf letters) (propertyOf p)
 written-model f letters p out e =
     let accepted : Accepted f = append-clear (rules f) (drop 11 (combineReasons f letters p out)) e in
     let own = none-clear (drop 11 (combineReasons f letters p out)) (sym (clear-append (rules f) (drop 11 (combineReasons f letters p out)) accepted) ∙ e) in
     let property = own .1 .0 in
     let large = own .1 .1 .0 in
-    let rule-formed = accepted-well-formed f accepted in
+    let rule-formed = accepted-well-formed f 0 accepted in
     let property-formed = property-well-formed (bad-kept p property) in (
       record {
-        well-formed = product-well-formed (graphOf f) (letterOf letters) (propertyOf p) rule-formed property-formed;
-        marks-states = product-marks (graphOf f) (letterOf letters) (propertyOf p);
+        well-formed = product-well-formed (graphOf f 0) (letterOf letters) (propertyOf p) rule-formed property-formed;
+        marks-states = product-marks (graphOf f 0) (letterOf letters) (propertyOf p);
         states-limit = nltb→le 4096 (combined f letters p .size) (neither-l (ltb 4096 (combined f letters p .size)) (ltb 8192 (edgeTotal (combined f letters p))) large);
         edges-limit = nltb→le 8192 (edgeTotal (combined f letters p)) (neither-r (ltb 4096 (combined f letters p .size)) (ltb 8192 (edgeTotal (combined f letters p))) large);
       },
-      product-combines (graphOf f) (letterOf letters) (propertyOf p) rule-formed property-formed,
+      product-combines (graphOf f 0) (letterOf letters) (propertyOf p) rule-formed property-formed,
     )
 
 -- bytes 6–7 of the file that a combination writes are zero
@@ -67,9 +67,11 @@ combination-holds f letters p out e =
       output-is = ap (λ (o : Option ℕ). written (unlessRefused o (some (combinedFile f letters p))) out) e;
       bytes-limit = omega (arith, back .file-length, model .0 .states-limit, model .0 .edges-limit);
       accepted = back .accepted;
+      one-table = file-laid-out (combined f letters p) .length-is;
       reserved-zero = zero-written f letters p;
       same-graph = back .same-graph;
-      combines = subst (λ (c : Graph). Combines c (graphOf f) (letterOf letters) (propertyOf p)) (sym (back .same-graph)) (model .1);
+      no-second-marks = back .no-second-marks;
+      combines = subst (λ (c : Graph). Combines c (graphOf f 0) (letterOf letters) (propertyOf p)) (sym (back .same-graph)) (model .1);
     }
 
 -- an answer that says so many bytes says how many the file has: no more than 25,114
@@ -85,7 +87,7 @@ same-combined : {f f' : List ℕ} → SameButMarks f f' → (letters p : List �
 same-combined {f} {f'} same letters p =
     let with : ℕ → ℕ → (ℕ → List ℕ) → Graph =
     λ n i ss. product (record { size = n; start = i; succs = ss; marked = λ s. false }) (letterOf letters) (propertyOf p) in
-    ap₂ (λ (n i : ℕ). with n i (graphOf f .succs)) (same .same-states) (same .same-initial)
+    ap₂ (λ (n i : ℕ). with n i (graphOf f 0 .succs)) (same .same-states) (same .same-initial)
     ∙ ap (with (states f') (initial f')) (fun-ext (same .same-edges))
 
 -- the rule's own marks are not used
@@ -123,4 +125,17 @@ combine-loses-nothing = loses-nothing combineOutcomeOf readAnswer read-back
 
 -- the worked examples
 pub examples-of-combining : ExamplesOfCombining
-examples-of-combining = record { bytes = refl; output = refl; short = refl; untouched = refl; shortest = refl; second = refl; staying-rule = refl; ended-property = refl }
+examples-of-combining =
+    record {
+      bytes = refl;
+      output = refl;
+      short = refl;
+      untouched = refl;
+      shortest = refl;
+      second = refl;
+      staying-rule = refl;
+      ended-property = refl;
+      two-tables-rule = refl;
+      two-tables-property = refl;
+      either-role = refl;
+    }

@@ -34,23 +34,23 @@ agreeing-none p letter q none =
 module _ (f letters p : List ℕ) (s q : ℕ) (less : q < states p) where
   -- the successors of a pair, by its two states
   pair-succs : combined f letters p .succs (pairNumber (propertyOf p) s q)
-      ≡ pairSuccs (graphOf f) (propertyOf p) (letterOf letters s) s q
+      ≡ pairSuccs (graphOf f 0) (propertyOf p) (letterOf letters s) s q
   pair-succs =
-      ap₂ (λ (r t : ℕ). pairSuccs (graphOf f) (propertyOf p) (letterOf letters r) r t)
+      ap₂ (λ (r t : ℕ). pairSuccs (graphOf f 0) (propertyOf p) (letterOf letters r) r t)
       (pair-div (states p) s q less) (pair-mod (states p) s q less)
 
 pub steps-of-rule-alone : StepsOfRuleAlone
 steps-of-rule-alone f letters p =
     record {
       rule-stays = λ s q l less one none.
-          let alone : graphOf f .succs s ≡ s ∷ [] =
-          succs-row f (headerOf f) s l
+          let alone : graphOf f 0 .succs s ≡ s ∷ [] =
+          succs-row f (headerOf f 0) s l
           ∙ ap₂ (λ (b : Bool) (ts : List ℕ). withImplied b s ts) (eq-eqb (reserved f) 1 one) none in
           let next : ℕ → List ℕ = λ t. map (pairNumber (propertyOf p) t) (agreeing (propertyOf p) (letterOf letters s) q) in
           pair-succs f letters p s q less ∙ ap (collect next) alone ∙ append-nil (next s);
       property-ends = λ s q less none.
           let next : List ℕ → ℕ → List ℕ = λ qs t. map (pairNumber (propertyOf p) t) qs in
           pair-succs f letters p s q less
-          ∙ ap (λ (qs : List ℕ). collect (next qs) (graphOf f .succs s)) (agreeing-none p (letterOf letters s) q none)
-          ∙ collect-none (graphOf f .succs s);
+          ∙ ap (λ (qs : List ℕ). collect (next qs) (graphOf f 0 .succs s)) (agreeing-none p (letterOf letters s) q none)
+          ∙ collect-none (graphOf f 0 .succs s);
     }

@@ -21,7 +21,7 @@ use Rattle.combine.specs.Claim.{PropertyReservedUnused}
 module _ (f letters : List ℕ) {p p' : List ℕ} (same : SameButReserved p p') (five : badReserved p ≡ badReserved p') where
   -- the combined model is the same
   same-model : combined f letters p ≡ combined f letters p'
-  same-model = ap (product (graphOf f) (letterOf letters)) (same-property same five .1)
+  same-model = ap (product (graphOf f 0) (letterOf letters)) (same-property same five .1)
 
   -- each reason holds with both or with neither
   same-reasons : (room : ℕ) → combineReasons f letters p room ≡ combineReasons f letters p' room

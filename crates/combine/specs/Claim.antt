@@ -2,10 +2,11 @@
 -- but to reason 5; and whose implied steps it has.
 use Prim.Native.Nat.{ℕ, _≤_, _<_}
 use mathlib.Core.Path.{_≡_}
+use mathlib.Core.Bool.{false}
 use mathlib.Core.List.{List, [], _++_, map}
 use mathlib.Core.Option.{none}
 use lib.ListN.{length, drop}
-use Rattle.format.specs.Layout.{states, initial, reserved, rowTargets}
+use Rattle.format.specs.Layout.{states, edgeCount, initial, reserved, totalOf, rowTargets}
 use Rattle.format.specs.Rules.{badReserved, Accepted}
 use Rattle.model.specs.Model.{graphOf}
 use Rattle.product.specs.Product.{pairNumber, agreeing}
@@ -21,26 +22,28 @@ pub record CombinationWritten (f letters p output : List ℕ) : Type 0 where
   pub bytes-are : combineOutcome f letters p (length output) ≡ answered (length (combinedFile f letters p))
   pub output-is : combineOutput f letters p output ≡ combinedFile f letters p ++ drop (length (combinedFile f letters p)) output
   pub bytes-limit : length (combinedFile f letters p) ≤ 25114
-  -- the reader accepts the file, whose bytes 6–7 are zero
+  -- the reader accepts the file, which has one mark table and whose bytes 6–7 are zero
   pub accepted : Accepted (combinedFile f letters p)
+  pub one-table : length (combinedFile f letters p) ≡ totalOf (states (combinedFile f letters p)) (edgeCount (combinedFile f letters p))
   pub reserved-zero : reserved (combinedFile f letters p) ≡ 0
-  -- its graph is the combined model
-  pub same-graph : graphOf (combinedFile f letters p) ≡ combined f letters p
+  -- its graph by mark table 0 is the combined model, and mark table 1 holds no marks
+  pub same-graph : graphOf (combinedFile f letters p) 0 ≡ combined f letters p
+  pub no-second-marks : (s : ℕ) → graphOf (combinedFile f letters p) 1 .marked s ≡ false
   -- its states, edges and marks are as told, and its paths are exactly the pairs of paths that agree on letters
-  pub combines : Combines (graphOf (combinedFile f letters p)) (graphOf f) (letterOf letters) (propertyOf p)
+  pub combines : Combines (graphOf (combinedFile f letters p) 0) (graphOf f 0) (letterOf letters) (propertyOf p)
 
 -- So it is for every combination that is not refused.
 abbrev pub CombinationHolds : Type 0
 CombinationHolds = (f letters p output : List ℕ) → combineBroken f letters p (length output) ≡ none → CombinationWritten f letters p output
 
--- Two rules with the same states, initial state and edges; their marks may differ.
+-- Two rules with the same states, initial state and edges; their marks may differ, and how many mark tables they have.
 pub record SameButMarks (f f' : List ℕ) : Type 0 where
   pub same-states : states f ≡ states f'
   pub same-initial : initial f ≡ initial f'
-  pub same-edges : (s : ℕ) → graphOf f .succs s ≡ graphOf f' .succs s
+  pub same-edges : (s : ℕ) → graphOf f 0 .succs s ≡ graphOf f' 0 .succs s
 
--- The rule's own marks are not used: with two accepted rules that differ in their marks alone a combination answers and
--- writes the same.
+-- The rule's own marks are not used: with two accepted rules that differ in their mark tables alone, one table or two, a
+-- combination answers and writes the same.
 abbrev pub RuleMarksUnused : Type 0
 RuleMarksUnused = (f f' letters p output : List ℕ) → Accepted f → Accepted f' → SameButMarks f f'
     → (combineOutcome f letters p (length output) ≡ combineOutcome f' letters p (length output))

@@ -122,19 +122,53 @@ endedResult =
     0 ∷ 0 ∷ 0 ∷ 0 ∷
     1 ∷ []
 
+-- A fourth, for mark tables: the second example's rule with a second mark table, in which state 1 is marked,
+abbrev pub twoTablesRule : List ℕ
+twoTablesRule =
+    2 ∷ 0 ∷ 3 ∷ 0 ∷ 1 ∷ 0 ∷ 0 ∷ 0 ∷
+    24 ∷ 0 ∷ 0 ∷ 0 ∷ 30 ∷ 0 ∷ 0 ∷ 0 ∷ 36 ∷ 0 ∷ 0 ∷ 0 ∷ 38 ∷ 0 ∷ 0 ∷ 0 ∷
+    0 ∷ 0 ∷ 1 ∷ 0 ∷ 3 ∷ 0 ∷
+    1 ∷ 0 ∷ 0 ∷ 0 ∷ 1 ∷ 0 ∷
+    1 ∷ 2 ∷ []
+
+-- the property of the third with a second mark table before its mask,
+abbrev pub twoTablesProperty : List ℕ
+twoTablesProperty =
+    1 ∷ 0 ∷ 1 ∷ 0 ∷ 0 ∷ 0 ∷ 0 ∷ 0 ∷
+    24 ∷ 0 ∷ 0 ∷ 0 ∷ 28 ∷ 0 ∷ 0 ∷ 0 ∷ 30 ∷ 0 ∷ 0 ∷ 0 ∷ 34 ∷ 0 ∷ 0 ∷ 0 ∷
+    0 ∷ 0 ∷ 1 ∷ 0 ∷
+    0 ∷ 0 ∷
+    1 ∷ 1 ∷
+    8 ∷ 0 ∷ []
+
+-- and a file of nine states, 0→0, whose last two bytes are its second mark table, if it is a rule, or its mask, if it is a
+-- property: 3 is marked, or the letter is 3
+abbrev pub eitherRole : List ℕ
+eitherRole =
+    9 ∷ 0 ∷ 1 ∷ 0 ∷ 0 ∷ 0 ∷ 0 ∷ 0 ∷
+    24 ∷ 0 ∷ 0 ∷ 0 ∷ 44 ∷ 0 ∷ 0 ∷ 0 ∷ 46 ∷ 0 ∷ 0 ∷ 0 ∷ 50 ∷ 0 ∷ 0 ∷ 0 ∷
+    0 ∷ 0 ∷ 1 ∷ 0 ∷ 1 ∷ 0 ∷ 1 ∷ 0 ∷ 1 ∷ 0 ∷ 1 ∷ 0 ∷ 1 ∷ 0 ∷ 1 ∷ 0 ∷ 1 ∷ 0 ∷ 1 ∷ 0 ∷
+    0 ∷ 0 ∷
+    1 ∷ 0 ∷
+    8 ∷ 0 ∷ []
+
 -- what the example's combination answers with so many bytes of output
 abbrev pub exampleAnswer : ℕ → Outcome ℕ
 exampleAnswer room = combineOutcome exampleRule exampleLetters exampleProperty room
 
 -- The examples: 43 bytes are written and a later byte does not change; with 42 bytes of output it is refused 15, and the
 -- output is untouched; the shortest accepting path of the result is 0 2 1 2, the only one. The second one's 57 bytes.
--- In the third the rule stays, and the property never does.
+-- In the third the rule stays, and the property never does. In the fourth the rule may have two mark tables, of which the
+-- result has nothing, and the property may not; one file passes in both roles, with a result of 81 states and one edge.
 pub record ExamplesOfCombining : Type 0 where
   pub bytes : exampleAnswer 45 ≡ answered 43
   pub output : combineOutput exampleRule exampleLetters exampleProperty (replicate 45 9) ≡ exampleResult ++ 9 ∷ 9 ∷ []
   pub short : exampleAnswer 42 ≡ refused 15
   pub untouched : combineOutput exampleRule exampleLetters exampleProperty (replicate 42 9) ≡ replicate 42 9
-  pub shortest : roll (graphOf exampleResult) ≡ (0 ∷ 2 ∷ 1 ∷ 2 ∷ []) ∷ []
+  pub shortest : roll (graphOf exampleResult 0) ≡ (0 ∷ 2 ∷ 1 ∷ 2 ∷ []) ∷ []
   pub second : combineOutput secondRule secondLetters secondProperty (replicate 57 9) ≡ secondResult
   pub staying-rule : combineOutput stayingRule stayingLetters loopProperty (replicate 31 9) ≡ loopResult
   pub ended-property : combineOutput stayingRule stayingLetters endedProperty (replicate 29 9) ≡ endedResult
+  pub two-tables-rule : combineOutput twoTablesRule secondLetters secondProperty (replicate 57 9) ≡ secondResult
+  pub two-tables-property : combineOutcome stayingRule stayingLetters twoTablesProperty 31 ≡ refused 17
+  pub either-role : combineOutcome eitherRole (replicate 9 3) eitherRole 201 ≡ answered 201

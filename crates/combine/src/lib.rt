@@ -1,7 +1,6 @@
 // A public operation: the combination of a rule with a property, written as a model file.
 ghost use mathlib.Core.Path.{_≡_};
 ghost use mathlib.Core.Bool.{false};
-ghost use Prim.Native.Nat.{_≤_};
 ghost use lib.ListN.{length};
 ghost use Rattle.format.specs.Layout.{states};
 ghost use Rattle.model.specs.Values.{Valid};
@@ -23,8 +22,9 @@ pub enum CombineAnswer {
 }
 
 // Combines a rule, whose states have the letters, with a property, and writes the combination as a model file from the
-// first byte of the output on. Refused: the rule's 1 to 11, 16 for the letters, 17 for the property, 18 for a result that
-// is too large, 15 for an output that is too short.
+// first byte of the output on. The rule has one mark table or two, which are not used, the property and the combination
+// have one. Refused: the rule's 1 to 11, 16 for the letters, 17 for the property, 18 for a result that is too large, 15
+// for an output that is too short.
 pub fn combine(rule: &[u8], letters: &[u8], property: &[u8], output: &mut [u8]) -> CombineAnswer
     ensures outcome { λ r. ⌜ combineOutcomeOf r ≡ combineOutcome (now (rule .entry)) (now (letters .entry))
         (now (property .entry)) (length (now (output .entry))) ⌝ }

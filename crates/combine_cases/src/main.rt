@@ -80,7 +80,7 @@ fn ends_of(line: &[u8]) -> Ends
 fn run_parts(line: &[u8], e: Ends, space: usize, expected: usize) -> Seen
     requires { ⌜ (e .name ≤ e .rule) × (e .rule ≤ e .letters) × (e .letters ≤ e .property) × (e .property ≤ length (now line)) ⌝ }
 {
-    let mut rule = [0u8; 25200];
+    let mut rule = [0u8; 25700];
     let mut letters = [0u8; 4200];
     let mut property = [0u8; 41600];
     let rule_size = make(part(line, e.name, e.rule), &mut rule);

@@ -1,5 +1,6 @@
 // The combinations that are compared: all rules of one to three states, without implied steps and with them, and all
-// properties of one and two, with letters, masks, faults and what bytes 6–7 of the property hold from a generator.
+// properties of one and two, with letters, masks, faults, the rule's mark tables and what bytes 6–7 of the property hold from
+// a generator.
 ghost use Prim.Native.Nat.{_≤_, _<_};
 use exhaustive::Model;
 use exhaustive::drawn;
@@ -10,9 +11,12 @@ const RULES: u64 = 1570;
 const PROPERTIES: u64 = 132;
 
 // A rule with its letters and a property with its masks. Byte s of the letters is the letter of state s. The mask of the
-// edge from q to t is the 16-bit number at place 2 × q + t of the masks. The faults are a set of the places below.
+// edge from q to t is the 16-bit number at place 2 × q + t of the masks. The faults are a set of the places below. If the
+// rule has two mark tables, the second has the marks `second`; the result is the same without it.
 pub struct Combination {
     pub rule: Model,
+    pub two_tables: bool,
+    pub second: u64,
     pub property: Model,
     pub letters: u64,
     pub masks: u64,
@@ -33,8 +37,13 @@ pub const OUTPUT_SHORT: usize = 20;
 
 const LETTERS_HIGH: usize = 21;
 
-// The bit of a draw that bytes 6–7 of the property are taken from.
+// The bits of a draw that bytes 6–7 of the property, whether the rule has two mark tables, and the marks of the second are
+// taken from.
 const PROPERTY_STAYS: usize = 40;
+
+const RULE_TABLES: usize = 41;
+
+const SECOND_MARKS: usize = 42;
 
 // Whether a set holds a number.
 pub fn holds(set: u64, at: usize) -> bool {
@@ -81,6 +90,15 @@ fn rule_at(number: u64, x: u64, stays: bool) -> Model
         edges: edges_of(3, (number - 34) / 3),
         marks: x % 8,
         stays: stays,
+    }
+}
+
+// The marks of so many states that a draw gives.
+fn marks_of(states: usize, x: u64) -> u64 {
+    match states {
+        1 => x % 2,
+        2 => x % 4,
+        _ => x % 8,
     }
 }
 
@@ -154,9 +172,12 @@ pub fn drawn_at(number: u64) -> Combination
     let v = drawn(z);
     let faults = faults_if(number, z & v);
     let masks = masks_of(x, y, z >> 8);
-    let rule = number / 2 / PROPERTIES;
+    let turn = number / 2 / PROPERTIES;
+    let rule = rule_at(turn % RULES, v, turn / RULES % 2 == 1);
     Combination {
-        rule: rule_at(rule % RULES, v, rule / RULES % 2 == 1),
+        rule: rule,
+        two_tables: holds(v, RULE_TABLES),
+        second: marks_of(rule.states, v >> SECOND_MARKS),
         property: property_at(number / 2 % PROPERTIES, holds(v, PROPERTY_STAYS)),
         letters: letters_of(y >> 16, holds(faults, LETTERS_HIGH)),
         masks: with_zero(masks, faults % 8),

@@ -11,6 +11,7 @@ use crate::pairs::mask;
 use combine_trials::Tried;
 use exhaustive::Model;
 use harness::part;
+use harness::put_byte;
 use harness::put16;
 
 // A buffer for a file, longer than any.
@@ -55,6 +56,21 @@ fn write_property(file: &mut [u8], m: Model, masks: u64) -> usize
     at
 }
 
+// Writes a rule: the file of its model, and behind it the second mark table, if it has one, which the total length counts.
+fn write_rule(file: &mut [u8], c: Combination) -> usize
+    requires { ⌜ c .rule .states ≤ 3 ⌝ }
+    ensures { λ r. ⌜ r ≤ 180 ⌝ }
+{
+    let m = c.rule;
+    let size = exhaustive::write(file, m, m.states);
+    if c.two_tables {
+        put_byte(file, size, c.second as usize);
+        put16(file, 20, size + 1);
+        return size + 1;
+    }
+    size
+}
+
 // How many letters are lent: as many as there are states, one fewer or one more.
 fn letters_lent(states: usize, faults: u64) -> usize
     requires { ⌜ states ≤ 3 ⌝ }
@@ -95,9 +111,9 @@ pub fn call(c: Combination, out: &mut File, space: usize) -> Tried
 {
     let mut rule = [0u8; 180];
     let letters = letter_table(c.letters);
-    let m = c.rule;
-    let size = exhaustive::write(&mut rule, m, m.states);
+    let size = write_rule(&mut rule, c);
     let end = lent(size, holds(c.faults, RULE_SHORT));
+    let m = c.rule;
     let count = letters_lent(m.states, c.faults);
     call_with(part(&rule, 0, end), part(&letters, 0, count), c, out, space)
 }

@@ -31,13 +31,22 @@ fn right(m: Model) -> Seen {
     exhaustive::of_search(t, &roll, 65535, 16, false)
 }
 
-// The search of the file of a model.
+// The search of the file of a model, by mark table 0.
 pub fn search(m: Model, file: &[u8]) -> Searched
     requires { ⌜ m .states ≤ 7 ⌝ }
 {
     let mut table = [0u16; 16];
     let mut work = [0u16; 48];
-    let code = trials::search(file, 4096, 65535, &mut table, 16, &mut work, 6 * m.states);
+    let code = trials::search(
+        file,
+        0,
+        4096,
+        65535,
+        &mut table,
+        16,
+        &mut work,
+        6 * m.states,
+    );
     let expected = right(m);
     let listed = begins_with(&table, expected.list, written(code));
     Searched {

@@ -1,6 +1,6 @@
 // Compares combine with a combination written apart, on all rules of up to three states, without implied steps and with
-// them, and all properties of up to two, with pseudo-random letters and masks, and a search of the result with an exhaustive
-// one; every second call has faults.
+// them, and all properties of up to two, with pseudo-random letters, masks and second mark tables of rules, and a search of
+// the result with an exhaustive one; every second call has faults.
 mod draws;
 mod files;
 mod found;
@@ -108,7 +108,7 @@ fn compare(number: u64, tally: &mut Tally) {
 }
 
 fn main() {
-    let mut tally = [0u64; 12];
+    let mut tally = [0u64; 13];
     let mut number = 0;
     while number < END {
         add(&mut tally, tally::COMBINATIONS, 1);

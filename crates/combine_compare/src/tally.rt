@@ -6,9 +6,9 @@ use harness::kind_of;
 use harness::say;
 
 // The counts in the order in which they are printed: combinations, those written, those of them whose rule and whose
-// property has an implied step, the edges in them, searches of them that found a list and that found none, refusals with
-// 7, 15, 16 and 17, differences.
-pub type Tally = [u64; 12];
+// property has an implied step, those whose rule has two mark tables, the edges in them, searches of them that found a list
+// and that found none, refusals with 7, 15, 16 and 17, differences.
+pub type Tally = [u64; 13];
 
 pub const COMBINATIONS: usize = 0;
 
@@ -18,13 +18,15 @@ const RULE_IMPLIED: usize = 2;
 
 const PROPERTY_IMPLIED: usize = 3;
 
-pub const EDGES: usize = 4;
+const TWO_TABLES: usize = 4;
 
-const DIFFERENCES: usize = 11;
+pub const EDGES: usize = 5;
+
+const DIFFERENCES: usize = 12;
 
 // Adds a small number at a place.
 pub fn add(tally: &mut Tally, at: usize, more: u64) {
-    if at < 12 {
+    if at < 13 {
         let old = tally[at];
         if old < 1000000000000 {
             if more < 1000000 {
@@ -41,28 +43,31 @@ fn add_implied(tally: &mut Tally, at: usize, m: Model) {
     }
 }
 
-// Counts a combination that is written, and the implied steps of its files.
+// Counts a combination that is written, the implied steps of its files and the mark tables of its rule.
 pub fn add_written(tally: &mut Tally, c: Combination) {
     add(tally, WRITTEN, 1);
     add_implied(tally, RULE_IMPLIED, c.rule);
     add_implied(tally, PROPERTY_IMPLIED, c.property);
+    if c.two_tables {
+        add(tally, TWO_TABLES, 1);
+    }
 }
 
 // The place of a search's answer.
 pub fn place_of_search(code: u64) -> usize {
     if kind_of(code) == SEARCH_FOUND {
-        return 5;
+        return 6;
     }
-    6
+    7
 }
 
 // The place of a refusal.
 pub fn place_of_refusal(number: usize) -> usize {
     match number {
-        7 => 7,
-        15 => 8,
-        16 => 9,
-        _ => 10,
+        7 => 8,
+        15 => 9,
+        16 => 10,
+        _ => 11,
     }
 }
 
@@ -91,9 +96,9 @@ fn show_all(number: u64, c: Combination, answer: usize, expected: usize) {
     show(c.rule);
     show(c.property);
     say(
-        b"letters #, masks #, faults #\n",
+        b"two mark tables #, marks of the second #, letters #, masks #, faults #\n",
         0,
-        &[c.letters, c.masks, c.faults],
+        &[c.two_tables as u64, c.second, c.letters, c.masks, c.faults],
     );
 }
 
@@ -108,7 +113,7 @@ pub fn differs(number: u64, c: Combination, answer: usize, expected: usize, tall
 // Prints all counts.
 pub fn print(tally: &Tally) {
     say(
-        b"combinations #\nwritten #\n  with an implied step of the rule: #\n  with an implied step of the property, not read: #\nedges #\nfound #\nnone within #\nrefused 7: #\nrefused 15: #\nrefused 16: #\nrefused 17: #\ndifferences #\n",
+        b"combinations #\nwritten #\n  with an implied step of the rule: #\n  with an implied step of the property, not read: #\n  with two mark tables of the rule: #\nedges #\nfound #\nnone within #\nrefused 7: #\nrefused 15: #\nrefused 16: #\nrefused 17: #\ndifferences #\n",
         0,
         tally,
     );

@@ -5,26 +5,42 @@ use crate::tables::put_list;
 use exhaustive::Seen;
 use harness::written;
 
-// A step under a ceiling from a record, with room for so many entries in the working table.
-pub fn step(file: &[u8], ceiling: u16, done: u16, best: u64, room: usize) -> Seen
+// A step by the marks of a table, under a ceiling and from a record, with room for so many entries in the working table.
+pub fn step(file: &[u8], mark_table: u16, ceiling: u16, done: u16, best: u64, room: usize) -> Seen
     requires { ⌜ room ≤ 48 ⌝ }
 {
     let mut work = [0u16; 48];
-    let code = trials::step(file, ceiling, done, best, &mut work, room);
+    let code = trials::step(file, mark_table, ceiling, done, best, &mut work, room);
     Seen {
         code: code,
         list: 0,
     }
 }
 
-// A search under a ceiling, with room for so many entries in the answer table and in the working table.
-pub fn search(file: &[u8], ceiling: u16, allowance: u16, space: usize, room: usize) -> Seen
+// A search by the marks of a table and under a ceiling, with room for so many entries in the answer table and in the working table.
+pub fn search(
+    file: &[u8],
+    mark_table: u16,
+    ceiling: u16,
+    allowance: u16,
+    space: usize,
+    room: usize,
+) -> Seen
     requires { ⌜ space ≤ 16 ⌝ }
     requires { ⌜ room ≤ 48 ⌝ }
 {
     let mut table = [0u16; 16];
     let mut work = [0u16; 48];
-    let code = trials::search(file, ceiling, allowance, &mut table, space, &mut work, room);
+    let code = trials::search(
+        file,
+        mark_table,
+        ceiling,
+        allowance,
+        &mut table,
+        space,
+        &mut work,
+        room,
+    );
     Seen {
         code: code,
         list: list_in(&table, written(code)),
@@ -32,28 +48,43 @@ pub fn search(file: &[u8], ceiling: u16, allowance: u16, space: usize, room: usi
 }
 
 // Next with an earlier list in a table, and with room for so many entries in the other tables.
-fn next_with(file: &[u8], earlier: &[u16], space: usize, room: usize) -> Seen
+fn next_with(file: &[u8], mark_table: u16, earlier: &[u16], space: usize, room: usize) -> Seen
     requires { ⌜ space ≤ 16 ⌝ }
     requires { ⌜ room ≤ 48 ⌝ }
 {
     let mut table = [0u16; 16];
     let mut work = [0u16; 48];
-    let code = trials::next(file, earlier, &mut table, space, &mut work, room);
+    let code = trials::next(
+        file,
+        mark_table,
+        earlier,
+        &mut table,
+        space,
+        &mut work,
+        room,
+    );
     Seen {
         code: code,
         list: list_in(&table, written(code)),
     }
 }
 
-// Next with an earlier list of so many entries, and with room for so many in the other tables.
-pub fn next(file: &[u8], list: u64, entries: usize, space: usize, room: usize) -> Seen
+// Next by the marks of a table, with an earlier list of so many entries, and with room for so many in the other tables.
+pub fn next(
+    file: &[u8],
+    mark_table: u16,
+    list: u64,
+    entries: usize,
+    space: usize,
+    room: usize,
+) -> Seen
     requires { ⌜ entries ≤ 16 ⌝ }
     requires { ⌜ space ≤ 16 ⌝ }
     requires { ⌜ room ≤ 48 ⌝ }
 {
     let mut earlier = [0u16; 16];
     put_list(&mut earlier, list, entries);
-    next_with(file, &earlier[..entries], space, room)
+    next_with(file, mark_table, &earlier[..entries], space, room)
 }
 
 // The distances up to a ceiling, with room for so many entries in the output and in the working table.

@@ -79,6 +79,7 @@ fn check_step(
     within: Truth,
     ceiling: u16,
     file: &[u8],
+    mark_table: u16,
     done: u16,
     which: usize,
     tally: &mut [u64],
@@ -86,7 +87,14 @@ fn check_step(
     let short = which == 8;
     let own = exhaustive::round_at(t, done as usize);
     let best = best_for(own, ceiling as u64, which);
-    let seen = calls::step(file, ceiling, done, best, room(t.states, short, which));
+    let seen = calls::step(
+        file,
+        mark_table,
+        ceiling,
+        done,
+        best,
+        room(t.states, short, which),
+    );
     let expected = exhaustive::of_step(within, done, best, short);
     compare(tally, STEPS, seen, expected);
     let above = (ceiling as u64) < best && best < NO_LENGTH;
@@ -94,12 +102,19 @@ fn check_step(
 }
 
 // Steps under a ceiling from every count up to one more than the candidates, and from 65,535.
-pub fn check_steps(t: Truth, within: Truth, ceiling: u16, file: &[u8], tally: &mut [u64]) {
+pub fn check_steps(
+    t: Truth,
+    within: Truth,
+    ceiling: u16,
+    file: &[u8],
+    mark_table: u16,
+    tally: &mut [u64],
+) {
     let end = exhaustive::rounds(t) + 2;
     let mut turn = 0;
     while turn < 9 * (end + 1) {
         let done = count_for(turn / 9, end);
-        check_step(t, within, ceiling, file, done, turn % 9, tally);
+        check_step(t, within, ceiling, file, mark_table, done, turn % 9, tally);
         turn += 1;
     }
 }
@@ -127,6 +142,7 @@ fn check_search(
     roll: &[u64],
     ceiling: u16,
     file: &[u8],
+    mark_table: u16,
     allowance: u16,
     which: usize,
     tally: &mut [u64],
@@ -134,7 +150,7 @@ fn check_search(
     let short = which == 4;
     let entries = space(t.least, which);
     let lent = room(t.states, short, which);
-    let seen = calls::search(file, ceiling, allowance, entries, lent);
+    let seen = calls::search(file, mark_table, ceiling, allowance, entries, lent);
     let expected = exhaustive::of_search(within, roll, allowance, entries, short);
     compare(tally, SEARCHES, seen, expected);
     seen
@@ -147,13 +163,24 @@ pub fn check_searches(
     roll: &[u64],
     ceiling: u16,
     file: &[u8],
+    mark_table: u16,
     tally: &mut [u64],
 ) {
     let end = exhaustive::rounds(t) + 2;
     let mut turn = 0;
     while turn < 5 * (end + 1) {
         let allowance = count_for(turn / 5, end);
-        check_search(t, within, roll, ceiling, file, allowance, turn % 5, tally);
+        check_search(
+            t,
+            within,
+            roll,
+            ceiling,
+            file,
+            mark_table,
+            allowance,
+            turn % 5,
+            tally,
+        );
         turn += 1;
     }
 }
@@ -163,6 +190,7 @@ fn check_next(
     t: Truth,
     roll: &[u64],
     file: &[u8],
+    mark_table: u16,
     e: Earlier,
     which: usize,
     tally: &mut [u64],
@@ -173,6 +201,7 @@ fn check_next(
     let entries = space(t.least, which);
     let seen = calls::next(
         file,
+        mark_table,
         e.list,
         e.entries,
         entries,
@@ -188,7 +217,15 @@ fn check_next(
 }
 
 // Next after one right list with each of the tables, and after the wrong ones near it.
-fn check_list(t: Truth, roll: &[u64], file: &[u8], list: u64, entries: usize, tally: &mut [u64])
+fn check_list(
+    t: Truth,
+    roll: &[u64],
+    file: &[u8],
+    mark_table: u16,
+    list: u64,
+    entries: usize,
+    tally: &mut [u64],
+)
     requires { ⌜ entries ≤ 15 ⌝ }
 {
     let mut turn = 0;
@@ -197,6 +234,7 @@ fn check_list(t: Truth, roll: &[u64], file: &[u8], list: u64, entries: usize, ta
             t,
             roll,
             file,
+            mark_table,
             near(list, entries, turn),
             tables_for(entries, turn),
             tally,
@@ -206,7 +244,7 @@ fn check_list(t: Truth, roll: &[u64], file: &[u8], list: u64, entries: usize, ta
 }
 
 // Next after each list of the roll, and after the wrong ones near it.
-pub fn check_lists(t: Truth, roll: &[u64], file: &[u8], tally: &mut [u64]) {
+pub fn check_lists(t: Truth, roll: &[u64], file: &[u8], mark_table: u16, tally: &mut [u64]) {
     let mut place = 0;
     while place < roll.len() {
         if t.lists <= place {
@@ -215,22 +253,37 @@ pub fn check_lists(t: Truth, roll: &[u64], file: &[u8], tally: &mut [u64]) {
         if 14 < t.least {
             return;
         }
-        check_list(t, roll, file, roll[place], t.least + 1, tally);
+        check_list(t, roll, file, mark_table, roll[place], t.least + 1, tally);
         place += 1;
     }
 }
 
 // Next after the empty list and after pseudo-random ones.
-pub fn check_random(m: Model, t: Truth, roll: &[u64], file: &[u8], tally: &mut [u64]) {
+pub fn check_random(
+    m: Model,
+    t: Truth,
+    roll: &[u64],
+    file: &[u8],
+    mark_table: u16,
+    tally: &mut [u64],
+) {
     let none = Earlier {
         list: 0,
         entries: 0,
     };
-    check_next(t, roll, file, none, 0, tally);
+    check_next(t, roll, file, mark_table, none, 0, tally);
     let mut x = seed_of(m);
     let mut turn = 0;
     while turn < 6 {
-        check_next(t, roll, file, random_list(x, m.initial, turn), 0, tally);
+        check_next(
+            t,
+            roll,
+            file,
+            mark_table,
+            random_list(x, m.initial, turn),
+            0,
+            tally,
+        );
         x = drawn(x);
         turn += 1;
     }
@@ -273,8 +326,8 @@ fn ended(lists: usize, code: u64, got: usize, tally: &mut [u64]) {
 }
 
 // A search and then next with the copy last received, until there are no more lists: the whole roll in order, each once.
-pub fn check_sequence(t: Truth, roll: &[u64], file: &[u8], tally: &mut [u64]) {
-    let mut s = check_search(t, t, roll, 4096, file, 65535, 0, tally);
+pub fn check_sequence(t: Truth, roll: &[u64], file: &[u8], mark_table: u16, tally: &mut [u64]) {
+    let mut s = check_search(t, t, roll, 4096, file, mark_table, 65535, 0, tally);
     let mut got = 0;
     while got < 1000 {
         if !brings_list(s.code) {
@@ -282,7 +335,7 @@ pub fn check_sequence(t: Truth, roll: &[u64], file: &[u8], tally: &mut [u64]) {
             return;
         }
         received(copy_of(s), exhaustive::list_at(roll, got), tally);
-        s = check_next(t, roll, file, copy_of(s), 0, tally);
+        s = check_next(t, roll, file, mark_table, copy_of(s), 0, tally);
         got += 1;
     }
     add(tally, DIFFERENCES, 1);

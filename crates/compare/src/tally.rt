@@ -4,38 +4,58 @@ use harness::kind_of;
 use harness::refusal_of;
 
 // Places in the tally, in the order in which they are printed: models by their number of states, models with an implied
-// step, models by the least length, models with several lists, ceilings, steps, searches, nexts and distances with the
-// kinds of their answers after each, refusals with 12 to 15 and 21, steps from a best above the ceiling, lists and
-// entries received, differences.
+// step; files with one mark table and with two, by the table that is named, files with a bit of the other marks flipped,
+// files by the least length, files with several lists; ceilings, steps, searches, nexts and distances with the kinds of
+// their answers after each, refusals with 12 to 15 and 21, steps from a best above the ceiling, lists and entries received,
+// differences.
 pub const MODELS: usize = 0;
 
 pub const IMPLIED: usize = 7;
 
-pub const LENGTHS: usize = 8;
+const FILES: usize = 8;
 
-pub const SEVERAL: usize = 16;
+pub const FLIPPED: usize = 12;
 
-pub const CEILINGS: usize = 17;
+pub const LENGTHS: usize = 13;
 
-pub const STEPS: usize = 18;
+pub const SEVERAL: usize = 21;
 
-const KINDS: usize = 19;
+pub const CEILINGS: usize = 22;
 
-pub const SEARCHES: usize = 22;
+pub const STEPS: usize = 23;
 
-pub const NEXTS: usize = 27;
+const KINDS: usize = 24;
 
-pub const DISTANCES: usize = 31;
+pub const SEARCHES: usize = 27;
 
-const REFUSED: usize = 34;
+pub const NEXTS: usize = 32;
 
-pub const ABOVE: usize = 39;
+pub const DISTANCES: usize = 36;
 
-pub const LISTS: usize = 40;
+const REFUSED: usize = 39;
 
-pub const ENTRIES: usize = 41;
+pub const ABOVE: usize = 44;
 
-pub const DIFFERENCES: usize = 42;
+pub const LISTS: usize = 45;
+
+pub const ENTRIES: usize = 46;
+
+pub const DIFFERENCES: usize = 47;
+
+// The place of a file with one mark table or two, of which one is named.
+pub fn file_at(two: bool, named: u16) -> usize {
+    let first = named == 0;
+    if two && first {
+        return FILES + 2;
+    }
+    if two {
+        return FILES + 3;
+    }
+    if first {
+        return FILES;
+    }
+    FILES + 1
+}
 
 // Adds a small number at a place.
 pub fn add(tally: &mut [u64], at: usize, more: usize) {

@@ -18,12 +18,12 @@ use Rattle.format.proofs.Reasons.{broken-append, clear-append}
 use Rattle.model.specs.Model.{graphOf}
 use Rattle.model.proofs.Laws.{accepted-facts, accepted-well-formed}
 use Rattle.gate.specs.declared.Ask.{Ask}
-use Rattle.gate.specs.Gate.{commonRules, ceilingReason}
-use Rattle.gate.proofs.GateLaws.{clear-common, ceiling-low}
+use Rattle.gate.specs.Gate.{namedRules, ceilingReason}
+use Rattle.gate.proofs.GateLaws.{clear-common, clear-named, ceiling-low}
 use Rattle.outcomes.specs.Outcome.{outcome}
 use Rattle.outcomes.specs.Tables.{listReasons, unlessRefused, written}
 use Rattle.step.specs.Step.{Stepped, finished, advanced, stepped, stepReasons}
-use Rattle.search.specs.Search.{Searched, stopped, stopsb, firstOf, searched, firstDue, searchReasons}
+use Rattle.search.specs.Search.{Searched, stopped, stopsb, firstOf, searched, firstDue, graphAsked, searchReasons}
 use Rattle.conditions.specs.FullCeiling.{wholeRound, wholeRounds, wholeSearched, wholeDue, Full, SameAsWithout}
 
 -- past the last entry stands what is given for none
@@ -68,40 +68,40 @@ same-call {A} {B} F x x' refuses common rest rest' otherwise = go (firstBroken c
         ∙ ap (λ (y : A). F (firstBroken rest') y) due
         ∙ sym (ap (λ (p : Option ℕ). F p x') (clear-append common rest' e))
 
-module _ (f : List ℕ) (ceiling : ℕ) (full : Full f ceiling) (work : ℕ) (clear : firstBroken (commonRules f work) ≡ none) where
-  -- a file that 1 to 12 do not refuse is accepted
+module _ (f : List ℕ) (t ceiling : ℕ) (full : Full f ceiling) (work : ℕ) (clear : firstBroken (namedRules f t work) ≡ none) where
+  -- a file that 22 and 1 to 12 do not refuse is accepted
   accepted : Accepted f
-  accepted = clear-common f work clear .0
+  accepted = clear-common f work (clear-named f t work clear .1) .0
 
-  wf : WellFormed (graphOf f)
-  wf = accepted-well-formed f accepted
+  wf : WellFormed (graphOf f t)
+  wf = accepted-well-formed f t accepted
 
   -- so the ceiling covers its model
-  covered : graphOf f .size ≤ ceiling
+  covered : graphOf f t .size ≤ ceiling
   covered = full .covers accepted
 
   -- a step answers the same
   stepped-same : (rec : Record)
-      → stepped (graphOf f) ceiling rec ≡ pick (finishedb (graphOf f) rec) (finished rec) (advanced (wholeRound (graphOf f) rec))
+      → stepped (graphOf f t) ceiling rec ≡ pick (finishedb (graphOf f t) rec) (finished rec) (advanced (wholeRound (graphOf f t) rec))
   stepped-same rec =
-      ap (λ (r : Record). pick (finishedb (graphOf f) rec) (finished rec) (advanced r)) (round-same wf ceiling covered rec)
+      ap (λ (r : Record). pick (finishedb (graphOf f t) rec) (finished rec) (advanced r)) (round-same wf ceiling covered rec)
 
   -- the reasons of a step behind the common ones do not hold
-  step-reasons : firstBroken (stepReasons f ceiling work) ≡ firstBroken []
-  step-reasons = ceiling-low f work ceiling [] clear (full .low)
+  step-reasons : firstBroken (stepReasons f t ceiling work) ≡ firstBroken []
+  step-reasons = ceiling-low (namedRules f t work) ceiling [] clear (full .low)
 
-module _ (f : List ℕ) (ask : Ask) (full : Full f (ask .ceiling .0)) (work : ℕ) (clear : firstBroken (commonRules f work) ≡ none) where
+module _ (f : List ℕ) (ask : Ask) (full : Full f (ask .ceiling .0)) (work : ℕ) (clear : firstBroken (namedRules f (ask .table) work) ≡ none) where
   abbrev g : Graph
-  g = graphOf f
+  g = graphAsked f ask
 
   roll-same : rollWithin g (ask .ceiling .0) ≡ roll g
-  roll-same = roll-full g (ask .ceiling .0) (covered f (ask .ceiling .0) full work clear)
+  roll-same = roll-full g (ask .ceiling .0) (covered f (ask .table) (ask .ceiling .0) full work clear)
 
   -- a search answers the same
   searched-same : searched g ask ≡ wholeSearched g (ask .allowance)
   searched-same =
       ap (λ (r : Record). pick (stopsb g (ask .allowance)) (stopped r) (firstOf (rollWithin g (ask .ceiling .0)) (length (candidates g))))
-      (rounds-same (wf f (ask .ceiling .0) full work clear) (ask .ceiling .0) (covered f (ask .ceiling .0) full work clear) (ask .allowance))
+      (rounds-same (wf f (ask .table) (ask .ceiling .0) full work clear) (ask .ceiling .0) (covered f (ask .table) (ask .ceiling .0) full work clear) (ask .allowance))
       ∙ ap (λ (rs : List (List ℕ)). pick (stopsb g (ask .allowance)) (stopped (wholeRounds g (ask .allowance))) (firstOf rs (length (candidates g)))) roll-same
 
   -- and the same list is due
@@ -109,24 +109,24 @@ module _ (f : List ℕ) (ask : Ask) (full : Full f (ask .ceiling .0)) (work : �
   due-same = ap (λ (rs : List (List ℕ)). pick (stopsb g (ask .allowance)) none (head? rs)) roll-same
 
   -- so the reasons behind the common ones are the same
-  search-reasons : (answer : ℕ) → firstBroken (searchReasons f ask answer work) ≡ firstBroken (listReasons f (wholeDue g (ask .allowance)) answer)
+  search-reasons : (answer : ℕ) → firstBroken (searchReasons f ask answer work) ≡ firstBroken (listReasons g (wholeDue g (ask .allowance)) answer)
   search-reasons answer =
-      ceiling-low f work (ask .ceiling .0) (listReasons f (firstDue g ask) answer) clear (full .low)
-      ∙ ap (λ (due : Option (List ℕ)). firstBroken (listReasons f due answer)) due-same
+      ceiling-low (namedRules f (ask .table) work) (ask .ceiling .0) (listReasons g (firstDue g ask) answer) clear (full .low)
+      ∙ ap (λ (due : Option (List ℕ)). firstBroken (listReasons g due answer)) due-same
 
 -- with a full ceiling all is as without one
 pub same-as-without : SameAsWithout
 same-as-without = record {
-  step = λ f ceiling rec work full.
-      same-call (λ (o : Option ℕ) (s : Stepped). outcome o s) _ _ (λ n. refl) (commonRules f work) (ceilingReason ceiling ∷ []) []
-      (λ clear. (step-reasons f ceiling full work clear, stepped-same f ceiling full work clear rec));
+  step = λ f t ceiling rec work full.
+      same-call (λ (o : Option ℕ) (s : Stepped). outcome o s) _ _ (λ n. refl) (namedRules f t work) (ceilingReason ceiling ∷ []) []
+      (λ clear. (step-reasons f t ceiling full work clear, stepped-same f t ceiling full work clear rec));
   search = λ f ask answer work full.
-      same-call (λ (o : Option ℕ) (s : Searched). outcome o s) _ _ (λ n. refl) (commonRules f work)
-      (ceilingReason (ask .ceiling .0) ∷ listReasons f (firstDue (graphOf f) ask) answer) (listReasons f (wholeDue (graphOf f) (ask .allowance)) answer)
+      same-call (λ (o : Option ℕ) (s : Searched). outcome o s) _ _ (λ n. refl) (namedRules f (ask .table) work)
+      (ceilingReason (ask .ceiling .0) ∷ listReasons (graphAsked f ask) (firstDue (graphAsked f ask) ask) answer) (listReasons (graphAsked f ask) (wholeDue (graphAsked f ask) (ask .allowance)) answer)
       (λ clear. (search-reasons f ask full work clear answer, searched-same f ask full work clear));
   table = λ f ask a work full.
-      same-call (λ (o : Option ℕ) (due : Option (List ℕ)). written (unlessRefused o due) a) _ _ (λ n. refl) (commonRules f work)
-      (ceilingReason (ask .ceiling .0) ∷ listReasons f (firstDue (graphOf f) ask) (length a)) (listReasons f (wholeDue (graphOf f) (ask .allowance)) (length a))
+      same-call (λ (o : Option ℕ) (due : Option (List ℕ)). written (unlessRefused o due) a) _ _ (λ n. refl) (namedRules f (ask .table) work)
+      (ceilingReason (ask .ceiling .0) ∷ listReasons (graphAsked f ask) (firstDue (graphAsked f ask) ask) (length a)) (listReasons (graphAsked f ask) (wholeDue (graphAsked f ask) (ask .allowance)) (length a))
       (λ clear. (search-reasons f ask full work clear (length a), due-same f ask full work clear));
   greatest = λ f. record { low = omega arith; covers = λ accepted. accepted-facts f accepted .states-range .1 };
 }

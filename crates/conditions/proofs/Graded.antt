@@ -1,5 +1,5 @@
 -- What a grade says of a file's model is so; and what a search or a next finds is in the roll, and so is graded "shortest".
-use Prim.Native.Nat.{ℕ, _+_}
+use Prim.Native.Nat.{ℕ, _+_, _≤_}
 use mathlib.Core.Path.{_≡_, refl, sym, _∙_, ap, subst}
 use mathlib.Core.Bool.{Bool, true, false}
 use mathlib.Core.List.{List, [], _∷_, _++_, head?, List·Memᴰ}
@@ -17,13 +17,13 @@ use Rattle.lasso.proofs.OrderLaws.{following-mem}
 use Rattle.lasso.proofs.RollLaws.{accepting-lasso, lasso-edges, in-roll}
 use Rattle.lasso.proofs.CeilingLaws.{within-roll}
 use Rattle.format.specs.Rules.{Reason, firstBroken, Accepted}
-use Rattle.gate.specs.Gate.{commonRules, ceilingReason}
-use Rattle.gate.proofs.GateLaws.{common-clear, clear-common}
+use Rattle.gate.specs.Gate.{namedRules, ceilingReason}
+use Rattle.gate.proofs.GateLaws.{common-clear, clear-common, named-one, clear-named}
 use Rattle.model.specs.Model.{graphOf}
 use Rattle.model.proofs.Laws.{accepted-well-formed}
 use Rattle.outcomes.specs.Outcome.{answered, outcome}
 use Rattle.outcomes.specs.Tables.{listReasons, unlessRefused, written}
-use Rattle.search.specs.Search.{Searched, stopped, firstOf, firstDue, stopsb, searchReasons}
+use Rattle.search.specs.Search.{Searched, stopped, firstOf, firstDue, stopsb, graphAsked, searchReasons}
 use Rattle.next.specs.Next.{Followed, followed, dueReasons, nextReasons}
 use Rattle.paths.specs.Breaks.{firstBreak}
 use Rattle.paths.proofs.BreakLaws.{breaks-shown}
@@ -32,20 +32,21 @@ use Rattle.grader.proofs.VerdictLaws.{verdicts-shown}
 use Rattle.conditions.specs.Graded.{IsGraded, GradesSay, GradedShortest, FoundIsShortest}
 use Rattle.conditions.proofs.FirstLaws.{noneHolds-firstBroken, clear-none, none-parts, answered-none}
 
--- a call for which no reason holds, 1 to 12 among them, has an accepted file
-passed-accepted : (f : List ℕ) (work : ℕ) (rest : List Reason) → firstBroken (commonRules f work ++ rest) ≡ none → Accepted f
-passed-accepted f work rest clear =
-    let common = none-parts (commonRules f work) rest (clear-none (commonRules f work ++ rest) clear) .0 in
-    clear-common f work (noneHolds-firstBroken (commonRules f work) common) .0
+-- a call for which no reason holds, 22 and 1 to 12 among them, names mark table 0 or 1 and has an accepted file
+passed-accepted : (f : List ℕ) (t work : ℕ) (rest : List Reason) → firstBroken (namedRules f t work ++ rest) ≡ none → (t ≤ 1) × Accepted f
+passed-accepted f t work rest clear =
+    let front = none-parts (namedRules f t work) rest (clear-none (namedRules f t work ++ rest) clear) .0 in
+    let (one, common) = clear-named f t work (noneHolds-firstBroken (namedRules f t work) front) in
+    (one, clear-common f work common .0)
 
 -- a list of the roll, with its loop start, is graded "shortest" and breaks nowhere
-roll-graded : (f : List ℕ) → Accepted f → (xs : List ℕ) → List·Memᴰ xs (roll (graphOf f)) → GradedShortest f xs (loopStart xs)
-roll-graded f accepted xs m work room =
-    let g : Graph = graphOf f in
-    let wf = accepted-well-formed f accepted in
+roll-graded : (f : List ℕ) (t : ℕ) → (t ≤ 1) × Accepted f → (xs : List ℕ) → List·Memᴰ xs (roll (graphOf f t)) → GradedShortest f t xs (loopStart xs)
+roll-graded f t (one, accepted) xs m work room =
+    let g : Graph = graphOf f t in
+    let wf = accepted-well-formed f t accepted in
     let is = verdicts-shown g wf .shortest-in-roll xs (loopStart xs) .1 (m, refl) in
     let unbroken = breaks-shown g .accepting-none wf xs (in-roll g wf xs .0 m .0) in
-    ap (λ (o : Option ℕ). outcome o (gradeOf g xs (loopStart xs))) (common-clear f work accepted room)
+    ap (λ (o : Option ℕ). outcome o (gradeOf g xs (loopStart xs))) (named-one f t work one ∙ common-clear f work accepted room)
     ∙ (λ i. answered (record { verdict = is i; place = unbroken i }))
 
 -- What "found" (L, k) tells: the list that was written, whose length and loop start these are, is in the roll.
@@ -57,17 +58,17 @@ record FoundIn (rs : List (List ℕ)) (due : Option (List ℕ)) (L k : ℕ) : Ty
   pub start-is : k ≡ loopStart list
 
 -- so it is graded "shortest"
-found-graded : (f : List ℕ) → Accepted f → (due : Option (List ℕ)) (a : List ℕ) (L k : ℕ) → FoundIn (roll (graphOf f)) due L k
-    → GradedShortest f (take (L + 1) (written due a)) k
-found-graded f accepted due a L k F work room =
-    let g : Graph = graphOf f in
+found-graded : (f : List ℕ) (t : ℕ) → (t ≤ 1) × Accepted f → (due : Option (List ℕ)) (a : List ℕ) (L k : ℕ) → FoundIn (roll (graphOf f t)) due L k
+    → GradedShortest f t (take (L + 1) (written due a)) k
+found-graded f t passed due a L k F work room =
+    let g : Graph = graphOf f t in
     let xs : List ℕ = F .list in
-    let acc = in-roll g (accepted-well-formed f accepted) xs .0 (F .in-rs) .0 in
+    let acc = in-roll g (accepted-well-formed f t (passed .1)) xs .0 (F .in-rs) .0 in
     let long : L + 1 ≡ length xs = omega (arith, F .length-is, lasso-edges g xs (accepting-lasso g xs acc)) in
     let taken : take (L + 1) (written due a) ≡ xs =
     ap (λ (d : Option (List ℕ)). take (L + 1) (written d a)) (F .due-is) ∙ ap (λ (n : ℕ). take n (xs ++ drop (length xs) a)) long ∙ take-append-seam xs (drop (length xs) a) in
-    ap (λ (ys : List ℕ). gradeOutcome f ys k work) taken ∙ ap (λ (j : ℕ). gradeOutcome f xs j work) (F .start-is)
-    ∙ roll-graded f accepted xs (F .in-rs) work room
+    ap (λ (ys : List ℕ). gradeOutcome f t ys k work) taken ∙ ap (λ (j : ℕ). gradeOutcome f t xs j work) (F .start-is)
+    ∙ roll-graded f t passed xs (F .in-rs) work room
 
 -- a search that answers "found" has found the first of the roll
 search-found-in : (rs : List (List ℕ)) (b : Bool) (rec : Record) (n L k rounds : ℕ)
@@ -110,35 +111,35 @@ answered-is : {A : Type 0} (o : Option ℕ) (x y : A) → outcome o x ≡ answer
 answered-is none x y e = cc
 answered-is (some n) x y e = let z : _≡_ {A = ℕ} 0 1 = cc in absurd (omega arith)
 
-module _ (f xs : List ℕ) (k work : ℕ) (clear : firstBroken (commonRules f work) ≡ none) where
-  -- where none of 1 to 12 holds the answer is the grade
-  graded : gradeOutcome f xs k work ≡ answered (gradeOf (graphOf f) xs k)
-  graded = ap (λ (o : Option ℕ). outcome o (gradeOf (graphOf f) xs k)) clear
+module _ (f : List ℕ) (t : ℕ) (xs : List ℕ) (k work : ℕ) (clear : firstBroken (namedRules f t work) ≡ none) where
+  -- where none of 22 and 1 to 12 holds the answer is the grade
+  graded : gradeOutcome f t xs k work ≡ answered (gradeOf (graphOf f t) xs k)
+  graded = ap (λ (o : Option ℕ). outcome o (gradeOf (graphOf f t) xs k)) clear
 
   -- so an answer is the verdict and the place of the model
-  graded-is : (v : Said) (p : Option ℕ) → IsGraded f xs k work v p → gradeOf (graphOf f) xs k ≡ record { verdict = v; place = p }
-  graded-is v p e = answered-is none (gradeOf (graphOf f) xs k) (record { verdict = v; place = p }) (sym graded ∙ e)
+  graded-is : (v : Said) (p : Option ℕ) → IsGraded f t xs k work v p → gradeOf (graphOf f t) xs k ≡ record { verdict = v; place = p }
+  graded-is v p e = answered-is none (gradeOf (graphOf f t) xs k) (record { verdict = v; place = p }) (sym graded ∙ e)
 
-  graded-verdict : (v : Said) (p : Option ℕ) → IsGraded f xs k work v p → verdict (graphOf f) xs k ≡ v
+  graded-verdict : (v : Said) (p : Option ℕ) → IsGraded f t xs k work v p → verdict (graphOf f t) xs k ≡ v
   graded-verdict v p e = ap (λ (a : Grade). a .verdict) (graded-is v p e)
 
-  graded-place : (v : Said) (p : Option ℕ) → IsGraded f xs k work v p → firstBreak (graphOf f) xs ≡ p
+  graded-place : (v : Said) (p : Option ℕ) → IsGraded f t xs k work v p → firstBreak (graphOf f t) xs ≡ p
   graded-place v p e = ap (λ (a : Grade). a .place) (graded-is v p e)
 
   -- and what these are is answered
-  is-graded : (v : Said) (p : Option ℕ) → verdict (graphOf f) xs k ≡ v → firstBreak (graphOf f) xs ≡ p → IsGraded f xs k work v p
+  is-graded : (v : Said) (p : Option ℕ) → verdict (graphOf f t) xs k ≡ v → firstBreak (graphOf f t) xs ≡ p → IsGraded f t xs k work v p
   is-graded v p a b = graded ∙ (λ i. answered (record { verdict = a i; place = b i }))
 
 pub grades-say : GradesSay
-grades-say f xs k work none-holds =
-    let g : Graph = graphOf f in
-    let clear = noneHolds-firstBroken (commonRules f work) none-holds in
-    let wf = accepted-well-formed f (clear-common f work clear .0) in
+grades-say f t xs k work none-holds =
+    let g : Graph = graphOf f t in
+    let clear = noneHolds-firstBroken (namedRules f t work) none-holds in
+    let wf = accepted-well-formed f t (clear-common f work (clear-named f t work clear .1) .0) in
     let verdicts = verdicts-shown g wf in
     let places = breaks-shown g in
-    let v-of = graded-verdict f xs k work clear in
-    let p-of = graded-place f xs k work clear in
-    let is = is-graded f xs k work clear in
+    let v-of = graded-verdict f t xs k work clear in
+    let p-of = graded-place f t xs k work clear in
+    let is = is-graded f t xs k work clear in
     record {
       false-exactly = (
         λ (p, e). verdicts .false-exactly xs k .0 (v-of Said.false _ e),
@@ -169,20 +170,20 @@ grades-say f xs k work none-holds =
 pub found-is-shortest : FoundIsShortest
 found-is-shortest = record {
   search = λ f ask a work L k rounds e.
-      let g : Graph = graphOf f in
+      let g : Graph = graphAsked f ask in
       let due : Option (List ℕ) = firstDue g ask in
       let reasons : List Reason = searchReasons f ask (length a) work in
       let clear = answered-none (firstBroken reasons) _ _ e in
-      let accepted = passed-accepted f work (ceilingReason (ask .ceiling .0) ∷ listReasons f due (length a)) clear in
+      let passed = passed-accepted f (ask .table) work (ceilingReason (ask .ceiling .0) ∷ listReasons g due (length a)) clear in
       let within = search-found-in (rollWithin g (ask .ceiling .0)) (stopsb g (ask .allowance)) (afterRounds g (ask .ceiling .0) (ask .allowance)) (length (candidates g)) L k rounds (answered-is (firstBroken reasons) _ _ e) in
       let found : FoundIn (roll g) due L k = found-whole g (ask .ceiling .0) within in
-      subst (λ (o : Option ℕ). GradedShortest f (take (L + 1) (written (unlessRefused o due) a)) k) (sym clear) (found-graded f accepted due a L k found);
-  next = λ f earlier a work L k e.
-      let g : Graph = graphOf f in
+      subst (λ (o : Option ℕ). GradedShortest f (ask .table) (take (L + 1) (written (unlessRefused o due) a)) k) (sym clear) (found-graded f (ask .table) passed due a L k found);
+  next = λ f t earlier a work L k e.
+      let g : Graph = graphOf f t in
       let due : Option (List ℕ) = following earlier (roll g) in
-      let reasons : List Reason = nextReasons f earlier (length a) work in
+      let reasons : List Reason = nextReasons f t earlier (length a) work in
       let clear = answered-none (firstBroken reasons) _ _ e in
-      let accepted = passed-accepted f work (dueReasons f earlier due (length a)) clear in
+      let passed = passed-accepted f t work (dueReasons g earlier due (length a)) clear in
       let found = next-found-in (roll g) due (following-mem earlier (roll g)) L k (answered-is (firstBroken reasons) _ _ e) in
-      subst (λ (o : Option ℕ). GradedShortest f (take (L + 1) (written (unlessRefused o due) a)) k) (sym clear) (found-graded f accepted due a L k found);
+      subst (λ (o : Option ℕ). GradedShortest f t (take (L + 1) (written (unlessRefused o due) a)) k) (sym clear) (found-graded f t passed due a L k found);
 }

@@ -17,7 +17,7 @@ use Rattle.next.specs.Next.{nextReasons, nextOutcome, nextAnswer}
 use Rattle.grader.specs.Grade.{gradeOutcome}
 use Rattle.distances.specs.Distances.{distanceReasons, distancesOutcome, distancesOutput}
 use Rattle.combine.specs.Combine.{combineReasons, combineOutcome, combineOutput}
-use Rattle.gate.specs.Gate.{commonRules, workOf}
+use Rattle.gate.specs.Gate.{namedRules, workOf}
 use Rattle.conditions.specs.Reasons.{numbersOf, NoneHolds, FirstHolds}
 
 -- a call with these reasons: they have these numbers, in this order, and no two have the same; the call is refused with n
@@ -40,29 +40,29 @@ pub record WorkLeft {A : Type 0} (o : Outcome A) (w w' : List ℕ) : Type 0 wher
   pub zero-refused : (n : ℕ) → o ≡ refused n → 12 < n → w' ≡ replicate (length w) 0
   pub zero-answered : (x : A) → o ≡ answered x → w' ≡ replicate (length w) 0
 
--- a step, which is lent no answer table
-pub record StepCondition1 (f : List ℕ) (ceiling : ℕ) (rec : Record) (w : List ℕ) : Type 0 where
-  pub refuses : Refuses (stepReasons f ceiling (length w)) stepNumbers (stepOutcome f ceiling rec (length w))
-  pub work : WorkLeft (stepOutcome f ceiling rec (length w)) w (workOf f w)
+-- a step, which is lent no answer table, with any mark table number
+pub record StepCondition1 (f : List ℕ) (t ceiling : ℕ) (rec : Record) (w : List ℕ) : Type 0 where
+  pub refuses : Refuses (stepReasons f t ceiling (length w)) stepNumbers (stepOutcome f t ceiling rec (length w))
+  pub work : WorkLeft (stepOutcome f t ceiling rec (length w)) w (workOf f t w)
 
 -- a search
 pub record SearchCondition1 (f : List ℕ) (ask : Ask) (a w : List ℕ) : Type 0 where
   pub refuses : Refuses (searchReasons f ask (length a) (length w)) searchNumbers
       (searchOutcome f ask (length a) (length w))
   pub answer : AnswerKept (searchOutcome f ask (length a) (length w)) a (searchAnswer f ask a (length w))
-  pub work : WorkLeft (searchOutcome f ask (length a) (length w)) w (workOf f w)
+  pub work : WorkLeft (searchOutcome f ask (length a) (length w)) w (workOf f (ask .table) w)
 
 -- a next
-pub record NextCondition1 (f earlier a w : List ℕ) : Type 0 where
-  pub refuses : Refuses (nextReasons f earlier (length a) (length w)) nextNumbers
-      (nextOutcome f earlier (length a) (length w))
-  pub answer : AnswerKept (nextOutcome f earlier (length a) (length w)) a (nextAnswer f earlier a (length w))
-  pub work : WorkLeft (nextOutcome f earlier (length a) (length w)) w (workOf f w)
+pub record NextCondition1 (f : List ℕ) (t : ℕ) (earlier a w : List ℕ) : Type 0 where
+  pub refuses : Refuses (nextReasons f t earlier (length a) (length w)) nextNumbers
+      (nextOutcome f t earlier (length a) (length w))
+  pub answer : AnswerKept (nextOutcome f t earlier (length a) (length w)) a (nextAnswer f t earlier a (length w))
+  pub work : WorkLeft (nextOutcome f t earlier (length a) (length w)) w (workOf f t w)
 
 -- a grade, of any list with any k; it is lent no answer table
-pub record GradeCondition1 (f xs : List ℕ) (k : ℕ) (w : List ℕ) : Type 0 where
-  pub refuses : Refuses (commonRules f (length w)) gradeNumbers (gradeOutcome f xs k (length w))
-  pub work : WorkLeft (gradeOutcome f xs k (length w)) w (workOf f w)
+pub record GradeCondition1 (f : List ℕ) (t : ℕ) (xs : List ℕ) (k : ℕ) (w : List ℕ) : Type 0 where
+  pub refuses : Refuses (namedRules f t (length w)) gradeNumbers (gradeOutcome f t xs k (length w))
+  pub work : WorkLeft (gradeOutcome f t xs k (length w)) w (workOf f t w)
 
 -- a distance call, which is lent an output and a working table
 pub record DistancesCondition1 (f : List ℕ) (ceiling : ℕ) (output w : List ℕ) : Type 0 where
@@ -70,7 +70,7 @@ pub record DistancesCondition1 (f : List ℕ) (ceiling : ℕ) (output w : List �
       (distancesOutcome f ceiling (length output) (length w))
   pub kept : AnswerKept (distancesOutcome f ceiling (length output) (length w)) output
       (distancesOutput f ceiling output (length w))
-  pub work : WorkLeft (distancesOutcome f ceiling (length output) (length w)) w (workOf f w)
+  pub work : WorkLeft (distancesOutcome f ceiling (length output) (length w)) w (workOf f 0 w)
 
 -- a combination, which is lent an output and no tables
 pub record CombineCondition1 (f letters p output : List ℕ) : Type 0 where
@@ -80,9 +80,9 @@ pub record CombineCondition1 (f letters p output : List ℕ) : Type 0 where
 
 -- condition 1: for every call, whatever is given and lent
 pub record Condition1Holds : Type 0 where
-  pub step : (f : List ℕ) (ceiling : ℕ) (rec : Record) (w : List ℕ) → StepCondition1 f ceiling rec w
+  pub step : (f : List ℕ) (t ceiling : ℕ) (rec : Record) (w : List ℕ) → StepCondition1 f t ceiling rec w
   pub search : (f : List ℕ) (ask : Ask) (a w : List ℕ) → SearchCondition1 f ask a w
-  pub next : (f earlier a w : List ℕ) → NextCondition1 f earlier a w
-  pub grade : (f xs : List ℕ) (k : ℕ) (w : List ℕ) → GradeCondition1 f xs k w
+  pub next : (f : List ℕ) (t : ℕ) (earlier a w : List ℕ) → NextCondition1 f t earlier a w
+  pub grade : (f : List ℕ) (t : ℕ) (xs : List ℕ) (k : ℕ) (w : List ℕ) → GradeCondition1 f t xs k w
   pub distances : (f : List ℕ) (ceiling : ℕ) (output w : List ℕ) → DistancesCondition1 f ceiling output w
   pub combine : (f letters p output : List ℕ) → CombineCondition1 f letters p output

@@ -1,4 +1,4 @@
--- Condition 2: what a search for which no reason holds answers and writes.
+-- Condition 2: what a search for which no reason holds answers and writes, by the marks of the table that it names.
 use Prim.Native.Nat.{ℕ, _+_, _*_, _≤_, _<_}
 use mathlib.Core.Path.{_≡_}
 use mathlib.Core.Logic.{_↔_, _⊎_}
@@ -13,10 +13,9 @@ use Rattle.lasso.specs.Rounds.{Record, candidates, afterRounds}
 use Rattle.lasso.specs.Ceiling.{PathWithin}
 use Rattle.gate.specs.declared.Ask.{Ask}
 use Rattle.format.specs.Layout.{states}
-use Rattle.model.specs.Model.{graphOf}
 use Rattle.format.specs.Rules.{Accepted}
 use Rattle.outcomes.specs.Outcome.{answered}
-use Rattle.search.specs.Search.{Searched, stopped, noneWithin, searchReasons, searchOutcome, searchAnswer}
+use Rattle.search.specs.Search.{Searched, stopped, noneWithin, graphAsked, searchReasons, searchOutcome, searchAnswer}
 use Rattle.conditions.specs.Reasons.{NoneHolds}
 
 -- the first of the shortest accepting paths: it is not longer than the ceiling, no accepting path is shorter, and every
@@ -52,19 +51,19 @@ FindsNone f ask a work = (rounds : ℕ) × IsNoneWithin f ask a work rounds
 -- rounds are done
 pub record FoundSays (f : List ℕ) (ask : Ask) (a : List ℕ) (work L k rounds : ℕ) : Type 0 where
   pub list : List ℕ
-  pub first-shortest : FirstShortest (graphOf f) (ask .ceiling .0) list
+  pub first-shortest : FirstShortest (graphAsked f ask) (ask .ceiling .0) list
   pub length-is : edges list ≡ L
   pub entries-are : length list ≡ L + 1
   pub fits : L + 1 ≤ length a
   pub written : searchAnswer f ask a work ≡ list ++ drop (L + 1) a
   pub loop-start-below : k < L
-  pub loops : T (loopsb (graphOf f) list k)
-  pub rounds-are : rounds ≡ length (candidates (graphOf f))
+  pub loops : T (loopsb (graphAsked f ask) list k)
+  pub rounds-are : rounds ≡ length (candidates (graphAsked f ask))
 
 -- what "none within the ceiling" (rounds) says: nothing is written, and all rounds are done
 pub record NoneSays (f : List ℕ) (ask : Ask) (a : List ℕ) (work rounds : ℕ) : Type 0 where
   pub unwritten : searchAnswer f ask a work ≡ a
-  pub rounds-are : rounds ≡ length (candidates (graphOf f))
+  pub rounds-are : rounds ≡ length (candidates (graphAsked f ask))
 
 -- with an allowance not below the number of candidates: the answer is "found" or "none within the ceiling" and not
 -- "stopped"; "found" exactly if an accepting path not longer than the ceiling exists, "none within the ceiling" exactly if
@@ -72,33 +71,34 @@ pub record NoneSays (f : List ℕ) (ask : Ask) (a : List ℕ) (work rounds : ℕ
 pub record Searches (f : List ℕ) (ask : Ask) (a : List ℕ) (work : ℕ) : Type 0 where
   pub answers : Finds f ask a work ⊎ FindsNone f ask a work
   pub not-stopped : (r : Record) → IsStopped f ask a work r → ⊥
-  pub found-exactly : Finds f ask a work ↔ PathWithin (graphOf f) (ask .ceiling .0)
+  pub found-exactly : Finds f ask a work ↔ PathWithin (graphAsked f ask) (ask .ceiling .0)
   pub found-says : (L k rounds : ℕ) → IsFound f ask a work L k rounds → FoundSays f ask a work L k rounds
-  pub none-exactly : FindsNone f ask a work ↔ (PathWithin (graphOf f) (ask .ceiling .0) → ⊥)
+  pub none-exactly : FindsNone f ask a work ↔ (PathWithin (graphAsked f ask) (ask .ceiling .0) → ⊥)
   pub none-says : (rounds : ℕ) → IsNoneWithin f ask a work rounds → NoneSays f ask a work rounds
 
 -- with a smaller allowance: "stopped" with the record after that many rounds, claiming neither "found" nor "none within the
 -- ceiling", and nothing is written
 pub record Stops (f : List ℕ) (ask : Ask) (a : List ℕ) (work : ℕ) : Type 0 where
-  pub stopped-with : IsStopped f ask a work (afterRounds (graphOf f) (ask .ceiling .0) (ask .allowance))
-  pub rounds-done : afterRounds (graphOf f) (ask .ceiling .0) (ask .allowance) .done ≡ ask .allowance
+  pub stopped-with : IsStopped f ask a work (afterRounds (graphAsked f ask) (ask .ceiling .0) (ask .allowance))
+  pub rounds-done : afterRounds (graphAsked f ask) (ask .ceiling .0) (ask .allowance) .done ≡ ask .allowance
   pub not-found : Finds f ask a work → ⊥
   pub not-none : FindsNone f ask a work → ⊥
   pub unwritten : searchAnswer f ask a work ≡ a
 
 -- a search: by whether the allowance suffices
 pub record Condition2 (f : List ℕ) (ask : Ask) (a : List ℕ) (work : ℕ) : Type 0 where
-  pub suffices : length (candidates (graphOf f)) ≤ ask .allowance → Searches f ask a work
-  pub short : ask .allowance < length (candidates (graphOf f)) → Stops f ask a work
+  pub suffices : length (candidates (graphAsked f ask)) ≤ ask .allowance → Searches f ask a work
+  pub short : ask .allowance < length (candidates (graphAsked f ask)) → Stops f ask a work
 
--- what it says that no reason of a search holds: the file breaks none of 1 to 11, the working table has 6 × N entries, the
--- ceiling is at most 4,096, and the answer table has L + 1 entries if a list is to be written
+-- what it says that no reason of a search holds: it names mark table 0 or 1, the file breaks none of 1 to 11, the working
+-- table has 6 × N entries, the ceiling is at most 4,096, and the answer table has L + 1 entries if a list is to be written
 pub record SearchPasses (f : List ℕ) (ask : Ask) (answer work : ℕ) : Type 0 where
+  pub names-one : ask .table ≤ 1
   pub accepted : Accepted f
   pub room : 6 * states f ≤ work
   pub ceiling-low : ask .ceiling .0 ≤ 4096
-  pub fits : length (candidates (graphOf f)) ≤ ask .allowance
-      → (l : ℕ) → leastLength (graphOf f) ≡ some l → l ≤ ask .ceiling .0 → l + 1 ≤ answer
+  pub fits : length (candidates (graphAsked f ask)) ≤ ask .allowance
+      → (l : ℕ) → leastLength (graphAsked f ask) ≡ some l → l ≤ ask .ceiling .0 → l + 1 ≤ answer
 
 -- no reason of a search holds exactly if that is so
 abbrev pub SearchPassesExactly : Type 0
@@ -106,7 +106,7 @@ SearchPassesExactly =
     (f : List ℕ) (ask : Ask) (answer work : ℕ)
     → NoneHolds (searchReasons f ask answer work) ↔ SearchPasses f ask answer work
 
--- condition 2: for every search, whatever its file, ceiling, allowance, answer table and working table, for which no reason
+-- condition 2: for every search, whatever its file, mark table, ceiling, allowance, answer table and working table, for which no reason
 -- holds
 abbrev pub Condition2Holds : Type 0
 Condition2Holds =

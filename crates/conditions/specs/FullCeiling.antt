@@ -13,7 +13,7 @@ use Rattle.format.specs.Layout.{states}
 use Rattle.format.specs.Rules.{Reason, firstBroken, Accepted}
 use Rattle.model.specs.Model.{graphOf}
 use Rattle.gate.specs.declared.Ask.{Ask}
-use Rattle.gate.specs.Gate.{commonRules}
+use Rattle.gate.specs.Gate.{namedRules}
 use Rattle.outcomes.specs.Outcome.{Outcome, outcome}
 use Rattle.outcomes.specs.Tables.{listReasons, unlessRefused, written}
 use Rattle.step.specs.Step.{Stepped, finished, advanced, stepOutcome}
@@ -29,12 +29,12 @@ wholeRounds g zero = record { done = 0; best = none }
 wholeRounds g (suc n) = wholeRound g (wholeRounds g n)
 
 -- what a step answers that knows no ceiling: it goes no further than reason 12
-abbrev pub wholeStepOutcome : List ℕ → Record → (work : ℕ) → Outcome Stepped
-wholeStepOutcome f rec work =
-    let g : Graph = graphOf f in
-    outcome (firstBroken (commonRules f work)) (pick (finishedb g rec) (finished rec) (advanced (wholeRound g rec)))
+abbrev pub wholeStepOutcome : List ℕ → (t : ℕ) → Record → (work : ℕ) → Outcome Stepped
+wholeStepOutcome f t rec work =
+    let g : Graph = graphOf f t in
+    outcome (firstBroken (namedRules f t work)) (pick (finishedb g rec) (finished rec) (advanced (wholeRound g rec)))
 
--- what a search not refused answers that knows no ceiling
+-- what a search not refused answers that knows no ceiling, in the model of the mark table that it names
 abbrev pub wholeSearched : Graph → (allowance : ℕ) → Searched
 wholeSearched g allowance =
     pick (stopsb g allowance) (stopped (wholeRounds g allowance)) (firstOf (roll g) (length (candidates g)))
@@ -43,19 +43,20 @@ wholeSearched g allowance =
 abbrev pub wholeDue : Graph → (allowance : ℕ) → Option (List ℕ)
 wholeDue g allowance = pick (stopsb g allowance) none (head? (roll g))
 
--- the reasons that it applies: 1 to 12, 14 and 15
-abbrev pub wholeReasons : List ℕ → (allowance answer work : ℕ) → List Reason
-wholeReasons f allowance answer work = commonRules f work ++ listReasons f (wholeDue (graphOf f) allowance) answer
+-- the reasons that it applies: 22, 1 to 12, 14 and 15
+abbrev pub wholeReasons : List ℕ → (t allowance answer work : ℕ) → List Reason
+wholeReasons f t allowance answer work =
+    namedRules f t work ++ listReasons (graphOf f t) (wholeDue (graphOf f t) allowance) answer
 
 -- what it answers
-abbrev pub wholeSearchOutcome : List ℕ → (allowance answer work : ℕ) → Outcome Searched
-wholeSearchOutcome f allowance answer work =
-    outcome (firstBroken (wholeReasons f allowance answer work)) (wholeSearched (graphOf f) allowance)
+abbrev pub wholeSearchOutcome : List ℕ → (t allowance answer work : ℕ) → Outcome Searched
+wholeSearchOutcome f t allowance answer work =
+    outcome (firstBroken (wholeReasons f t allowance answer work)) (wholeSearched (graphOf f t) allowance)
 
 -- the answer table after it
-abbrev pub wholeSearchAnswer : List ℕ → (allowance : ℕ) → List ℕ → (work : ℕ) → List ℕ
-wholeSearchAnswer f allowance a work =
-    written (unlessRefused (firstBroken (wholeReasons f allowance (length a) work)) (wholeDue (graphOf f) allowance)) a
+abbrev pub wholeSearchAnswer : List ℕ → (t allowance : ℕ) → List ℕ → (work : ℕ) → List ℕ
+wholeSearchAnswer f t allowance a work =
+    written (unlessRefused (firstBroken (wholeReasons f t allowance (length a) work)) (wholeDue (graphOf f t) allowance)) a
 
 -- the ceiling is at most 4,096 and, for an accepted file, N or more
 pub record Full (f : List ℕ) (ceiling : ℕ) : Type 0 where
@@ -65,10 +66,10 @@ pub record Full (f : List ℕ) (ceiling : ℕ) : Type 0 where
 -- With such a ceiling every call answers and writes what it does without one, refused calls included; and 4,096, which the
 -- sheet program passes, is such a ceiling for every file.
 pub record SameAsWithout : Type 0 where
-  pub step : (f : List ℕ) (ceiling : ℕ) (rec : Record) (work : ℕ) → Full f ceiling
-      → stepOutcome f ceiling rec work ≡ wholeStepOutcome f rec work
+  pub step : (f : List ℕ) (t ceiling : ℕ) (rec : Record) (work : ℕ) → Full f ceiling
+      → stepOutcome f t ceiling rec work ≡ wholeStepOutcome f t rec work
   pub search : (f : List ℕ) (ask : Ask) (answer work : ℕ) → Full f (ask .ceiling .0)
-      → searchOutcome f ask answer work ≡ wholeSearchOutcome f (ask .allowance) answer work
+      → searchOutcome f ask answer work ≡ wholeSearchOutcome f (ask .table) (ask .allowance) answer work
   pub table : (f : List ℕ) (ask : Ask) (a : List ℕ) (work : ℕ) → Full f (ask .ceiling .0)
-      → searchAnswer f ask a work ≡ wholeSearchAnswer f (ask .allowance) a work
+      → searchAnswer f ask a work ≡ wholeSearchAnswer f (ask .table) (ask .allowance) a work
   pub greatest : (f : List ℕ) → Full f 4096

@@ -10,7 +10,7 @@ use Rattle.lasso.specs.Graph.{edges, pathb, acceptingb, loopStart}
 use Rattle.lasso.specs.Roll.{roll}
 use Rattle.lasso.specs.Shown.{OfLeastLength}
 use Rattle.gate.specs.declared.Ask.{Ask}
-use Rattle.gate.specs.Gate.{commonRules}
+use Rattle.gate.specs.Gate.{namedRules}
 use Rattle.format.specs.Layout.{states}
 use Rattle.model.specs.Model.{graphOf}
 use Rattle.outcomes.specs.Outcome.{answered}
@@ -22,40 +22,40 @@ use Rattle.grader.specs.Shown.{AcceptingAt}
 use Rattle.conditions.specs.Reasons.{NoneHolds}
 
 -- the answer is this verdict with this place
-abbrev pub IsGraded : (f xs : List ℕ) (k work : ℕ) → Said → Option ℕ → Type 0
-IsGraded f xs k work v p = gradeOutcome f xs k work ≡ answered (record { verdict = v; place = p })
+abbrev pub IsGraded : (f : List ℕ) (t : ℕ) (xs : List ℕ) (k work : ℕ) → Said → Option ℕ → Type 0
+IsGraded f t xs k work v p = gradeOutcome f t xs k work ≡ answered (record { verdict = v; place = p })
 
--- What a grade that is not refused says of the list with that k, in the model of the file.
-pub record GradeSays (f xs : List ℕ) (k work : ℕ) : Type 0 where
+-- What a grade that is not refused says of the list with that k, in the model of the file with the marks of table t.
+pub record GradeSays (f : List ℕ) (t : ℕ) (xs : List ℕ) (k work : ℕ) : Type 0 where
   -- "false", with a place or without, exactly if the list with that k is no accepting path
-  pub false-exactly : ((p : Option ℕ) × IsGraded f xs k work Said.false p) ↔ (AcceptingAt (graphOf f) xs k → ⊥)
+  pub false-exactly : ((p : Option ℕ) × IsGraded f t xs k work Said.false p) ↔ (AcceptingAt (graphOf f t) xs k → ⊥)
   -- "accepting", without a place, exactly if it is one and one with fewer transitions exists
-  pub accepting-exactly : IsGraded f xs k work accepting none
-      ↔ (AcceptingAt (graphOf f) xs k × ((ys : List ℕ) × T (acceptingb (graphOf f) ys) × (edges ys < edges xs)))
+  pub accepting-exactly : IsGraded f t xs k work accepting none
+      ↔ (AcceptingAt (graphOf f t) xs k × ((ys : List ℕ) × T (acceptingb (graphOf f t) ys) × (edges ys < edges xs)))
   -- "shortest", without a place, exactly if it is one of least length
-  pub shortest-exactly : IsGraded f xs k work shortest none
-      ↔ (OfLeastLength (acceptingb (graphOf f)) xs × (k ≡ loopStart xs))
+  pub shortest-exactly : IsGraded f t xs k work shortest none
+      ↔ (OfLeastLength (acceptingb (graphOf f t)) xs × (k ≡ loopStart xs))
   -- that is, exactly if it is in the roll with that k
-  pub shortest-in-roll : IsGraded f xs k work shortest none ↔ (List·Memᴰ xs (roll (graphOf f)) × (k ≡ loopStart xs))
+  pub shortest-in-roll : IsGraded f t xs k work shortest none ↔ (List·Memᴰ xs (roll (graphOf f t)) × (k ≡ loopStart xs))
   -- the place j, whatever the verdict, exactly if the list breaks there and at no place before it
-  pub place-exactly : (j : ℕ) → ((v : Said) × IsGraded f xs k work v (some j)) ↔ BreaksFirst (graphOf f) xs j
+  pub place-exactly : (j : ℕ) → ((v : Said) × IsGraded f t xs k work v (some j)) ↔ BreaksFirst (graphOf f t) xs j
   -- no place, whatever the verdict, exactly if the list is a path of states
-  pub no-place-exactly : ((v : Said) × IsGraded f xs k work v none)
-      ↔ (T (pathb (graphOf f) xs) × AllBelow (graphOf f .size) xs)
+  pub no-place-exactly : ((v : Said) × IsGraded f t xs k work v none)
+      ↔ (T (pathb (graphOf f t) xs) × AllBelow (graphOf f t .size) xs)
 
--- So it is with every file, list, k and working table for which none of 1 to 12 holds.
+-- So it is with every file, mark table, list, k and working table for which none of 22 and 1 to 12 holds.
 abbrev pub GradesSay : Type 0
-GradesSay = (f xs : List ℕ) (k work : ℕ) → NoneHolds (commonRules f work) → GradeSays f xs k work
+GradesSay = (f : List ℕ) (t : ℕ) (xs : List ℕ) (k work : ℕ) → NoneHolds (namedRules f t work) → GradeSays f t xs k work
 
 -- the list, with that k, is graded "shortest" and breaks nowhere, with every working table that has 6 × N entries
-abbrev pub GradedShortest : (f xs : List ℕ) → ℕ → Type 0
-GradedShortest f xs k = (work : ℕ) → 6 * states f ≤ work → IsGraded f xs k work shortest none
+abbrev pub GradedShortest : (f : List ℕ) (t : ℕ) (xs : List ℕ) → ℕ → Type 0
+GradedShortest f t xs k = (work : ℕ) → 6 * states f ≤ work → IsGraded f t xs k work shortest none
 
--- whatever "found" (L, k) brings, in entries 0 to L of the answer table, is graded so
+-- whatever "found" (L, k) brings, in entries 0 to L of the answer table, is graded so by the same mark table
 pub record FoundIsShortest : Type 0 where
   pub search : (f : List ℕ) (ask : Ask) (a : List ℕ) (work L k rounds : ℕ)
       → searchOutcome f ask (length a) work ≡ answered (Searched.found L k rounds)
-      → GradedShortest f (take (L + 1) (searchAnswer f ask a work)) k
-  pub next : (f earlier a : List ℕ) (work L k : ℕ)
-      → nextOutcome f earlier (length a) work ≡ answered (Followed.found L k)
-      → GradedShortest f (take (L + 1) (nextAnswer f earlier a work)) k
+      → GradedShortest f (ask .table) (take (L + 1) (searchAnswer f ask a work)) k
+  pub next : (f : List ℕ) (t : ℕ) (earlier a : List ℕ) (work L k : ℕ)
+      → nextOutcome f t earlier (length a) work ≡ answered (Followed.found L k)
+      → GradedShortest f t (take (L + 1) (nextAnswer f t earlier a work)) k

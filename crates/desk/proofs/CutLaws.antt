@@ -1,4 +1,4 @@
--- The text of an input is that of its first 25,115 bytes.
+-- The text of an input is that of its first 25,627 bytes.
 use Prim.Native.Nat.{ℕ, _≤_}
 use mathlib.Core.Path.{_≡_, sym, _∙_, ap}
 use mathlib.Core.Logic.{inl, inr}
@@ -34,6 +34,6 @@ first-decide k f enough =
 pub cut-text : {k : ℕ} {input part : List ℕ} → FirstBytes k input part → inputBytes ≤ k → inputText part ≡ inputText input
 cut-text {k} {input} {part} first enough = ap inputText (first .are) ∙ first-decide k input enough
 
--- the text of an input is that of its first 25,115 bytes
+-- the text of an input is that of its first 25,627 bytes
 pub first-bytes-decide : FirstBytesDecide
 first-bytes-decide f = first-decide inputBytes f (omega arith)

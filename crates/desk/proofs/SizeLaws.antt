@@ -11,7 +11,7 @@ use Rattle.format.specs.Layout.{states}
 use Rattle.model.specs.Model.{graphOf}
 use Rattle.format.specs.Rules.{rules, firstBroken, Accepted}
 use Rattle.model.proofs.Laws.{accepted-facts}
-use Rattle.gate.specs.Gate.{commonRules, ceilingReason}
+use Rattle.gate.specs.Gate.{namedRules, ceilingReason}
 use Rattle.outcomes.specs.Tables.{listReasons}
 use Rattle.search.specs.Search.{searched, firstDue}
 use Rattle.search.proofs.SearchLaws.{search-none, search-found, roll-first}
@@ -29,25 +29,25 @@ module _ (f : List ℕ) (accepted : Accepted f) where
 
   -- an accepted file is not refused
   accepted-kept : inputRefusal f ≡ none
-  accepted-kept = go (leastLength (graphOf f)) refl
+  accepted-kept = go (leastLength (graphOf f 0)) refl
     where
-      go : (o : Option ℕ) → leastLength (graphOf f) ≡ o → inputRefusal f ≡ none
+      go : (o : Option ℕ) → leastLength (graphOf f 0) ≡ o → inputRefusal f ≡ none
       go none e =
-          let none-left = whole-roll f accepted answerEntries workEntries work-enough ∙ roll-empty (graphOf f) .1 e in
-          let is = search-none f accepted sheetAsk answerEntries workEntries work-enough (omega arith) (enough-rounds f accepted answerEntries workEntries work-enough) none-left in
-          outcome-answered (inputRefusal f) (searched (graphOf f) sheetAsk) _ (is .outcome-is)
+          let none-left = whole-roll f accepted answerEntries workEntries work-enough ∙ roll-empty (graphOf f 0) .1 e in
+          let is = search-none f accepted sheetAsk answerEntries workEntries work-enough (omega arith) (omega arith) (enough-rounds f accepted answerEntries workEntries work-enough) none-left in
+          outcome-answered (inputRefusal f) (searched (graphOf f 0) sheetAsk) _ (is .outcome-is)
       go (some l) e =
           let facts = accepted-facts f accepted in
-          let (xs, first, long) = roll-first (graphOf f) l e in
-          let is = search-found f accepted sheetAsk answerEntries workEntries work-enough (omega arith) (enough-rounds f accepted answerEntries workEntries work-enough) xs
+          let (xs, first, long) = roll-first (graphOf f 0) l e in
+          let is = search-found f accepted sheetAsk answerEntries workEntries work-enough (omega arith) (omega arith) (enough-rounds f accepted answerEntries workEntries work-enough) xs
           (ap (λ (rs : List (List ℕ)). head? rs) (whole-roll f accepted answerEntries workEntries work-enough) ∙ first)
-          (omega (arith, leastLength-range (graphOf f) l e, facts .states-range)) in
-          outcome-answered (inputRefusal f) (searched (graphOf f) sheetAsk) _ (is .outcome-is)
+          (omega (arith, leastLength-range (graphOf f 0) l e, facts .states-range)) in
+          outcome-answered (inputRefusal f) (searched (graphOf f 0) sheetAsk) _ (is .outcome-is)
 
 -- a refused file is refused with its own number
 input-refused : (f : List ℕ) (n : ℕ) → firstBroken (rules f) ≡ some n → inputRefusal f ≡ some n
 input-refused f n e =
-    broken-append (commonRules f workEntries) (ceilingReason (sheetAsk .ceiling .0) ∷ listReasons f (firstDue (graphOf f) sheetAsk) answerEntries) n (common-refused f workEntries n e)
+    broken-append (namedRules f 0 workEntries) (ceilingReason (sheetAsk .ceiling .0) ∷ listReasons (graphOf f 0) (firstDue (graphOf f 0) sheetAsk) answerEntries) n (common-refused f workEntries n e)
 
 -- an input is refused exactly as its file is
 pub only-the-file-refuses : OnlyTheFileRefuses

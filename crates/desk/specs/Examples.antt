@@ -1,4 +1,4 @@
--- The text of example D, as a statement.
+-- The text of example D, with one mark table and with two, as statements.
 use Prim.Native.Nat.{ℕ}
 use mathlib.Core.Path.{_≡_}
 use mathlib.Core.List.{List, [], _∷_, _++_}
@@ -22,3 +22,12 @@ sheetD =
 -- the program's text for example D
 abbrev pub ExampleD : Type 0
 ExampleD = inputText exampleD ≡ sheetD
+
+-- example D with a second mark table, which marks state 1: the total is 52
+abbrev pub exampleTwo : List ℕ
+exampleTwo =
+    5 ∷ 0 ∷ 7 ∷ 0 ∷ 0 ∷ 0 ∷ 0 ∷ 0 ∷ 24 ∷ 0 ∷ 0 ∷ 0 ∷ 36 ∷ 0 ∷ 0 ∷ 0 ∷ 50 ∷ 0 ∷ 0 ∷ 0 ∷ 52 ∷ 0 ∷ 0 ∷ 0 ∷ 0 ∷ 0 ∷ 2 ∷ 0 ∷ 3 ∷ 0 ∷ 4 ∷ 0 ∷ 6 ∷ 0 ∷ 7 ∷ 0 ∷ 1 ∷ 0 ∷ 2 ∷ 0 ∷ 3 ∷ 0 ∷ 3 ∷ 0 ∷ 1 ∷ 0 ∷ 2 ∷ 0 ∷ 4 ∷ 0 ∷ 24 ∷ 2 ∷ []
+
+-- the program's text for it is the same: the program uses table 0
+abbrev pub ExampleTwo : Type 0
+ExampleTwo = inputText exampleTwo ≡ sheetD

@@ -9,7 +9,7 @@ use Rattle.format.specs.Rules.{rules, firstBroken}
 use Rattle.sheet_head.specs.Words.{refusedWord}
 use Rattle.desk.specs.Desk.{inputBytes, inputRefusal, inputText}
 
--- the text of an input is that of its first 25,115 bytes
+-- the text of an input is that of its first 25,627 bytes
 abbrev pub FirstBytesDecide : Type 0
 FirstBytesDecide = (input : List ℕ) → inputText (take inputBytes input) ≡ inputText input
 

@@ -10,7 +10,7 @@ use reading::read_input;
 use sheet::sheet;
 
 // The bytes of the buffer for an input: one more than the longest file has, so that no longer input passes for it.
-const INPUT_ROOM: usize = 25_115;
+const INPUT_ROOM: usize = 25_627;
 
 // The bytes of the buffer for a text: no sheet is longer.
 const TEXT_ROOM: usize = 410_000;

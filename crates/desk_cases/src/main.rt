@@ -1,6 +1,8 @@
 // The desk sheet program's reading and printing, run on one file after another.
 fn main() {
     print_case(b"d");
+    print_case(b"two");
+    print_case(b"two_spare");
     print_case(b"cut");
     print_case(b"none");
     print_case(b"a_stays");
@@ -11,6 +13,7 @@ fn main() {
     print_case(b"twenty");
     print_case(b"more");
     print_case(b"ring");
+    print_case(b"longest_one");
     print_case(b"longest");
     print_case(b"one_over");
     print_case(b"far_over");

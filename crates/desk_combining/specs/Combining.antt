@@ -6,7 +6,7 @@ use Rattle.sheet_head.specs.Words.{refusedWord}
 use Rattle.outcomes.specs.Outcome.{Outcome, refused, answered}
 use Rattle.combine.specs.Combine.{combinedFile, combineOutcome}
 
--- the bytes of the output: no model file has more
+-- the bytes of the output: no model file with one mark table has more
 abbrev pub outputBytes : ℕ
 outputBytes = 25114
 

@@ -20,7 +20,7 @@ lettersBytes = 4097
 abbrev pub propertyBytes : ℕ
 propertyBytes = 41499
 
--- what is written for three inputs is what is written for the first 25,115 bytes of the rule, the first 4,097 letters and
+-- what is written for three inputs is what is written for the first 25,627 bytes of the rule, the first 4,097 letters and
 -- the first 41,499 bytes of the property
 abbrev pub FirstBytesOfEachDecide : Type 0
 FirstBytesOfEachDecide = (rule letters property : List ℕ) →

@@ -16,7 +16,7 @@ use sheet_head::write_refusal;
 
 // The bytes of the buffers for a rule, a letter table and a property: one more than the longest of each has, so that no
 // longer input passes for it.
-const RULE_ROOM: usize = 25_115;
+const RULE_ROOM: usize = 25_627;
 
 const LETTERS_ROOM: usize = 4_097;
 

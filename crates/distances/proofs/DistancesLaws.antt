@@ -36,20 +36,20 @@ module _ (f : List ℕ) (ceiling output work : ℕ) where
   -- behind them a ceiling above 4,096 breaks 21
   pub reasons-high : firstBroken (commonRules f work) ≡ none → 4096 < ceiling
       → firstBroken (distanceReasons f ceiling output work) ≡ some 21
-  reasons-high e high = ceiling-high f work ceiling (roomReason f output ∷ []) e high
+  reasons-high e high = ceiling-high (commonRules f work) ceiling (roomReason f output ∷ []) e high
 
   -- with one up to 4,096, an output with fewer entries than there are states breaks 15
   pub reasons-short : firstBroken (commonRules f work) ≡ none → ceiling ≤ 4096 → output < states f
       → firstBroken (distanceReasons f ceiling output work) ≡ some 15
   reasons-short e low short =
-      ceiling-low f work ceiling (roomReason f output ∷ []) e low
+      ceiling-low (commonRules f work) ceiling (roomReason f output ∷ []) e low
       ∙ ap (λ (b : Bool). someIf b 15 none) (lt-ltb output (states f) short)
 
   -- and one with as many breaks nothing
   pub reasons-clear : firstBroken (commonRules f work) ≡ none → ceiling ≤ 4096 → states f ≤ output
       → firstBroken (distanceReasons f ceiling output work) ≡ none
   reasons-clear e low room =
-      ceiling-low f work ceiling (roomReason f output ∷ []) e low
+      ceiling-low (commonRules f work) ceiling (roomReason f output ∷ []) e low
       ∙ ap (λ (b : Bool). someIf b 15 none) (le-ltb output (states f) room)
 
   -- where no reason holds the file is accepted, the ceiling is up to 4,096 and the output has an entry for each state
@@ -70,16 +70,16 @@ module _ (f : List ℕ) (ceiling : ℕ) (d : List ℕ) (work : ℕ) where
   pub distances-refused : (n : ℕ) → firstBroken (distanceReasons f ceiling (length d) work) ≡ some n
       → DistancesAre (refused n) d
   distances-refused n e =
-      let t : Option (List ℕ) = some (distanceTable (graphOf f) ceiling) in
+      let t : Option (List ℕ) = some (distanceTable (graphOf f 0) ceiling) in
       let is = call-broken (distanceReasons f ceiling (length d) work) (states f) t n e in
       (sym (is .outcome-is), sym (call-answer d is))
 
   -- not refused: the number of states, and the entries of all states from entry 0 on
   pub distances-written : firstBroken (distanceReasons f ceiling (length d) work) ≡ none
-      → (n : ℕ) → n ≡ states f → (d' : List ℕ) → d' ≡ written (some (distanceTable (graphOf f) ceiling)) d
+      → (n : ℕ) → n ≡ states f → (d' : List ℕ) → d' ≡ written (some (distanceTable (graphOf f 0) ceiling)) d
       → DistancesAre (answered n) d'
   distances-written e n q d' all =
-      let t : Option (List ℕ) = some (distanceTable (graphOf f) ceiling) in
+      let t : Option (List ℕ) = some (distanceTable (graphOf f 0) ceiling) in
       let is = call-kept (distanceReasons f ceiling (length d) work) (states f) n t t e (sym q) refl in
       (sym (is .outcome-is), all ∙ sym (call-answer d is))
 

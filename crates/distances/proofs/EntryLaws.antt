@@ -16,7 +16,8 @@ use Rattle.lasso.proofs.BelowLaws.{map-below-at, map-below-length}
 use Rattle.model.specs.declared.Header.{Header}
 use Rattle.model.specs.Values.{Valid}
 use Rattle.model.specs.Model.{graphIn, graphOf}
-use Rattle.model.proofs.Laws.{valid-graph, valid-sizes}
+use Rattle.model.proofs.Laws.{valid-sizes}
+use Rattle.gate.proofs.GateLaws.{named-graph}
 use Rattle.frontier.specs.Regions.{entryOf, valueOf}
 use Rattle.candidates.specs.Promises.{StartDistances, StartDistancesPut}
 use Rattle.candidates.proofs.DistanceLaws.{entry-zero}
@@ -49,12 +50,12 @@ stored-entry ceiling stored none e = ap (fromStored ceiling) e
 stored-entry ceiling stored (some d) e = ap (fromStored ceiling) e
 
 -- with the distances from the start in region 0, the entry of a state comes from the one at its place
-pub start-stored : {f : List ℕ} {h : Header} {w w' : List ℕ} → Valid f h → StartDistancesPut (graphIn f h) w w'
-    → (ceiling s : ℕ) → s < h .states → fromStored ceiling (getD w' s 0) ≡ distanceEntry (graphOf f) ceiling s
-start-stored {f} {h} {w} {w'} v put ceiling s l =
-    let g : Graph = graphOf f in
+pub start-stored : {f : List ℕ} {h : Header} {w w' : List ℕ} → Valid f h → h .table ≡ 0 → StartDistancesPut (graphIn f h) w w'
+    → (ceiling s : ℕ) → s < h .states → fromStored ceiling (getD w' s 0) ≡ distanceEntry (graphOf f 0) ceiling s
+start-stored {f} {h} {w} {w'} v first put ceiling s l =
+    let g : Graph = graphOf f 0 in
     let sizes = valid-sizes v in
-    let there = subst (λ (x : Graph). StartDistances x w') (valid-graph v) (put .start-distances) in
+    let there = subst (λ (x : Graph). StartDistances x w') (named-graph v first) (put .start-distances) in
     let at : getD w' s 0 ≡ entryOf (dist g (g .start) s) =
     sym (entry-zero (g .size) w' s) ∙ there .distances s (omega (arith, sizes .states-are)) in
     stored-entry ceiling (getD w' s 0) (dist g (g .start) s) at

@@ -59,7 +59,7 @@ module _ (f : List ℕ) (ceiling : ℕ) (output : List ℕ) (work : ℕ)
     (clear : firstBroken (distanceReasons f ceiling (length output) work) ≡ none) where
   -- the model of the file, and the entries of its states
   abbrev g : Graph
-  g = graphOf f
+  g = graphOf f 0
 
   abbrev t : List ℕ
   t = distanceTable g ceiling
@@ -103,7 +103,7 @@ module _ (f : List ℕ) (ceiling : ℕ) (output : List ℕ) (work : ℕ)
   -- the distance under the ceiling is the least length up to the ceiling of a path from the initial state
   least-up-to : (s : ℕ) → IsLeast (UpTo (FromStart f s) ceiling) (near s)
   least-up-to s =
-      let wf : WellFormed g = accepted-well-formed f (clear-reasons f ceiling (length output) work clear .0) in
+      let wf : WellFormed g = accepted-well-formed f 0 (clear-reasons f ceiling (length output) work clear .0) in
       let shown = distance-shown g wf (g .start) s (wf .start-state) in
       under-least (FromStart f s) (suc ceiling) (dist g (g .start) s) shown
 

@@ -58,5 +58,5 @@ abbrev pub distancesOutput : List ℕ → ℕ → List ℕ → ℕ → List ℕ
 distancesOutput f ceiling output work =
     written
     (unlessRefused (firstBroken (distanceReasons f ceiling (length output) work))
-    (some (distanceTable (graphOf f) ceiling)))
+    (some (distanceTable (graphOf f 0) ceiling)))
     output

@@ -16,7 +16,7 @@ use Rattle.distances.specs.Distances.{notReached, distanceReasons, dista
 
 -- some path with n edges leads from the initial state of the file's model to s
 abbrev pub FromStart : List ℕ → ℕ → ℕ → Type 0
-FromStart f s n = PathLength (graphOf f) (graphOf f .start) s n
+FromStart f s n = PathLength (graphOf f 0) (graphOf f 0 .start) s n
 
 -- the entry of the output at place i is d after the call
 abbrev pub EntryIs : List ℕ → ℕ → List ℕ → ℕ → ℕ → ℕ → Type 0

@@ -22,6 +22,9 @@ pub enum DistancesAnswer {
     Written(u16),
 }
 
+// The mark table of a call that names none. Distances do not depend on marks.
+const TABLE_NOT_NAMED: u16 = 0;
+
 // The entry of a state that has no distance from the initial state up to the ceiling.
 const NOT_REACHED: u16 = 65535;
 
@@ -48,7 +51,7 @@ fn distances_model(
     output: &mut [u16],
     work: &mut [u16],
 ) -> DistancesAnswer
-    requires { ⌜ Valid (now file) h ⌝ }
+    requires { ⌜ Valid (now file) h × (h .table ≡ 0) ⌝ }
     requires { ⌜ 6 * h .states ≤ length (now work) ⌝ }
     ensures outcome { λ r. ⌜ distancesOutcomeOf r
         ≡ distancesOutcome (now (file .entry)) (ceiling .0)
@@ -87,9 +90,9 @@ pub fn distances(
         (length (now (output .entry))) (length (now (work .entry))) ⌝ }
     ensures output { λ _. ⌜ now (output .exit)
         ≡ distancesOutput (now (file .entry)) (ceiling .0) (now (output .entry)) (length (now (work .entry))) ⌝ }
-    ensures work { λ _. ⌜ now (work .exit) ≡ workOf (now (file .entry)) (now (work .entry)) ⌝ }
+    ensures work { λ _. ⌜ now (work .exit) ≡ workOf (now (file .entry)) 0 (now (work .entry)) ⌝ }
 {
-    let checked = enter(file, work);
+    let checked = enter(file, TABLE_NOT_NAMED, work);
     match checked {
         Checked::Refused(number) => DistancesAnswer::Refused(number),
         Checked::Accept(h) => {

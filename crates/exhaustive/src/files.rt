@@ -1,4 +1,5 @@
-// Writes a model of up to seven states as a file, which holds its edges alone and says whether there are implied steps.
+// Writes a model of up to seven states as a file with one mark table, which holds its edges alone and says whether there are
+// implied steps.
 ghost use Prim.Native.Nat.{_<_, _≤_};
 use crate::digits::lower;
 use crate::digits::member;

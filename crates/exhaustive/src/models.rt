@@ -59,6 +59,17 @@ pub fn has_implied(m: Model) -> bool {
     all_implied(m) != 0
 }
 
+// The model with other marks.
+pub fn with_marks(m: Model, marks: u64) -> Model {
+    Model {
+        states: m.states,
+        initial: m.initial,
+        edges: m.edges,
+        marks: marks,
+        stays: m.stays,
+    }
+}
+
 // The model that has the implied steps as edges.
 pub fn explicit(m: Model) -> Model {
     Model {
@@ -167,12 +178,14 @@ fn random(states: usize, number: u64, stays: bool) -> Model
 }
 
 // How many models of so many states are compared: all up to three states, each without implied steps and with them.
-pub fn how_many(states: usize) -> u64 {
+pub fn how_many(states: usize) -> u64
+    ensures { λ r. ⌜ r ≤ 38000 ⌝ }
+{
     match states {
         1 => 8,
         2 => 256,
         3 => 24576,
-        _ => 40000,
+        _ => 38000,
     }
 }
 

@@ -6,12 +6,13 @@ use mathlib.Core.List.{List}
 use native.Mathlib.Omega.{arith}
 use native.Mathlib.Nat.{le-refl, le-trans}
 use lib.ListN.{length}
-use lib.Dec.{T, ltb, eqb→eq, ltb→lt, nltb→le}
+use lib.Dec.{T, eqb, ltb, eqb→eq, ltb→lt, nltb→le}
 use Rattle.lasso.specs.Lists.{anyb, below}
 use Rattle.lasso.specs.Graph.{ascendingb}
+use Rattle.lasso.proofs.Tests.{anyb-some, upFrom-range}
 use Rattle.format.specs.Bytes.{long}
 use Rattle.format.specs.Layout.{states, edgeCount, markBytes, rowEntry, target, rowTargets, markBit}
-use Rattle.format.specs.Rules.{badStates, badOffsets, badLength, badRows, badTargets, badOrder, badSpare}
+use Rattle.format.specs.Rules.{badStates, totalFits, badOffsets, badLength, badRows, badTargets, badOrder, spareSet, badSpare}
 use Rattle.format.proofs.Reasons.{kept, not-not, neqb→ne, none-passes, none-below}
 
 -- rule 2 is kept: the number of states is 1 to 4,096
@@ -21,12 +22,14 @@ states-kept f h =
     let m : states f ≤ 4096 = search (kept, nltb→le) in
     omega arith
 
--- rules 6 and 7 are kept: the file has the length of its kind
-pub length-kept : (total : ℕ) (f : List ℕ) → T (not (badOffsets total f)) → T (not (badLength f)) → length f ≡ total
-length-kept total f o l =
+-- rules 6 and 7 are kept: the file has the length of its kind with one of the numbers of mark tables
+pub length-kept : (total tables : ℕ) (f : List ℕ) → T (not (badOffsets total tables f)) → T (not (badLength f))
+    → (t : ℕ) × (t < tables) × (length f ≡ total + t * markBytes (states f))
+length-kept total tables f o l =
     let own : length f ≡ long f 20 = search (kept, eqb→eq) in
-    let given : long f 20 ≡ total = search (kept, eqb→eq) in
-    own ∙ given
+    let fits : T (totalFits total tables f) = search kept in
+    let (t, among, given) = anyb-some (λ t. eqb (long f 20) (total + t * markBytes (states f))) (below tables) fits in
+    (t, omega (arith, upFrom-range 0 tables among), own ∙ eqb→eq (long f 20) (total + t * markBytes (states f)) given)
 
 -- rule 8 is kept: the first row entry is 0
 pub row-first-kept : (f : List ℕ) → T (not (badRows f)) → rowEntry f 0 ≡ 0
@@ -54,9 +57,11 @@ pub order-kept : (f : List ℕ) → T (not (badOrder f)) → (s : ℕ) → s < s
 order-kept f h s l =
     not-not (ascendingb (rowTargets f s)) (none-below (λ (k : ℕ). not (ascendingb (rowTargets f k))) (states f) h s l)
 
--- rule 11 is kept: no spare bit is set
-pub spare-kept : (f : List ℕ) → T (not (badSpare f)) → (s : ℕ) → states f ≤ s → s < 8 * markBytes (states f) → T (not (markBit f s))
-spare-kept f h s l m = none-passes (markBit f) (states f) (8 * markBytes (states f) - states f) h s l (omega arith)
+-- rule 11 is kept: no spare bit of a table is set
+pub spare-kept : (tables : ℕ) (f : List ℕ) → T (not (badSpare tables f)) → (t : ℕ) → t < tables
+    → (s : ℕ) → states f ≤ s → s < 8 * markBytes (states f) → T (not (markBit f t s))
+spare-kept tables f h t less s l m =
+    none-passes (markBit f t) (states f) (8 * markBytes (states f) - states f) (none-below (spareSet f) tables h t less) s l (omega arith)
 
 -- a function that does not fall from one number below n to the next does not fall between numbers up to n
 rising : (g : ℕ → ℕ) (n : ℕ) → ((s : ℕ) → s < n → g s ≤ g (s + 1)) → (s d t : ℕ) → s + d ≡ t → t ≤ n → g s ≤ g t

@@ -1,4 +1,5 @@
--- The laws of the file's numbers and of the rules.
+-- The laws of the file's numbers, of its marks and of the rules.
 pub mod Words
+pub mod Marks
 pub mod Reasons
 pub mod Kept

@@ -1,4 +1,4 @@
--- The model file: a header of 24 bytes, the row table, the edge table, the marks.
+-- The model file: a header of 24 bytes, the row table, the edge table, the marks: one mark table or two.
 use Prim.Native.Nat.{ℕ, _+_, _*_, _-_, _/_, _%_, _≤_}
 use mathlib.Core.Path.{_≡_}
 use mathlib.Core.Bool.{Bool}
@@ -40,13 +40,17 @@ edgesAt n = rowsAt + 2 * (n + 1)
 abbrev pub marksAt : ℕ → ℕ → ℕ
 marksAt n m = edgesAt n + 2 * m
 
--- the number of mark bytes: N / 8 rounded up
+-- the number of bytes of a mark table: N / 8 rounded up
 abbrev pub markBytes : ℕ → ℕ
 markBytes n = (n + 7) / 8
 
--- the total length that N and M give
+-- the total length that N and M give with one mark table
 abbrev pub totalOf : ℕ → ℕ → ℕ
 totalOf n m = marksAt n m + markBytes n
+
+-- the offset of mark table t: the tables follow one another, each of the same size
+abbrev pub tableAt : (n m t : ℕ) → ℕ
+tableAt n m t = marksAt n m + t * markBytes n
 
 -- the row entry at a place of the row table
 abbrev pub rowEntry : List ℕ → ℕ → ℕ
@@ -65,9 +69,9 @@ rowNumbers f base s = map (λ e. word f (base + 2 * e)) (upFrom (rowEntry f s) (
 abbrev pub rowTargets : List ℕ → ℕ → List ℕ
 rowTargets f s = rowNumbers f (edgesAt (states f)) s
 
--- the mark of s: bit s mod 8 of byte s div 8 of the marks
-abbrev pub markBit : List ℕ → ℕ → Bool
-markBit f s = bitb (getD f (marksAt (states f) (edgeCount f) + s / 8) 0) (s % 8)
+-- the mark of s in mark table t: bit s mod 8 of byte s div 8 of that table; past the end of the file there is none
+abbrev pub markBit : List ℕ → (t s : ℕ) → Bool
+markBit f t s = bitb (getD f (tableAt (states f) (edgeCount f) t + s / 8) 0) (s % 8)
 
 -- n and m are the file's numbers of states and edges, within the limits, and the file has room for their tables
 pub record HasTables (f : List ℕ) (n m : ℕ) : Type 0 where

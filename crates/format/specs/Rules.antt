@@ -41,13 +41,18 @@ badInitial f = not (ltb (initial f) (states f))
 abbrev pub badReserved : List ℕ → Bool
 badReserved f = ltb 1 (reserved f)
 
--- 6. an offset differs from the one that N and M give, or the total length from the one of this kind of file
-abbrev pub badOffsets : ℕ → List ℕ → Bool
-badOffsets total f =
+-- the total length is one that a kind of file may have: `total` with one mark table, and one table's size more with each
+-- further one, up to `tables`
+abbrev pub totalFits : (total tables : ℕ) → List ℕ → Bool
+totalFits total tables f = anyb (λ t. eqb (long f 20) (total + t * markBytes (states f))) (below tables)
+
+-- 6. an offset differs from the one that N and M give, or the total length is none of those of this kind of file
+abbrev pub badOffsets : (total tables : ℕ) → List ℕ → Bool
+badOffsets total tables f =
     not (eqb (long f 8) rowsAt) ||
     (not (eqb (long f 12) (edgesAt (states f))) ||
     (not (eqb (long f 16) (marksAt (states f) (edgeCount f))) ||
-    not (eqb (long f 20) total)))
+    not (totalFits total tables f)))
 
 -- 7. the file's own length differs from the total length
 abbrev pub badLength : List ℕ → Bool
@@ -68,9 +73,13 @@ badTargets f = anyb (λ e. not (ltb (target f e) (states f))) (below (edgeCount 
 abbrev pub badOrder : List ℕ → Bool
 badOrder f = anyb (λ s. not (ascendingb (rowTargets f s))) (below (states f))
 
--- 11. a spare bit of the marks is set
-abbrev pub badSpare : List ℕ → Bool
-badSpare f = anyb (markBit f) (upFrom (states f) (8 * markBytes (states f) - states f))
+-- a spare bit of mark table t is set
+abbrev pub spareSet : List ℕ → (t : ℕ) → Bool
+spareSet f t = anyb (markBit f t) (upFrom (states f) (8 * markBytes (states f) - states f))
+
+-- 11. a spare bit of the marks is set, in one of the tables that this kind of file may have
+abbrev pub badSpare : (tables : ℕ) → List ℕ → Bool
+badSpare tables f = anyb (spareSet f) (below tables)
 
 -- the reasons 1 to 5, about the header's first fields, which are the same for every kind of file
 abbrev pub headRules : List ℕ → List Reason
@@ -81,20 +90,21 @@ headRules f =
     record { number = 4; holds = badInitial f } ∷
     record { number = 5; holds = badReserved f } ∷ []
 
--- the table of reasons for a kind of file, by the total length that this kind is to have
-abbrev pub rulesWith : ℕ → List ℕ → List Reason
-rulesWith total f =
+-- the table of reasons for a kind of file, by its total length with one mark table and the most mark tables that it may have
+abbrev pub rulesWith : (total tables : ℕ) → List ℕ → List Reason
+rulesWith total tables f =
     headRules f ++
-    record { number = 6; holds = badOffsets total f } ∷
+    record { number = 6; holds = badOffsets total tables f } ∷
     record { number = 7; holds = badLength f } ∷
     record { number = 8; holds = badRows f } ∷
     record { number = 9; holds = badTargets f } ∷
     record { number = 10; holds = badOrder f } ∷
-    record { number = 11; holds = badSpare f } ∷ []
+    record { number = 11; holds = badSpare tables f } ∷ []
 
--- the table of reasons that every call applies to its file: the total length is the one that N and M give
+-- the table of reasons that every call applies to its file: the total length is the one that N and M give with one mark
+-- table or with two
 abbrev pub rules : List ℕ → List Reason
-rules f = rulesWith (totalOf (states f) (edgeCount f)) f
+rules f = rulesWith (totalOf (states f) (edgeCount f)) 2 f
 
 -- an accepted file: one that breaks none of 1 to 11
 abbrev pub Accepted : List ℕ → Type 0

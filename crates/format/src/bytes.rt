@@ -1,6 +1,6 @@
 // Little-endian numbers in a slice of bytes.
 ghost use mathlib.Core.Path.{_≡_};
-ghost use Prim.Native.Nat.{_+_, _*_, _/_, _%_, _<_};
+ghost use Prim.Native.Nat.{_+_, _*_, _/_, _%_, _≤_, _<_};
 ghost use lib.ListN.{length, getD};
 ghost use Rattle.format.specs.Bytes.{bitb};
 ghost use Rattle.format.specs.Bytes;
@@ -29,10 +29,14 @@ pub fn long(file: &[u8], at: usize) -> usize
     word(file, at) + 65536 * word(file, at + 2)
 }
 
-// Bit s of the bytes from a place on, eight to a byte, bit 0 worth 1.
+// Bit s of the bytes from a place on, eight to a byte, bit 0 worth 1; past the end of the file no bit is set.
 pub fn bit(file: &[u8], at: usize, s: usize) -> bool
-    requires { ⌜ at + s / 8 < length (now file) ⌝ }
+    requires { ⌜ (at ≤ 65535) × (s ≤ 65535) ⌝ }
     ensures { λ r. ⌜ r ≡ bitb (getD (now (file .entry)) (at + s / 8) 0) (s % 8) ⌝ }
 {
-    (file[at + s / 8] >> (s % 8)) % 2 == 1
+    let byte = at + s / 8;
+    if file.len() <= byte {
+        return false;
+    }
+    (file[byte] >> (s % 8)) % 2 == 1
 }

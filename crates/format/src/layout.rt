@@ -4,7 +4,7 @@ ghost use mathlib.Core.Path.{_≡_};
 ghost use Prim.Native.Nat.{_+_, _*_, _≤_, _<_};
 ghost use lib.ListN.{length};
 ghost use Rattle.format.specs.Bytes.{words};
-ghost use Rattle.format.specs.Layout.{states, rowsAt, edgesAt, marksAt, markBytes, totalOf, rowEntry, rowNumbers, rowTargets};
+ghost use Rattle.format.specs.Layout.{states, rowsAt, edgesAt, marksAt, markBytes, totalOf, tableAt, rowEntry, rowNumbers, rowTargets};
 use crate::bytes::entry_at;
 
 // The offset of the row table.
@@ -26,7 +26,7 @@ pub fn marks_at(n: usize, m: usize) -> usize
     edges_at(n) + 2 * m
 }
 
-// The number of mark bytes.
+// The number of bytes of a mark table.
 pub fn mark_bytes(n: usize) -> usize
     requires { ⌜ n ≤ 4096 ⌝ }
     ensures { λ r. ⌜ r ≡ markBytes n ⌝ }
@@ -34,7 +34,15 @@ pub fn mark_bytes(n: usize) -> usize
     (n + 7) / 8
 }
 
-// The total length of a model file.
+// The offset of mark table t.
+pub fn table_at(n: usize, m: usize, t: usize) -> usize
+    requires { ⌜ (n ≤ 4096) × (m ≤ 8192) × (t ≤ 1) ⌝ }
+    ensures { λ r. ⌜ r ≡ tableAt n m t ⌝ }
+{
+    marks_at(n, m) + t * mark_bytes(n)
+}
+
+// The total length of a model file with one mark table.
 pub fn total_of(n: usize, m: usize) -> usize
     requires { ⌜ (n ≤ 4096) × (m ≤ 8192) ⌝ }
     ensures { λ r. ⌜ r ≡ totalOf n m ⌝ }

@@ -12,4 +12,5 @@ pub use layout::mark_bytes;
 pub use layout::marks_at;
 pub use layout::row;
 pub use layout::row_entry;
+pub use layout::table_at;
 pub use layout::total_of;

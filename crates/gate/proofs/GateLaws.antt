@@ -2,48 +2,50 @@
 -- says, which reasons are left to decide behind it, and what becomes of the working table.
 use Prim.Native.Nat.{ℕ, _*_, _≤_, _<_}
 use mathlib.Core.Path.{_≡_, refl, sym, _∙_, ap}
-use mathlib.Core.Bool.{Bool}
+use mathlib.Core.Bool.{Bool, true, false}
 use mathlib.Core.List.{List, [], _∷_, _++_}
 use mathlib.Core.Option.{Option, some, none}
 use mathlib.Core.Logic.{inl, inr}
 use native.Mathlib.Omega.{arith}
-use borrow.Author.Tests.{lt-ltb, le-ltb}
-use lib.ListN.{length, replicate}
+use borrow.Author.Tests.{lt-ltb, le-ltb, le-leb, ltb-false}
+use lib.ListN.{length, replicate, length-replicate}
 use Rattle.lasso.proofs.Tests.{lt-or-ge}
-use Rattle.lasso.specs.Lists.{someIf}
+use Rattle.lasso.specs.Lists.{pick, someIf}
 use Rattle.format.specs.Layout.{states}
 use Rattle.format.specs.Rules.{Reason, firstBroken, rules, Accepted}
 use Rattle.model.specs.declared.Header.{Header}
 use Rattle.model.specs.declared.Checked.{Checked}
 use Rattle.model.specs.declared.Checked.the-variants.{Refused, Accept}
-use Rattle.model.specs.Values.{answerOf, Valid}
-use Rattle.format.proofs.Reasons.{clear-append, broken-append, append-clear}
-use Rattle.model.proofs.Laws.{valid-sizes}
-use Rattle.gate.specs.Gate.{smallTable, commonRules, ceilingReason, gateOf, workAfter, workOf, Zeroed, Passed, GateSays}
+use Rattle.model.specs.Values.{headerOf, answerOf, Valid}
+use Rattle.format.proofs.Reasons.{clear-append, broken-append, append-clear, broken-number}
+use Rattle.model.proofs.Answers.{own-valid}
+use Rattle.model.specs.Model.{graphIn, graphOf}
+use Rattle.model.proofs.Laws.{valid-graph, valid-sizes}
+use Rattle.gate.specs.Gate.{smallTable, commonRules, noTable, namedRules, ceilingReason, gateOf, zeros, workEntered, workAfter, workOf, Zeroed, Passed, GateSays}
 
 -- the reason that the common table has behind those of the file
-abbrev pub tableReason : List ℕ → ℕ → List Reason
-tableReason f work = record { number = 12; holds = smallTable f work } ∷ []
+abbrev pub roomReason : List ℕ → ℕ → List Reason
+roomReason f work = record { number = 12; holds = smallTable f work } ∷ []
 
 -- a refused file is refused with the number of its check, whatever the working table
 pub common-refused : (f : List ℕ) (work n : ℕ) → firstBroken (rules f) ≡ some n → firstBroken (commonRules f work) ≡ some n
-common-refused f work n e = broken-append (rules f) (tableReason f work) n e
+common-refused f work n e = broken-append (rules f) (roomReason f work) n e
 
 -- an accepted file is refused with 12 if the working table is too small
 pub common-small : (f : List ℕ) (work : ℕ) → Accepted f → work < 6 * states f → firstBroken (commonRules f work) ≡ some 12
 common-small f work a less =
-    clear-append (rules f) (tableReason f work) a ∙ ap (λ (b : Bool). someIf b 12 none) (lt-ltb work (6 * states f) less)
+    clear-append (rules f) (roomReason f work) a ∙ ap (λ (b : Bool). someIf b 12 none) (lt-ltb work (6 * states f) less)
 
 -- an accepted file with room in the working table breaks none of 1 to 12
 pub common-clear : (f : List ℕ) (work : ℕ) → Accepted f → 6 * states f ≤ work → firstBroken (commonRules f work) ≡ none
 common-clear f work a room =
-    clear-append (rules f) (tableReason f work) a ∙ ap (λ (b : Bool). someIf b 12 none) (le-ltb work (6 * states f) room)
+    clear-append (rules f) (roomReason f work) a ∙ ap (λ (b : Bool). someIf b 12 none) (le-ltb work (6 * states f) room)
 
 -- a file that breaks none of 1 to 12 is accepted, and the working table has room
 pub clear-common : (f : List ℕ) (work : ℕ) → firstBroken (commonRules f work) ≡ none → Accepted f × (6 * states f ≤ work)
 clear-common f work e =
-    let a : Accepted f = append-clear (rules f) (tableReason f work) e in
-    let left : someIf {A = ℕ} (smallTable f work) 12 none ≡ none = sym (clear-append (rules f) (tableReason f work) a) ∙ e in (
+    let a : Accepted f = append-clear (rules f) (roomReason f work) e in
+    let left : someIf {A = ℕ} (smallTable f work) 12 none ≡ none = sym (clear-append (rules f) (roomReason f work) a) ∙ e in (
       a,
       elim (lt-or-ge work (6 * states f)) [
         | inl less ↦
@@ -52,6 +54,29 @@ clear-common f work e =
         | inr room ↦ room
       ],
     )
+
+module _ (f : List ℕ) (t work : ℕ) where
+  -- a call that names neither 0 nor 1 is refused with 22, whatever else holds
+  pub named-none : 1 < t → firstBroken (namedRules f t work) ≡ some 22
+  named-none l = ap (λ (b : Bool). someIf b 22 (firstBroken (commonRules f work))) (lt-ltb 1 t l)
+
+  -- a call that names 0 or 1 is left to 1 to 12
+  pub named-one : t ≤ 1 → firstBroken (namedRules f t work) ≡ firstBroken (commonRules f work)
+  named-one l = ap (λ (b : Bool). someIf b 22 (firstBroken (commonRules f work))) (le-ltb 1 t l)
+
+  -- a call that none of 22 and 1 to 12 refuses names 0 or 1, and none of 1 to 12 holds
+  pub clear-named : firstBroken (namedRules f t work) ≡ none → (t ≤ 1) × (firstBroken (commonRules f work) ≡ none)
+  clear-named e =
+      elim (lt-or-ge 1 t) [
+        | inl less ↦
+            let broken : _≡_ {A = Option ℕ} (some 22) none = sym (named-none less) ∙ e in
+            let z : _≡_ {A = ℕ} 0 1 = cc in absurd (omega arith)
+        | inr l ↦ (l, sym (named-one l) ∙ e)
+      ]
+
+-- the graph read by a valid header is the file's own, with the mark table that is named
+pub named-graph : {f : List ℕ} {h : Header} {t : ℕ} → Valid f h → h .table ≡ t → graphIn f h ≡ graphOf f t
+named-graph {f} v named = valid-graph v ∙ ap (graphOf f) named
 
 -- the room that the header of an accepted file asks is the room that the file asks
 pub valid-room : {f : List ℕ} {h : Header} → Valid f h → {n : ℕ} → 6 * h .states ≤ n → 6 * states f ≤ n
@@ -62,51 +87,93 @@ pub valid-small : {f : List ℕ} {h : Header} → Valid f h → (work : ℕ) →
 valid-small {f} v work less = common-small f work (v .accepted) (omega (arith, valid-sizes v .states-are))
 
 -- it breaks none of 1 to 12 if the table has that room
-pub valid-clear : {f : List ℕ} {h : Header} → Valid f h → (work : ℕ) → 6 * h .states ≤ work → firstBroken (commonRules f work) ≡ none
-valid-clear {f} v work room = common-clear f work (v .accepted) (valid-room v room)
+pub valid-common : {f : List ℕ} {h : Header} → Valid f h → (work : ℕ) → 6 * h .states ≤ work → firstBroken (commonRules f work) ≡ none
+valid-common {f} v work room = common-clear f work (v .accepted) (valid-room v room)
 
--- where 1 to 12 do not refuse a call, a ceiling above 4,096 does with 21, whatever comes behind it
-pub ceiling-high : (f : List ℕ) (work ceiling : ℕ) (rest : List Reason) → firstBroken (commonRules f work) ≡ none → 4096 < ceiling
-    → firstBroken (commonRules f work ++ ceilingReason ceiling ∷ rest) ≡ some 21
-ceiling-high f work ceiling rest e high =
-    clear-append (commonRules f work) (ceilingReason ceiling ∷ rest) e
+-- nor does 22 hold for the mark table that the header names
+pub valid-clear : {f : List ℕ} {h : Header} → Valid f h → (work : ℕ) → 6 * h .states ≤ work
+    → firstBroken (namedRules f (h .table) work) ≡ none
+valid-clear {f} {h} v work room = named-one f (h .table) work (v .table-limit) ∙ valid-common v work room
+
+-- where the reasons before it do not refuse a call, a ceiling above 4,096 does with 21, whatever comes behind it
+pub ceiling-high : (rs : List Reason) (ceiling : ℕ) (rest : List Reason) → firstBroken rs ≡ none → 4096 < ceiling
+    → firstBroken (rs ++ ceilingReason ceiling ∷ rest) ≡ some 21
+ceiling-high rs ceiling rest e high =
+    clear-append rs (ceilingReason ceiling ∷ rest) e
     ∙ ap (λ (b : Bool). someIf b 21 (firstBroken rest)) (lt-ltb 4096 ceiling high)
 
 -- with a ceiling up to 4,096 the reasons behind it decide
-pub ceiling-low : (f : List ℕ) (work ceiling : ℕ) (rest : List Reason) → firstBroken (commonRules f work) ≡ none → ceiling ≤ 4096
-    → firstBroken (commonRules f work ++ ceilingReason ceiling ∷ rest) ≡ firstBroken rest
-ceiling-low f work ceiling rest e low =
-    clear-append (commonRules f work) (ceilingReason ceiling ∷ rest) e
+pub ceiling-low : (rs : List Reason) (ceiling : ℕ) (rest : List Reason) → firstBroken rs ≡ none → ceiling ≤ 4096
+    → firstBroken (rs ++ ceilingReason ceiling ∷ rest) ≡ firstBroken rest
+ceiling-low rs ceiling rest e low =
+    clear-append rs (ceilingReason ceiling ∷ rest) e
     ∙ ap (λ (b : Bool). someIf b 21 (firstBroken rest)) (le-ltb 4096 ceiling low)
 
 -- what the gate answers is so: with a refusal its number is that of the first reason that holds, with a header the call
 -- may go on
-pub gate-says : (f : List ℕ) (work : ℕ) (r : Checked) → r ≡ gateOf f work → GateSays f work r
-gate-says f work r e = go (firstBroken (commonRules f work)) refl r e
+pub gate-says : (f : List ℕ) (t work : ℕ) (r : Checked) → r ≡ gateOf f t work → GateSays f t work r
+gate-says f t work r e = go (firstBroken (namedRules f t work)) refl r e
   where
-    go : (o : Option ℕ) → firstBroken (commonRules f work) ≡ o → (r : Checked) → r ≡ answerOf o f → GateSays f work r
+    go : (o : Option ℕ) → firstBroken (namedRules f t work) ≡ o → (r : Checked) → r ≡ answerOf o (headerOf f t) → GateSays f t work r
     go none q (Refused n) e = let z : _≡_ {A = ℕ} 0 1 = cc in absurd (omega arith)
     go none q (Accept h) e =
-        let (accepted, room) = clear-common f work q in
-        let v : Valid f h = record { accepted = accepted; header = cc } in
-        record { valid = v; room = omega (arith, room, valid-sizes v .states-are); clear = q }
+        let (one, clear) = clear-named f t work q in
+        let (accepted, room) = clear-common f work clear in
+        let own : h ≡ headerOf f t = cc in
+        let v : Valid f h = own-valid accepted one own in
+        record {
+          valid = v;
+          named = ap (λ (x : Header). x .table) own;
+          room = omega (arith, room, valid-sizes v .states-are);
+          clear = q;
+        }
     go (some m) q (Refused n) e = let same : m ≡ n = cc in q ∙ ap some same
     go (some m) q (Accept h) e = let z : _≡_ {A = ℕ} 0 1 = cc in absurd (omega arith)
 
--- the gate has refused: a reason of 1 to 12 holds
-pub gate-refused : (f : List ℕ) (work : ℕ) {r : Checked} {n : ℕ} → r ≡ gateOf f work → r ≡ Refused n → firstBroken (commonRules f work) ≡ some n
-gate-refused f work e q = gate-says f work (Refused _) (sym q ∙ e)
+-- the gate has refused: a reason of 22 and 1 to 12 holds
+pub gate-refused : (f : List ℕ) (t work : ℕ) {r : Checked} {n : ℕ} → r ≡ gateOf f t work → r ≡ Refused n
+    → firstBroken (namedRules f t work) ≡ some n
+gate-refused f t work e q = gate-says f t work (Refused _) (sym q ∙ e)
 
 -- the gate has let the call pass
-pub gate-passed : (f : List ℕ) (work : ℕ) {r : Checked} {h : Header} → r ≡ gateOf f work → r ≡ Accept h → Passed f work h
-gate-passed f work e q = gate-says f work (Accept _) (sym q ∙ e)
+pub gate-passed : (f : List ℕ) (t work : ℕ) {r : Checked} {h : Header} → r ≡ gateOf f t work → r ≡ Accept h → Passed f t work h
+gate-passed f t work e q = gate-says f t work (Accept _) (sym q ∙ e)
 
--- a call that 1 to 12 refuse leaves the working table untouched
-pub work-refused : (f w : List ℕ) (n : ℕ) → firstBroken (commonRules f (length w)) ≡ some n → w ≡ workOf f w
-work-refused f w n e = sym (ap (λ (o : Option ℕ). workAfter o w) e)
+-- the number of a reason of 1 to 12 is one of them
+common-number : (f : List ℕ) (work n : ℕ) → firstBroken (commonRules f work) ≡ some n → n ≤ 12
+common-number f work n e = broken-number (λ m. m ≤ 12) (commonRules f work) (omega arith) n e
 
--- a call that 1 to 12 do not refuse leaves it all zero, at the length it had
-pub work-left : (f w : List ℕ) {w₁ w' : List ℕ} → firstBroken (commonRules f (length w)) ≡ none → length w₁ ≡ length w
-    → Zeroed w₁ w' → w' ≡ workOf f w
-work-left f w e same left =
-    left .zeros ∙ ap (λ (n : ℕ). replicate n 0) same ∙ sym (ap (λ (o : Option ℕ). workAfter o w) e)
+-- the gate leaves a working table that it cleared all zero, after 22
+pub entered-zero : (t : ℕ) {w w₁ : List ℕ} → 1 < t → Zeroed w w₁ → w₁ ≡ workEntered t w
+entered-zero t {w} more left = left .all-zero ∙ sym (ap (λ (b : Bool). pick b (zeros w) w) (lt-ltb 1 t more))
+
+-- it leaves one that it did not touch as it was, if 22 does not hold
+pub entered-same : (t : ℕ) (w : List ℕ) → t ≤ 1 → w ≡ workEntered t w
+entered-same t w one = sym (ap (λ (b : Bool). pick b (zeros w) w) (le-ltb 1 t one))
+
+-- behind the gate the working table has as many entries as before
+pub entered-length : (t : ℕ) (w : List ℕ) {w₁ : List ℕ} → w₁ ≡ workEntered t w → length w₁ ≡ length w
+entered-length t w e = ap length e ∙ go (noTable t)
+  where
+    go : (b : Bool) → length (pick b (zeros w) w) ≡ length w
+    go true = length-replicate (length w) 0
+    go false = refl
+
+module _ (f : List ℕ) (t : ℕ) (w : List ℕ) where
+  -- a call that the gate refuses leaves the working table as the gate did
+  pub work-refused : {w₁ : List ℕ} (n : ℕ) → firstBroken (namedRules f t (length w)) ≡ some n → w₁ ≡ workEntered t w → w₁ ≡ workOf f t w
+  work-refused n e same =
+      elim (lt-or-ge 1 t) [
+        | inl more ↦
+            same ∙ ap (λ (b : Bool). pick b (zeros w) w) (lt-ltb 1 t more)
+            ∙ sym (ap (λ (o : Option ℕ). workAfter o w) (named-none f t (length w) more))
+        | inr one ↦
+            same ∙ sym (entered-same t w one)
+            ∙ sym (ap (λ (o : Option ℕ). workAfter o w) e
+            ∙ ap (λ (b : Bool). pick b w (zeros w)) (le-leb n 12 (common-number f (length w) n (sym (named-one f t (length w) one) ∙ e))))
+      ]
+
+  -- a call that the gate does not refuse leaves it all zero, at the length it had
+  pub work-left : {w₁ w' : List ℕ} → firstBroken (namedRules f t (length w)) ≡ none → length w₁ ≡ length w → Zeroed w₁ w' → w' ≡ workOf f t w
+  work-left e same left =
+      left .all-zero ∙ ap (λ (n : ℕ). replicate n 0) same ∙ sym (ap (λ (o : Option ℕ). workAfter o w) e)

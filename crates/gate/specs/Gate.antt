@@ -1,30 +1,39 @@
--- The reasons 1 to 12, which every call applies, reason 21, and the working table after a call.
+-- Reason 22, the reasons 1 to 12, which every call applies to its file, reason 21, and the working table after a call.
 use Prim.Native.Nat.{ℕ, _*_, _≤_}
 use mathlib.Core.Path.{_≡_}
 use mathlib.Core.Bool.{Bool}
 use mathlib.Core.List.{List, [], _∷_, _++_}
 use mathlib.Core.Option.{Option, some, none}
 use lib.ListN.{length, replicate}
-use lib.Dec.{ltb}
+use lib.Dec.{leb, ltb}
+use Rattle.lasso.specs.Lists.{pick}
 use Rattle.format.specs.Layout.{states}
 use Rattle.format.specs.Rules.{Reason, firstBroken, rules}
-use Rattle.model.specs.Values.{answerOf, Valid}
+use Rattle.model.specs.Values.{headerOf, answerOf, Valid}
 use Rattle.gate.specs.declared.Ask.{Ask}
 use Rattle.model.specs.declared.Header.{Header}
 use Rattle.model.specs.declared.Checked.{Checked}
 use Rattle.model.specs.declared.Checked.the-variants.{Refused, Accept}
 
--- what a search asks that names this ceiling and this allowance
-abbrev pub asking : (ceiling allowance : ℕ) → Ask
-asking ceiling allowance = record { ceiling = record { 0 = ceiling }; allowance = allowance }
+-- what a search asks that names this mark table, this ceiling and this allowance
+abbrev pub asking : (table ceiling allowance : ℕ) → Ask
+asking table ceiling allowance = record { table = table; ceiling = record { 0 = ceiling }; allowance = allowance }
 
 -- 12. the working table has fewer than 6 × N entries
 abbrev pub smallTable : List ℕ → ℕ → Bool
 smallTable f work = ltb work (6 * states f)
 
--- the reasons 1 to 12, which every call applies
+-- the reasons 1 to 12
 abbrev pub commonRules : List ℕ → ℕ → List Reason
 commonRules f work = rules f ++ record { number = 12; holds = smallTable f work } ∷ []
+
+-- 22. the mark table named is neither 0 nor 1
+abbrev pub noTable : ℕ → Bool
+noTable t = ltb 1 t
+
+-- the reasons 22 and 1 to 12, which a call that names a mark table applies
+abbrev pub namedRules : List ℕ → (t work : ℕ) → List Reason
+namedRules f t work = record { number = 22; holds = noTable t } ∷ commonRules f work
 
 -- 21. the ceiling is above 4,096
 abbrev pub highCeiling : ℕ → Bool
@@ -34,30 +43,42 @@ highCeiling ceiling = ltb 4096 ceiling
 abbrev pub ceilingReason : ℕ → Reason
 ceilingReason ceiling = record { number = 21; holds = highCeiling ceiling }
 
--- the gate's answer: refused with the number of the first of 1 to 12 that holds, or accepted with the header
-abbrev pub gateOf : List ℕ → ℕ → Checked
-gateOf f work = answerOf (firstBroken (commonRules f work)) f
+-- the gate's answer: refused with the number of the first of 22 and 1 to 12 that holds, or accepted with the header, which
+-- names the mark table
+abbrev pub gateOf : List ℕ → (t work : ℕ) → Checked
+gateOf f t work = answerOf (firstBroken (namedRules f t work)) (headerOf f t)
 
--- the working table afterwards: untouched after 1 to 12, else all zero, however long it is
+-- as many zeros as the table has entries
+abbrev pub zeros : List ℕ → List ℕ
+zeros w = replicate (length w) 0
+
+-- the working table behind the gate: all zero after 22, else as it was
+abbrev pub workEntered : (t : ℕ) → List ℕ → List ℕ
+workEntered t w = pick (noTable t) (zeros w) w
+
+-- the working table afterwards, by the first of 22 and 1 to 12 that holds: untouched after 1 to 12, else all zero, however
+-- long it is
 abbrev pub workAfter : Option ℕ → List ℕ → List ℕ
-workAfter none w = replicate (length w) 0
-workAfter (some n) w = w
+workAfter none w = zeros w
+workAfter (some n) w = pick (leb n 12) w (zeros w)
 
--- the working table after a call
-abbrev pub workOf : List ℕ → List ℕ → List ℕ
-workOf f w = workAfter (firstBroken (commonRules f (length w))) w
+-- the working table after a call that names mark table t; a call that names none is as one that names 0
+abbrev pub workOf : List ℕ → (t : ℕ) → List ℕ → List ℕ
+workOf f t w = workAfter (firstBroken (namedRules f t (length w))) w
 
 -- every entry of the table has become zero, and there are as many as before
 pub record Zeroed (w w' : List ℕ) : Type 0 where
-  pub zeros : w' ≡ replicate (length w) 0
+  pub all-zero : w' ≡ zeros w
 
--- a call that none of 1 to 12 refuses: an accepted file with its own header, and room for the six regions
-pub record Passed (f : List ℕ) (work : ℕ) (h : Header) : Type 0 where
+-- a call that none of 22 and 1 to 12 refuses: an accepted file with its own header, which names the mark table, and room
+-- for the six regions
+pub record Passed (f : List ℕ) (t work : ℕ) (h : Header) : Type 0 where
   pub valid : Valid f h
+  pub named : h .table ≡ t
   pub room : 6 * h .states ≤ work
-  pub clear : firstBroken (commonRules f work) ≡ none
+  pub clear : firstBroken (namedRules f t work) ≡ none
 
 -- what each answer of the gate says
-abbrev pub GateSays : List ℕ → ℕ → Checked → Type 0
-GateSays f work (Refused n) = firstBroken (commonRules f work) ≡ some n
-GateSays f work (Accept h) = Passed f work h
+abbrev pub GateSays : List ℕ → (t work : ℕ) → Checked → Type 0
+GateSays f t work (Refused n) = firstBroken (namedRules f t work) ≡ some n
+GateSays f t work (Accept h) = Passed f t work h

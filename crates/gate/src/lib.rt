@@ -1,24 +1,33 @@
-// The gate of every call: the reasons 1 to 12, which concern the file and the working table; reason 21, for the calls
-// that take a ceiling; and the way out, by which every call that passed the gate leaves the working table.
+// The gate of every call: reason 22, for the calls that name a mark table; the reasons 1 to 12, which concern the file and
+// the working table; reason 21, for the calls that take a ceiling; and the way out, by which every call that passed the
+// gate leaves the working table.
 ghost use mathlib.Core.Path.{_≡_};
 ghost use lib.ListN.{length};
-ghost use Rattle.gate.specs.Gate.{gateOf, highCeiling, Zeroed};
+ghost use Rattle.gate.specs.Gate.{gateOf, workEntered, highCeiling, Zeroed};
 use lasso::Transitions;
 use model::Checked;
 use model::check;
 use table::clear;
 
-// What a search names beside the file and the tables: the length that no list may exceed, and the rounds that it is
-// allowed.
+// What a search names beside the file and the tables that it is lent: the mark table, the length that no list may exceed,
+// and the rounds that it is allowed.
 pub struct Ask {
+    pub table: u16,
     pub ceiling: Transitions,
     pub allowance: u16,
 }
 
-// Applies the reasons 1 to 12 in order: the number of the first that holds, or the file's header.
-pub fn enter(file: &[u8], work: &[u16]) -> Checked
-    ensures { λ r. ⌜ r ≡ gateOf (now (file .entry)) (length (now (work .entry))) ⌝ }
+// Applies the reasons 22 and 1 to 12 in order: the number of the first that holds, or the file's header, which names the
+// mark table. After 22 the working table is all zero; in every other case it is as it was.
+pub fn enter(file: &[u8], mark_table: u16, work: &mut [u16]) -> Checked
+    ensures answer { λ r. ⌜ r ≡ gateOf (now (file .entry)) «mark_table» (length (now (work .entry))) ⌝ }
+    ensures work { λ _. ⌜ now (work .exit) ≡ workEntered «mark_table» (now (work .entry)) ⌝ }
 {
+    if 1 < mark_table {
+        leave(work);
+        return Checked::Refused(22);
+    }
+    let table = mark_table as usize;
     let checked = check(file);
     match checked {
         Checked::Refused(_) => checked,
@@ -26,7 +35,7 @@ pub fn enter(file: &[u8], work: &[u16]) -> Checked
             if work.len() < 6 * h.states {
                 return Checked::Refused(12);
             }
-            checked
+            Checked::Accept(h.naming(table))
         }
     }
 }

@@ -4,8 +4,6 @@ mod numbers;
 
 ghost use Prim.Native.Nat.{_≤_};
 ghost use lib.ListN.{length};
-use grade_trials::FALSE;
-use grade_trials::REFUSED;
 use grade_trials::Tried;
 use grade_trials::first;
 use grade_trials::wrong_work;
@@ -22,12 +20,13 @@ use numbers::make;
 use numbers::put_words;
 use table::put;
 
-// What a case says in numbers: how many bytes of its file are lent, the claimed k, and how many entries of the working
-// table are lent.
+// What a case says in numbers: how many bytes of its file are lent, the claimed k, how many entries of the working table
+// are lent, and the mark table that is named.
 struct CaseNumbers {
     size: usize,
     k: u16,
     room: usize,
+    mark_table: u16,
 }
 
 // How many working tables were looked at, and how many of them were not as they should be.
@@ -46,34 +45,43 @@ fn sum(count: u64, more: u64) -> u64 {
     count
 }
 
-// The numbers of a case, from a place of its line on; they are kept below what there is room for.
-fn numbers_at(line: &[u8], place: usize) -> CaseNumbers
-    requires { ⌜ place ≤ length (now line) ⌝ }
-    ensures { λ r. ⌜ (r .size ≤ 25200) × (r .room ≤ 24600) ⌝ }
+// The numbers of a case, from the part of its line that holds them; they are kept below what there is room for. The mark
+// table is 0 unless a fourth number says otherwise.
+fn numbers_in(words: &[u8]) -> CaseNumbers
+    ensures { λ r. ⌜ (r .size ≤ 25700) × (r .room ≤ 24600) ⌝ }
 {
-    let size = next_number(line, place);
-    let k = next_number(line, size.next);
-    let room = next_number(line, k.next);
+    let size = next_number(words, 0);
+    let k = next_number(words, size.next);
+    let room = next_number(words, k.next);
+    let mark_table = next_number(words, room.next);
     CaseNumbers {
-        size: size.value % 25201,
+        size: size.value % 25701,
         k: (k.value % 65536) as u16,
         room: room.value % 24601,
+        mark_table: (mark_table.value % 65536) as u16,
     }
 }
 
 // The grade that a case asks for: the file is described by one text, the list by another.
 fn grade(file_text: &[u8], list_text: &[u8], n: CaseNumbers) -> Tried
-    requires { ⌜ (n .size ≤ 25200) × (n .room ≤ 24600) ⌝ }
+    requires { ⌜ (n .size ≤ 25700) × (n .room ≤ 24600) ⌝ }
 {
-    let mut words = [0u16; 12600];
-    let mut file = [0u8; 25200];
+    let mut words = [0u16; 12850];
+    let mut file = [0u8; 25700];
     let mut list = [0u16; 70016];
     let mut work = [0u16; 24600];
     make(file_text, &mut words);
     put_words(&words, &mut file);
     let entries = make(list_text, &mut list);
     let lent = first(&list, entries);
-    grade_trials::grade(part(&file, 0, n.size), lent, n.k, &mut work, n.room)
+    grade_trials::grade(
+        part(&file, 0, n.size),
+        n.mark_table,
+        lent,
+        n.k,
+        &mut work,
+        n.room,
+    )
 }
 
 // Which text an answer has: two for each thing that is said, without a place and with one.
@@ -102,7 +110,7 @@ fn run_case(line: &[u8], colon: usize, before: Judged) -> Judged
     let tried = grade(
         part(line, slash, bar),
         part(line, bar, line.len()),
-        numbers_at(line, colon),
+        numbers_in(part(line, colon, slash)),
     );
     text(part(line, 0, colon));
     show(tried);
@@ -137,18 +145,18 @@ fn run(script: &[u8]) -> Judged {
     so_far
 }
 
-// Looks at a table that is right after a refusal and spoilt after a verdict, and at one that is spoilt after a refusal;
+// Looks at a table that is right after 12 and spoilt after 22 and after a verdict, and at one that is spoilt after 12;
 // answers how many count as wrong.
 fn spoilt() -> u64 {
     let mut table = [0u16; 8];
     fill(&mut table, VARIED);
-    let looked = wrong_work(&table, REFUSED) + wrong_work(&table, FALSE);
+    let looked = wrong_work(&table, 12) + wrong_work(&table, 22) + wrong_work(&table, 0);
     put(&mut table, 5, 0);
-    looked + wrong_work(&table, REFUSED)
+    looked + wrong_work(&table, 12)
 }
 
 fn main() {
-    let mut input = [0u8; 40000];
+    let mut input = [0u8; 50000];
     let got = io::read_full(STDIN_FILENO, &mut input);
     let all = run(&input[..got]);
     say(

@@ -104,9 +104,9 @@ pub fn make(words: &[u8], table: &mut [u16]) -> usize
 }
 
 // Writes the numbers of a table to a file, the low byte of each first.
-pub fn put_words(words: &[u16; 12600], file: &mut [u8]) {
+pub fn put_words(words: &[u16; 12850], file: &mut [u8]) {
     let mut i = 0;
-    while i < 12600 {
+    while i < 12850 {
         put16(file, 2 * i, get(words, i));
         i += 1;
     }

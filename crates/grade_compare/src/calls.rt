@@ -29,27 +29,34 @@ fn table_of(c: Claim) -> Table {
     ]
 }
 
-// A grade of a list with a claimed k, with room for so many entries in the working table.
-pub fn grade(file: &[u8], c: Claim, room: usize) -> Tried
+// A grade of a list with a claimed k by the marks of a table, with room for so many entries in the working table.
+pub fn grade(file: &[u8], mark_table: u16, c: Claim, room: usize) -> Tried
     requires { ⌜ room ≤ 48 ⌝ }
 {
     let table = table_of(c);
     let mut work = [0u16; 48];
     let k = (c.k % 65536) as u16;
-    grade_trials::grade(file, first(&table, c.entries), k, &mut work, room)
+    grade_trials::grade(
+        file,
+        mark_table,
+        first(&table, c.entries),
+        k,
+        &mut work,
+        room,
+    )
 }
 
-// A search of a model with so many states.
-pub fn search(file: &[u8], table: &mut Table, states: usize) -> u64
-    requires { ⌜ states ≤ 7 ⌝ }
+// A search by the marks of a table, with room for so many entries in the working table.
+pub fn search(file: &[u8], mark_table: u16, table: &mut Table, room: usize) -> u64
+    requires { ⌜ room ≤ 48 ⌝ }
 {
     let mut work = [0u16; 48];
-    trials::search(file, 4096, 65535, table, 8, &mut work, 6 * states)
+    trials::search(file, mark_table, 4096, 65535, table, 8, &mut work, room)
 }
 
 // Next after the list in the table, which an answer brought.
-pub fn next(file: &[u8], before: u64, table: &mut Table, states: usize) -> u64
-    requires { ⌜ states ≤ 7 ⌝ }
+pub fn next(file: &[u8], mark_table: u16, before: u64, table: &mut Table, room: usize) -> u64
+    requires { ⌜ room ≤ 48 ⌝ }
 {
     let earlier = [
         table[0],
@@ -64,19 +71,27 @@ pub fn next(file: &[u8], before: u64, table: &mut Table, states: usize) -> u64
     let mut work = [0u16; 48];
     trials::next(
         file,
+        mark_table,
         first(&earlier, written(before)),
         table,
         8,
         &mut work,
-        6 * states,
+        room,
     )
 }
 
 // The grade of the list in the table, with the k of the answer that brought it.
-pub fn grade_found(file: &[u8], code: u64, table: &Table, states: usize) -> Tried
-    requires { ⌜ states ≤ 7 ⌝ }
+pub fn grade_found(file: &[u8], mark_table: u16, code: u64, table: &Table, room: usize) -> Tried
+    requires { ⌜ room ≤ 48 ⌝ }
 {
     let k = (second_of(code) % 65536) as u16;
     let mut work = [0u16; 48];
-    grade_trials::grade(file, first(table, written(code)), k, &mut work, 6 * states)
+    grade_trials::grade(
+        file,
+        mark_table,
+        first(table, written(code)),
+        k,
+        &mut work,
+        room,
+    )
 }

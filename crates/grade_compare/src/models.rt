@@ -1,7 +1,5 @@
-// The models: all of one and two states, every fifth of three, 480 pseudo-random ones of four.
+// The models: all of one and two states, every fifth of three, 432 pseudo-random ones of four.
 ghost use Prim.Native.Nat.{_<_, _≤_};
-use exhaustive::Model;
-use exhaustive::numbered;
 
 // The numbers at which the models of two, three and four states begin, and the end.
 const TWO: u64 = 8;
@@ -10,7 +8,7 @@ const THREE: u64 = 264;
 
 const FOUR: u64 = 5180;
 
-pub const END: u64 = 5660;
+pub const END: u64 = 5612;
 
 // How many states the model with a number has.
 pub fn states_at(number: u64) -> usize
@@ -28,19 +26,19 @@ pub fn states_at(number: u64) -> usize
     4
 }
 
-// The model with a number, which has so many states. Of those with three states every fifth is taken: each edge set
-// nine or ten times, with all initial states and various marks, and with 0 and 1 in bytes 6–7.
-pub fn model_at(states: usize, number: u64) -> Model
-    requires { ⌜ 0 < states ⌝ }
+// The number that the model with a number has among those of its states. Of those with three states every fifth is taken:
+// each edge set nine or ten times, with all initial states and various marks, and with 0 and 1 in bytes 6–7.
+pub fn among_its_states(number: u64) -> u64
+    requires { ⌜ number < 5612 ⌝ }
 {
     if number < TWO {
-        return numbered(states, number);
+        return number;
     }
     if number < THREE {
-        return numbered(states, number - TWO);
+        return number - TWO;
     }
     if number < FOUR {
-        return numbered(states, 5 * (number - THREE));
+        return 5 * (number - THREE);
     }
-    numbered(states, number - FOUR)
+    number - FOUR
 }

@@ -1,5 +1,6 @@
 // The counts that are printed, and the comparison that counts differences.
 use exhaustive::Model;
+use exhaustive::Placed;
 use grade_apart::Claim;
 use grade_apart::Graded;
 use grade_trials::ACCEPTING;
@@ -8,11 +9,15 @@ use grade_trials::SHORTEST;
 use grade_trials::Tried;
 use harness::say;
 
-// The counts: models, those with an implied step, lists, those with a place where they break, the sum of the places, grades,
+// The counts: files, those with an implied step, with two mark tables, with table 1 named, with a bit of the other marks
+// flipped; lists, those with a place where they break, the sum of the places, grades,
 // those of them with each verdict, lists brought by a search and next, differences.
 pub struct Tally {
-    models: u64,
+    files: u64,
     implied: u64,
+    two: u64,
+    second: u64,
+    flipped: u64,
     lists: u64,
     broken: u64,
     places: u64,
@@ -27,8 +32,11 @@ pub struct Tally {
 // No counts yet.
 pub fn nothing() -> Tally {
     Tally {
-        models: 0,
+        files: 0,
         implied: 0,
+        two: 0,
+        second: 0,
+        flipped: 0,
         lists: 0,
         broken: 0,
         places: 0,
@@ -59,11 +67,14 @@ fn one_if(count: u64, holds: bool) -> u64 {
     count
 }
 
-// With one model more.
-pub fn with_model(t: Tally, m: Model) -> Tally {
+// With one file more, of a model by the marks of its table that is named.
+pub fn with_file(t: Tally, p: Placed) -> Tally {
     Tally {
-        models: sum(t.models, 1),
-        implied: one_if(t.implied, exhaustive::has_implied(m)),
+        files: sum(t.files, 1),
+        implied: one_if(t.implied, exhaustive::has_implied(p.model)),
+        two: one_if(t.two, p.two),
+        second: one_if(t.second, p.named == 1),
+        flipped: one_if(t.flipped, p.flipped),
         lists: t.lists,
         broken: t.broken,
         places: t.places,
@@ -79,8 +90,11 @@ pub fn with_model(t: Tally, m: Model) -> Tally {
 // With so many lists more that were brought, and a difference unless all is right.
 pub fn with_brought(t: Tally, lists: usize, right: bool) -> Tally {
     Tally {
-        models: t.models,
+        files: t.files,
         implied: t.implied,
+        two: t.two,
+        second: t.second,
+        flipped: t.flipped,
         lists: t.lists,
         broken: t.broken,
         places: t.places,
@@ -149,8 +163,11 @@ pub fn with_grade(t: Tally, m: Model, c: Claim, seen: Tried, right: Graded) -> T
     let first = c.k == 0;
     let said = seen.said;
     Tally {
-        models: t.models,
+        files: t.files,
         implied: t.implied,
+        two: t.two,
+        second: t.second,
+        flipped: t.flipped,
         lists: one_if(t.lists, first),
         broken: one_if(t.broken, first && seen.broken),
         places: if first {
@@ -170,11 +187,14 @@ pub fn with_grade(t: Tally, m: Model, c: Claim, seen: Tried, right: Graded) -> T
 // Prints all counts.
 pub fn print(t: Tally) {
     say(
-        b"all models of 1 and 2 states, every fifth of 3 states, 480 random ones of 4 states\nmodels: #\n  with an implied step: #\nlists: #\n  with a place: #\n  sum of the places: #\ngrades: #\n  false: #\n  accepting: #\n  shortest: #\nlists brought by a search and next, graded shortest: #\ndifferences #\n",
+        b"all models of 1 and 2 states, every fifth of 3 states, 432 random ones of 4 states\nfiles: #\n  with an implied step: #\n  with two mark tables: #\n  with table 1 named: #\n  with one bit of the other marks flipped: #\nlists: #\n  with a place: #\n  sum of the places: #\ngrades: #\n  false: #\n  accepting: #\n  shortest: #\nlists brought by a search and next, graded shortest: #\ndifferences #\n",
         0,
         &[
-            t.models,
+            t.files,
             t.implied,
+            t.two,
+            t.second,
+            t.flipped,
             t.lists,
             t.broken,
             t.places,

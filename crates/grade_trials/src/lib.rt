@@ -4,9 +4,9 @@ ghost use lib.ListN.{length};
 use grader::GradeAnswer;
 use grader::Verdict;
 use harness::VARIED;
-use harness::ZEROS;
 use harness::fill;
 use harness::holds;
+use harness::left_after;
 use paths::FirstBreak;
 
 // What is said of a list: nothing, since the call was refused, or the verdict.
@@ -19,8 +19,7 @@ pub const ACCEPTING: usize = 2;
 pub const SHORTEST: usize = 3;
 
 // What a grade answered: what is said of the list, the number of the refusal (0 if there is none), whether there is a
-// place where the list breaks, and that place (0 if there is none). Then how many working tables are not as they must be:
-// untouched after a refusal, all zero after a verdict.
+// place where the list breaks, and that place (0 if there is none). Then how many working tables are not as they must be.
 pub struct Tried {
     pub said: usize,
     pub refusal: usize,
@@ -73,19 +72,11 @@ fn answered(given: GradeAnswer) -> Tried {
     }
 }
 
-// What the working table must hold: it is untouched after a refusal, and zero after a verdict.
-fn left_after(said: usize) -> usize {
-    if said == REFUSED {
-        return VARIED;
-    }
-    ZEROS
-}
-
-// 0 if the working table holds what it must after what is said, else 1.
-pub fn wrong_work(work: &[u16], said: usize) -> u64
+// 0 if the working table holds what it must after a refusal with a number, or 0 for a verdict; else 1.
+pub fn wrong_work(work: &[u16], refusal: usize) -> u64
     ensures { λ r. ⌜ r ≤ 1 ⌝ }
 {
-    if holds(work, 0, left_after(said)) {
+    if holds(work, 0, left_after(refusal)) {
         return 0;
     }
     1
@@ -101,21 +92,28 @@ pub fn first(list: &[u16], count: usize) -> &[u16] {
 }
 
 // A grade with the whole of a working table.
-fn grade_on(file: &[u8], list: &[u16], k: u16, work: &mut [u16]) -> Tried {
+fn grade_on(file: &[u8], mark_table: u16, list: &[u16], k: u16, work: &mut [u16]) -> Tried {
     fill(work, VARIED);
-    let given = answered(grader::grade(file, list, k, work));
+    let given = answered(grader::grade(file, mark_table, list, k, work));
     Tried {
         said: given.said,
         refusal: given.refusal,
         broken: given.broken,
         place: given.place,
-        wrong: wrong_work(work, given.said),
+        wrong: wrong_work(work, given.refusal),
     }
 }
 
-// A grade of a list with a claimed k, lent so many entries of a working table.
-pub fn grade(file: &[u8], list: &[u16], k: u16, work: &mut [u16], room: usize) -> Tried
+// A grade of a list with a claimed k by the marks of a table, lent so many entries of a working table.
+pub fn grade(
+    file: &[u8],
+    mark_table: u16,
+    list: &[u16],
+    k: u16,
+    work: &mut [u16],
+    room: usize,
+) -> Tried
     requires { ⌜ room ≤ length (now work) ⌝ }
 {
-    grade_on(file, list, k, &mut work[..room])
+    grade_on(file, mark_table, list, k, &mut work[..room])
 }

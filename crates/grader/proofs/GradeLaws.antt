@@ -23,7 +23,7 @@ use Rattle.paths.specs.Breaks.{firstBreak, breakOf}
 use Rattle.paths.proofs.BreakLaws.{started-unbroken}
 use Rattle.outcomes.specs.Outcome.{Outcome, refused, answered, outcome}
 use Rattle.outcomes.proofs.ReadBack.{loses-nothing}
-use Rattle.gate.specs.Gate.{commonRules}
+use Rattle.gate.specs.Gate.{namedRules}
 use Rattle.gate.proofs.GateLaws.{valid-clear}
 use Rattle.grader.specs.declared.Verdict.{Verdict}
 use Rattle.grader.specs.declared.Verdict.the-variants as Verdicts
@@ -138,16 +138,17 @@ verdict-accepted g xs k e b q =
     ap (λ (c : Bool). pick c (pick (leastb (leastLength g) (edges xs)) shortest accepting) Said.false) e
     ∙ ap (λ (c : Bool). pick c shortest accepting) q
 
--- refused by a reason of 1 to 12
-pub grade-refused : (f xs : List ℕ) (k work n : ℕ) → firstBroken (commonRules f work) ≡ some n → gradeOutcome f xs k work ≡ refused n
-grade-refused f xs k work n e = ap (λ (b : Option ℕ). outcome b (gradeOf (graphOf f) xs k)) e
+-- refused by a reason of 22 and 1 to 12
+pub grade-refused : (f : List ℕ) (t : ℕ) (xs : List ℕ) (k work n : ℕ) → firstBroken (namedRules f t work) ≡ some n
+    → gradeOutcome f t xs k work ≡ refused n
+grade-refused f t xs k work n e = ap (λ (b : Option ℕ). outcome b (gradeOf (graphOf f t) xs k)) e
 
--- graded with the verdict and the first place that breaks, where none of 1 to 12 holds
+-- graded with the verdict and the first place that breaks, where none of 22 and 1 to 12 holds
 pub grade-answered : (f : List ℕ) (h : Header) → Valid f h → (xs : List ℕ) (k work : ℕ) → 6 * h .states ≤ work → (v : Said) (p : Option ℕ)
     → verdict (graphIn f h) xs k ≡ v → firstBreak (graphIn f h) xs ≡ p
-    → gradeOutcome f xs k work ≡ answered (record { verdict = v; place = p })
+    → gradeOutcome f (h .table) xs k work ≡ answered (record { verdict = v; place = p })
 grade-answered f h valid xs k work room v p is at =
-    ap (λ (b : Option ℕ). outcome b (gradeOf (graphOf f) xs k)) (valid-clear valid work room)
+    ap (λ (b : Option ℕ). outcome b (gradeOf (graphOf f (h .table)) xs k)) (valid-clear valid work room)
     ∙ ap (λ (g : Graph). answered (gradeOf g xs k)) (sym (valid-graph valid))
     ∙ (λ i. answered (record { verdict = is i; place = at i }))
 

@@ -1,4 +1,4 @@
--- The grader: what it says of a list with a claimed k.
+-- The grader: what it says of a list with a claimed k, by the marks of the table that it names.
 use Prim.Native.Nat.{ℕ}
 use mathlib.Core.Bool.{Bool, _&&_}
 use mathlib.Core.Bool as Bool
@@ -13,7 +13,7 @@ use Rattle.model.specs.Model.{graphOf}
 use Rattle.format.specs.Rules.{firstBroken}
 use Rattle.paths.specs.Breaks.{firstBreak, breakOf}
 use Rattle.outcomes.specs.Outcome.{Outcome, refused, answered, outcome, LosesNothing}
-use Rattle.gate.specs.Gate.{commonRules}
+use Rattle.gate.specs.Gate.{namedRules}
 use Rattle.grader.specs.declared.Verdict.{Verdict}
 use Rattle.grader.specs.declared.Verdict.the-variants as Verdicts
 use Rattle.grader.specs.declared.GradeAnswer.{GradeAnswer}
@@ -65,6 +65,6 @@ GradeLosesNothing = LosesNothing gradeOutcomeOf
 abbrev pub gradeOf : Graph → List ℕ → ℕ → Grade
 gradeOf g xs k = record { verdict = verdict g xs k; place = firstBreak g xs }
 
--- what the grader answers: refused by 1 to 12 alone
-abbrev pub gradeOutcome : List ℕ → List ℕ → ℕ → ℕ → Outcome Grade
-gradeOutcome f xs k work = outcome (firstBroken (commonRules f work)) (gradeOf (graphOf f) xs k)
+-- what the grader answers that names mark table t: refused by 22 and 1 to 12 alone
+abbrev pub gradeOutcome : List ℕ → (t : ℕ) → List ℕ → ℕ → ℕ → Outcome Grade
+gradeOutcome f t xs k work = outcome (firstBroken (namedRules f t work)) (gradeOf (graphOf f t) xs k)

@@ -1,5 +1,5 @@
-// A public operation: the grade of a list with a claimed k. It applies the reasons 1 to 12, and leaves the working table
-// untouched after them and all zero otherwise.
+// A public operation: the grade of a list with a claimed k, by the marks of the table that it names. It applies the reasons
+// 22 and 1 to 12, and leaves the working table untouched after 1 to 12 and all zero otherwise.
 ghost use mathlib.Core.Path.{_≡_};
 ghost use mathlib.Core.Option.{none};
 ghost use Prim.Native.Nat.{_*_, _≤_};
@@ -135,7 +135,7 @@ fn grade_of_model(file: &[u8], h: Header, list: &[u16], k: usize, work: &mut [u1
     requires { ⌜ Valid (now file) h ⌝ }
     requires { ⌜ 6 * h .states ≤ length (now work) ⌝ }
     ensures outcome { λ r. ⌜ gradeOutcomeOf r
-        ≡ gradeOutcome (now (file .entry)) (now (list .entry)) k (length (now (work .entry))) ⌝ }
+        ≡ gradeOutcome (now (file .entry)) (h .table) (now (list .entry)) k (length (now (work .entry))) ⌝ }
     ensures kept { λ _. ⌜ length (now (work .exit)) ≡ length (now (work .entry)) ⌝ }
 {
     let broken = first_break(file, h, list);
@@ -149,12 +149,12 @@ fn grade_of_model(file: &[u8], h: Header, list: &[u16], k: usize, work: &mut [u1
 }
 
 // Grades a list with a claimed k: false, accepting or shortest, and the first place where the list breaks.
-pub fn grade(file: &[u8], list: &[u16], k: u16, work: &mut [u16]) -> GradeAnswer
+pub fn grade(file: &[u8], mark_table: u16, list: &[u16], k: u16, work: &mut [u16]) -> GradeAnswer
     ensures outcome { λ r. ⌜ gradeOutcomeOf r
-        ≡ gradeOutcome (now (file .entry)) (now (list .entry)) k (length (now (work .entry))) ⌝ }
-    ensures work { λ _. ⌜ now (work .exit) ≡ workOf (now (file .entry)) (now (work .entry)) ⌝ }
+        ≡ gradeOutcome (now (file .entry)) «mark_table» (now (list .entry)) k (length (now (work .entry))) ⌝ }
+    ensures work { λ _. ⌜ now (work .exit) ≡ workOf (now (file .entry)) «mark_table» (now (work .entry)) ⌝ }
 {
-    let checked = enter(file, work);
+    let checked = enter(file, mark_table, work);
     match checked {
         Checked::Refused(number) => GradeAnswer::Refused(number),
         Checked::Accept(h) => {

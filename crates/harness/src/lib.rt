@@ -51,3 +51,4 @@ pub use tables::ZEROS;
 pub use tables::entry;
 pub use tables::fill;
 pub use tables::holds;
+pub use tables::left_after;

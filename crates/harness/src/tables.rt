@@ -21,6 +21,15 @@ fn value_at(filling: usize, at: usize) -> usize
     }
 }
 
+// What a working table that was filled with varied numbers must hold after a call that was refused with a number, or 0 for
+// any other answer: it is untouched after 1 to 12, and zero after every other answer.
+pub fn left_after(refusal: usize) -> usize {
+    match refusal {
+        1..=12 => VARIED,
+        _ => ZEROS,
+    }
+}
+
 // Fills a table.
 pub fn fill(table: &mut [u16], filling: usize) {
     let mut i = 0;

@@ -22,13 +22,13 @@ use Rattle.model.specs.Model.{graphOf}
 use Rattle.format.specs.Rules.{Reason, firstBroken}
 use Rattle.outcomes.specs.Outcome.{answered, outcome}
 use Rattle.outcomes.specs.Tables.{tooLong, noRoom, listReasons}
-use Rattle.search.specs.Search.{stopped, searchOutcomeOf, stopsb, firstOf, searched, firstDue, searchReasons, searchOutcome}
+use Rattle.search.specs.Search.{stopped, searchOutcomeOf, stopsb, firstOf, searched, firstDue, graphAsked, searchReasons, searchOutcome}
 use Rattle.next.specs.Next.{nextOutcomeOf, notShortest, followed, dueReasons, nextReasons, nextOutcome}
 use Rattle.search.specs.declared.SearchAnswer.{SearchAnswer}
 use Rattle.search.specs.declared.SearchAnswer.the-variants as SearchAnswers
 use Rattle.next.specs.declared.NextAnswer.{NextAnswer}
 use Rattle.next.specs.declared.NextAnswer.the-variants as NextAnswers
-use Rattle.gate.specs.Gate.{commonRules, highCeiling, ceilingReason}
+use Rattle.gate.specs.Gate.{namedRules, highCeiling, ceilingReason}
 use Rattle.answers.specs.Kinds.{figuresIn}
 use Rattle.sequence.specs.Calls.{Call, search, next, Answer, ofSearch, ofNext, finderAt, foundLength}
 use Rattle.logged.specs.Log.{reportOf, reportRow, callRow, entriesOf, Made}
@@ -79,23 +79,23 @@ clear-behind [] ss e = e
 clear-behind (r ∷ rs) ss e = clear-behind rs ss (none-holds (r .holds) (r .number) (firstBroken (rs ++ ss)) e .1)
 
 -- a list of the roll for which neither 14 nor 15 holds has room
-due-fits : (f xs : List ℕ) (answer : ℕ) → firstBroken (listReasons f (some xs) answer) ≡ none → List·Memᴰ xs (roll (graphOf f))
+due-fits : (g : Graph) (xs : List ℕ) (answer : ℕ) → firstBroken (listReasons g (some xs) answer) ≡ none → List·Memᴰ xs (roll g)
     → Fits (suc (edges xs)) answer
-due-fits f xs answer clear m = go (leastLength (graphOf f)) refl
+due-fits g xs answer clear m = go (leastLength g) refl
   where
-    reasons : (tooLong (leastLength (graphOf f)) ≡ false) × (noRoom (some (edges xs)) answer ≡ false)
+    reasons : (tooLong (leastLength g) ≡ false) × (noRoom (some (edges xs)) answer ≡ false)
     reasons =
         let b : Bool = noRoom (some (edges xs)) answer in
-        let (short, rest) = none-holds (tooLong (leastLength (graphOf f))) 14 (someIf b 15 none) clear in
+        let (short, rest) = none-holds (tooLong (leastLength g)) 14 (someIf b 15 none) clear in
         (short, none-holds b 15 none rest .0)
 
-    go : (o : Option ℕ) → leastLength (graphOf f) ≡ o → Fits (suc (edges xs)) answer
-    go none e = absurd (List·Memᴰ·not-nil (subst (λ (rs : List (List ℕ)). List·Memᴰ xs rs) (roll-empty (graphOf f) .1 e) m))
+    go : (o : Option ℕ) → leastLength g ≡ o → Fits (suc (edges xs)) answer
+    go none e = absurd (List·Memᴰ·not-nil (subst (λ (rs : List (List ℕ)). List·Memᴰ xs rs) (roll-empty g .1 e) m))
     go (some l) e =
         let short : tooLong (some l) ≡ false = subst (λ (o : Option ℕ). tooLong o ≡ false) e (reasons .0) in
         let room : edges xs + 1 ≤ answer = ltb-false answer (edges xs + 1) (reasons .1) in
         let small : l ≤ 4096 = ltb-false 4096 l short in
-        let long : edges xs ≡ l = roll-lasso (graphOf f) l e xs m .1 in
+        let long : edges xs ≡ l = roll-lasso g l e xs m .1 in
         (omega arith, omega arith)
 
 -- the first of the lists has room, if it is what a search brings
@@ -112,52 +112,55 @@ search-fits : (f : List ℕ) (ask : Ask) (answer work : ℕ)
 search-fits f ask answer work = go (firstBroken (searchReasons f ask answer work)) refl
   where
     go : (o : Option ℕ) → firstBroken (searchReasons f ask answer work) ≡ o
-        → Fits (entriesOf (foundLength (ofSearch (outcome o (searched (graphOf f) ask))))) answer
+        → Fits (entriesOf (foundLength (ofSearch (outcome o (searched (graphAsked f ask) ask))))) answer
     go (some n) e = (omega arith, omega arith)
     go none e =
-        let g : Graph = graphOf f in
+        let g : Graph = graphAsked f ask in
         let c : ℕ = ask .ceiling .0 in
-        let behind : firstBroken (ceilingReason c ∷ listReasons f (firstDue g ask) answer) ≡ none
-        = clear-behind (commonRules f work) (ceilingReason c ∷ listReasons f (firstDue g ask) answer) e in
-        let clear : firstBroken (listReasons f (firstDue g ask) answer) ≡ none
-        = none-holds (highCeiling c) 21 (firstBroken (listReasons f (firstDue g ask) answer)) behind .1 in
+        let behind : firstBroken (ceilingReason c ∷ listReasons g (firstDue g ask) answer) ≡ none
+        = clear-behind (namedRules f (ask .table) work) (ceilingReason c ∷ listReasons g (firstDue g ask) answer) e in
+        let clear : firstBroken (listReasons g (firstDue g ask) answer) ≡ none
+        = none-holds (highCeiling c) 21 (firstBroken (listReasons g (firstDue g ask) answer)) behind .1 in
         searched-fits (rollWithin g c) (stopsb g (ask .allowance)) (afterRounds g c (ask .allowance)) (length (candidates g))
         answer
         (λ xs q m.
-        due-fits f xs answer (subst (λ (due : Option (List ℕ)). firstBroken (listReasons f due answer) ≡ none) q clear)
+        due-fits g xs answer (subst (λ (due : Option (List ℕ)). firstBroken (listReasons g due answer) ≡ none) q clear)
         (within-roll g c xs m))
 
 -- the list that a next brings has room
-next-fits : (f earlier : List ℕ) (answer work : ℕ)
-    → Fits (entriesOf (foundLength (ofNext (nextOutcome f earlier answer work)))) answer
-next-fits f earlier answer work = go (firstBroken (nextReasons f earlier answer work)) refl
+next-fits : (f : List ℕ) (t : ℕ) (earlier : List ℕ) (answer work : ℕ)
+    → Fits (entriesOf (foundLength (ofNext (nextOutcome f t earlier answer work)))) answer
+next-fits f t earlier answer work = go (firstBroken (nextReasons f t earlier answer work)) refl
   where
-    clear : (due : Option (List ℕ)) → firstBroken (commonRules f work ++ dueReasons f earlier due answer) ≡ none
-        → firstBroken (listReasons f due answer) ≡ none
+    g : Graph
+    g = graphOf f t
+
+    clear : (due : Option (List ℕ)) → firstBroken (namedRules f t work ++ dueReasons g earlier due answer) ≡ none
+        → firstBroken (listReasons g due answer) ≡ none
     clear due e =
-        none-holds (notShortest (graphOf f) earlier) 13 (firstBroken (listReasons f due answer))
-        (clear-behind (commonRules f work) (dueReasons f earlier due answer) e)
+        none-holds (notShortest g earlier) 13 (firstBroken (listReasons g due answer))
+        (clear-behind (namedRules f t work) (dueReasons g earlier due answer) e)
         .1
 
-    due-is : (due : Option (List ℕ)) → following earlier (roll (graphOf f)) ≡ due → firstBroken (listReasons f due answer) ≡ none
+    due-is : (due : Option (List ℕ)) → following earlier (roll g) ≡ due → firstBroken (listReasons g due answer) ≡ none
         → Fits (entriesOf (foundLength (ofNext (answered (followed due))))) answer
     due-is none q e = (omega arith, omega arith)
-    due-is (some xs) q e = due-fits f xs answer e (following-mem earlier (roll (graphOf f)) xs q)
+    due-is (some xs) q e = due-fits g xs answer e (following-mem earlier (roll g) xs q)
 
-    go : (o : Option ℕ) → firstBroken (nextReasons f earlier answer work) ≡ o
-        → Fits (entriesOf (foundLength (ofNext (outcome o (followed (following earlier (roll (graphOf f)))))))) answer
+    go : (o : Option ℕ) → firstBroken (nextReasons f t earlier answer work) ≡ o
+        → Fits (entriesOf (foundLength (ofNext (outcome o (followed (following earlier (roll g))))))) answer
     go (some n) e = (omega arith, omega arith)
-    go none e = due-is (following earlier (roll (graphOf f))) refl (clear (following earlier (roll (graphOf f))) e)
+    go none e = due-is (following earlier (roll g)) refl (clear (following earlier (roll g)) e)
 
 -- the answer table that a call is lent
 abbrev pub tableLent : Call → List ℕ
 tableLent (search ask a w) = a
-tableLent (next earlier a w) = a
+tableLent (next t earlier a w) = a
 
 -- the list that a call brings has room
 call-fits : (f : List ℕ) (c : Call) → Fits (entriesOf (foundLength (finderAt f c .answer))) (length (tableLent c))
 call-fits f (search ask a w) = search-fits f ask (length a) (length w)
-call-fits f (next earlier a w) = next-fits f earlier (length a) (length w)
+call-fits f (next t earlier a w) = next-fits f t earlier (length a) (length w)
 
 -- a call is made: its answer is the finder's, its numbers are in the log
 pub call-made : (f : List ℕ) (c : Call) (place : ℕ) {log a' w' log' : List ℕ} {got : ℕ} (answer : Answer) {kind : ℕ} {figures : List ℕ}

@@ -84,6 +84,7 @@ pub fn play_search(
 // A next, with its numbers put into the log.
 pub fn play_next(
     file: &[u8],
+    mark_table: u16,
     earlier: &[u16],
     answer: &mut [u16],
     work: &mut [u16],
@@ -92,11 +93,11 @@ pub fn play_next(
 ) -> usize
     requires { ⌜ place + 4 ≤ length (now log) ⌝ }
     ensures { λ r. ⌜ Made (now (file .entry))
-        (Rattle.sequence.specs.Calls.next (now (earlier .entry)) (now (answer .entry)) (now (work .entry)))
+        (Rattle.sequence.specs.Calls.next «mark_table» (now (earlier .entry)) (now (answer .entry)) (now (work .entry)))
         place (now (log .entry)) (now (answer .exit)) (now (work .exit)) (now (log .exit)) r ⌝ }
 {
     let mut figures = [0u16; 3];
-    let result = next(file, earlier, answer, work);
+    let result = next(file, mark_table, earlier, answer, work);
     let kind = report_next(result, &mut figures);
     put_row(log, place, kind, &figures);
     next_entries(result)

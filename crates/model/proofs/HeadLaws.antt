@@ -16,7 +16,7 @@ use Rattle.model.proofs.Answers.{answer-refused, answer-accepted}
 
 -- a file that keeps the rules 1 to 5, and its header
 pub record HeadKept (f : List ℕ) (h : Header) : Type 0 where
-  pub header : h ≡ headerOf f
+  pub header : h ≡ headerOf f 0
   pub clear : firstBroken (headRules f) ≡ none
   pub long-enough : 24 ≤ length f
   pub states-range : (1 ≤ states f) × (states f ≤ 4096)
@@ -26,7 +26,7 @@ pub record HeadKept (f : List ℕ) (h : Header) : Type 0 where
 -- a file whose first five rules are kept has such a header
 pub head-kept : (f : List ℕ) (h : Header) → headOf f ≡ Accept h → HeadKept f h
 head-kept f h e =
-    let accepted = answer-accepted (firstBroken (headRules f)) f h (sym e) in
+    let accepted = answer-accepted (firstBroken (headRules f)) (headerOf f 0) h (sym e) in
     let from1 = none-clear (headRules f) (accepted .0) in
     let from3 = from1 .1 .1 in
     record {
@@ -39,12 +39,13 @@ head-kept f h e =
     }
 
 -- the rules behind the first five decide, for every kind of file
-pub head-decides : {f : List ℕ} {h : Header} → HeadKept f h → (total : ℕ) → KeptTo 5 (rulesWith total f)
-head-decides {f} k total = clear-append (headRules f) (drop 5 (rulesWith total f)) (k .clear)
+pub head-decides : {f : List ℕ} {h : Header} → HeadKept f h → (total tables : ℕ) → KeptTo 5 (rulesWith total tables f)
+head-decides {f} k total tables = clear-append (headRules f) (drop 5 (rulesWith total tables f)) (k .clear)
 
 -- a file that the rules 1 to 5 refuse is refused with the same number, whatever its kind
-pub head-refuses : (total : ℕ) (f : List ℕ) (n : ℕ) → headOf f ≡ Refused n → headOf f ≡ checkWith total f
-head-refuses total f n e =
-    let broken : firstBroken (headRules f) ≡ some n = answer-refused (firstBroken (headRules f)) f n (sym e) in
-    let first : firstBroken (rulesWith total f) ≡ some n = broken-append (headRules f) (drop 5 (rulesWith total f)) n broken in
-    e ∙ sym (ap (λ (o : Option ℕ). answerOf o f) first)
+pub head-refuses : (total tables : ℕ) (f : List ℕ) (n : ℕ) → headOf f ≡ Refused n → headOf f ≡ checkWith total tables f
+head-refuses total tables f n e =
+    let broken : firstBroken (headRules f) ≡ some n = answer-refused (firstBroken (headRules f)) (headerOf f 0) n (sym e) in
+    let first : firstBroken (rulesWith total tables f) ≡ some n =
+    broken-append (headRules f) (drop 5 (rulesWith total tables f)) n broken in
+    e ∙ sym (ap (λ (o : Option ℕ). answerOf o (headerOf f 0)) first)

@@ -35,36 +35,38 @@ pub record Facts (f : List ℕ) : Type 0 where
   pub row-last : rowEntry f (states f) ≡ edgeCount f
   pub targets-below : (e : ℕ) → e < edgeCount f → target f e < states f
   pub targets-ascend : (s : ℕ) → s < states f → T (ascendingb (rowTargets f s))
-  pub spare-clear : (s : ℕ) → states f ≤ s → s < 8 * markBytes (states f) → T (not (markBit f s))
+  pub spare-clear : (s : ℕ) → states f ≤ s → s < 8 * markBytes (states f) → T (not (markBit f 0 s))
 
--- the facts of a file of a kind that keeps its rules, if its total length is at least a model file's
-pub kept-facts : (total : ℕ) (f : List ℕ) → totalOf (states f) (edgeCount f) ≤ total → firstBroken (rulesWith total f) ≡ none → Facts f
-kept-facts total f le a =
-    let from2 = none-clear (rulesWith total f) a .1 in
+-- the facts of a file of a kind that keeps its rules, if its total length is at least a model file's and it has a mark table
+pub kept-facts : (total tables : ℕ) (f : List ℕ) → totalOf (states f) (edgeCount f) ≤ total → 1 ≤ tables
+    → firstBroken (rulesWith total tables f) ≡ none → Facts f
+kept-facts total tables f le some a =
+    let from2 = none-clear (rulesWith total tables f) a .1 in
     let from6 = from2 .1 .1 .1 .1 in
     let from8 = from6 .1 .1 in
     record {
       states-range = states-kept f (from2 .0);
       edges-range = nltb→le 8192 (edgeCount f) (from2 .1 .0);
       initial-below = ltb→lt (initial f) (states f) (not-not (ltb (initial f) (states f)) (from2 .1 .1 .0));
-      file-length = omega (arith, length-kept total f (from6 .0) (from6 .1 .0));
+      file-length = omega (arith, length-kept total tables f (from6 .0) (from6 .1 .0));
       row-first = row-first-kept f (from8 .0);
       rows-ascend = rows-ascend-kept f (from8 .0);
       row-last = row-last-kept f (from8 .0);
       targets-below = targets-kept f (from8 .1 .0);
       targets-ascend = order-kept f (from8 .1 .1 .0);
-      spare-clear = spare-kept f (from8 .1 .1 .1 .0);
+      spare-clear = spare-kept tables f (from8 .1 .1 .1 .0) 0 (omega arith);
     }
 
--- a file of a kind that keeps its rules has the length of its kind
-pub kept-length : (total : ℕ) (f : List ℕ) → firstBroken (rulesWith total f) ≡ none → length f ≡ total
-kept-length total f a =
-    let from6 = none-clear (rulesWith total f) a .1 .1 .1 .1 .1 in
-    length-kept total f (from6 .0) (from6 .1 .0)
+-- a file of a kind that keeps its rules has the length of its kind with one of the numbers of mark tables
+pub kept-length : (total tables : ℕ) (f : List ℕ) → firstBroken (rulesWith total tables f) ≡ none
+    → (t : ℕ) × (t < tables) × (length f ≡ total + t * markBytes (states f))
+kept-length total tables f a =
+    let from6 = none-clear (rulesWith total tables f) a .1 .1 .1 .1 .1 in
+    length-kept total tables f (from6 .0) (from6 .1 .0)
 
 -- an accepted file's facts
 pub accepted-facts : (f : List ℕ) → Accepted f → Facts f
-accepted-facts f a = kept-facts (totalOf (states f) (edgeCount f)) f (le-refl _) a
+accepted-facts f a = kept-facts (totalOf (states f) (edgeCount f)) 2 f (le-refl _) (omega arith) a
 
 -- a row ends within the edge table
 pub row-end-le : {f : List ℕ} → Facts f → (s : ℕ) → s < states f → rowEntry f (s + 1) ≤ edgeCount f
@@ -101,7 +103,7 @@ unfolding stepsOf
 steps-succs f h s part l e = ap (withImplied (h .stays) s) e ∙ sym (succs-row f h s l)
 
 -- the mark of a state is its bit
-pub marked-bit : (f : List ℕ) (h : Header) (s : ℕ) → s < h .states → graphIn f h .marked s ≡ markBit f s
+pub marked-bit : (f : List ℕ) (h : Header) (s : ℕ) → s < h .states → graphIn f h .marked s ≡ markBit f (h .table) s
 marked-bit f h s l = rw (lt-ltb s (h .states) l)
 
 -- a number from the number of states on has no successors
@@ -109,43 +111,43 @@ pub succs-none : (f : List ℕ) (h : Header) (s : ℕ) → h .states ≤ s → g
 succs-none f h s l = rw (le-ltb s (h .states) l, and-false (h .stays))
 
 -- the targets of every number's row ascend strictly
-succs-ascend : {f : List ℕ} → Facts f → (s : ℕ) → T (ascendingb (rowGraph f (headerOf f) .succs s))
-succs-ascend {f} F s =
+succs-ascend : {f : List ℕ} → Facts f → (t s : ℕ) → T (ascendingb (rowGraph f (headerOf f t) .succs s))
+succs-ascend {f} F t s =
     elim (lt-or-ge s (states f)) [
       | inl l ↦ rw (lt-ltb s (states f) l) (F .targets-ascend s l)
       | inr g ↦ rw (le-ltb s (states f) g) tt
     ]
 
 -- the graph of the rows of a file that keeps the rules of its kind is well formed
-pub facts-well-formed : {f : List ℕ} → Facts f → WellFormed (rowGraph f (headerOf f))
-facts-well-formed {f} F =
+pub facts-well-formed : {f : List ℕ} → Facts f → (table : ℕ) → WellFormed (rowGraph f (headerOf f table))
+facts-well-formed {f} F table =
     record {
       start-state = F .initial-below;
       edge-states = λ s t h.
-          let e : (s < states f) × T (memb t (rowTargets f s)) = edge-from-state f (headerOf f) s t h in
+          let e : (s < states f) × T (memb t (rowTargets f s)) = edge-from-state f (headerOf f table) s t h in
           (e .0, row-targets-below F s t (e .0) (e .1));
-      ascending = succs-ascend F;
+      ascending = succs-ascend F table;
     }
 
--- the graph of an accepted file is well formed
-pub accepted-well-formed : (f : List ℕ) → Accepted f → WellFormed (graphOf f)
-accepted-well-formed f a = staying-well-formed (stays f) (facts-well-formed (accepted-facts f a))
+-- the graph of an accepted file is well formed, whichever mark table is named
+pub accepted-well-formed : (f : List ℕ) (t : ℕ) → Accepted f → WellFormed (graphOf f t)
+accepted-well-formed f t a = staying-well-formed (stays f) (facts-well-formed (accepted-facts f a) t)
 
--- the graph read by a valid header is the file's own
-pub valid-graph : {f : List ℕ} {h : Header} → Valid f h → graphIn f h ≡ graphOf f
+-- the graph read by a valid header is the file's own, with the mark table that the header names
+pub valid-graph : {f : List ℕ} {h : Header} → Valid f h → graphIn f h ≡ graphOf f (h .table)
 valid-graph {f} v = ap (graphIn f) (v .header)
 
 -- the numbers of a valid header
 pub record Sizes (f : List ℕ) (h : Header) : Type 0 where
-  pub states-are : h .states ≡ graphOf f .size
+  pub states-are : h .states ≡ states f
   pub edges-are : h .edges ≡ edgeCount f
-  pub start-is : h .start ≡ graphOf f .start
+  pub start-is : h .start ≡ initial f
   pub states-range : (1 ≤ h .states) × (h .states ≤ 4096)
   pub edges-range : h .edges ≤ 8192
   pub start-below : h .start < h .states
 
 -- a file's own header has its numbers
-pub header-numbers : (f : List ℕ) {h : Header} → h ≡ headerOf f → (h .states ≡ states f) × (h .edges ≡ edgeCount f) × (h .start ≡ initial f)
+pub header-numbers : (f : List ℕ) {t : ℕ} {h : Header} → h ≡ headerOf f t → (h .states ≡ states f) × (h .edges ≡ edgeCount f) × (h .start ≡ initial f)
 header-numbers f e = (ap (λ (x : Header). x .states) e, ap (λ (x : Header). x .edges) e, ap (λ (x : Header). x .start) e)
 
 -- a valid header has its file's numbers
@@ -160,15 +162,15 @@ valid-facts {f} v = accepted-facts f (v .accepted)
 
 -- the graph read by a valid header is well formed
 pub valid-well-formed : {f : List ℕ} {h : Header} → Valid f h → WellFormed (graphIn f h)
-valid-well-formed {f} v = subst WellFormed (sym (valid-graph v)) (accepted-well-formed f (v .accepted))
+valid-well-formed {f} v = subst WellFormed (sym (valid-graph v)) (accepted-well-formed f _ (v .accepted))
 
 -- no number has more than 8,192 successors
-pub succs-length-le : {f : List ℕ} → Facts f → (s : ℕ) → length (graphOf f .succs s) ≤ 8192
-succs-length-le {f} F s =
+pub succs-length-le : {f : List ℕ} → Facts f → (t s : ℕ) → length (graphOf f t .succs s) ≤ 8192
+succs-length-le {f} F t s =
     elim (lt-or-ge s (states f)) [
       | inl l ↦
           let edges : length (rowTargets f s) ≤ 8192 =
           rw (length-map, upFrom-length) (omega (arith, row-end-le F s l, F .edges-range)) in
-          rw (succs-row f (headerOf f) s l) (implied-length (stays f) s (rowTargets f s) 8192 (omega arith) edges)
-      | inr g ↦ rw (succs-none f (headerOf f) s g) (omega arith)
+          rw (succs-row f (headerOf f t) s l) (implied-length (stays f) s (rowTargets f s) 8192 (omega arith) edges)
+      | inr g ↦ rw (succs-none f (headerOf f t) s g) (omega arith)
     ]

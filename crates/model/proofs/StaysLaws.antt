@@ -46,53 +46,53 @@ ends-none g s ends (t ∷ ts) e =
     let edge : T (edgeb g s t) = subst (λ (us : List ℕ). T (memb t us)) (sym e) (or-l (eqb t t) (memb t ts) (eqb-refl t)) in
     absurd (ends .last (s ∷ t ∷ []) (both (edgeb g s t) true edge tt) 0 refl (omega arith))
 
-module _ (f : List ℕ) where
+module _ (f : List ℕ) (table : ℕ) where
   -- where the successors of all states are their rows' targets the model is the graph of the rows
-  rows-alone : ((s : ℕ) → graphOf f .succs s ≡ rowGraph f (headerOf f) .succs s) → graphOf f ≡ rowGraph f (headerOf f)
+  rows-alone : ((s : ℕ) → graphOf f table .succs s ≡ rowGraph f (headerOf f table) .succs s) → graphOf f table ≡ rowGraph f (headerOf f table)
   rows-alone same =
-      let g = graphOf f in
+      let g = graphOf f table in
       λ i. record { size = g .size; start = g .start; succs = λ s. same s i; marked = g .marked }
 
   -- the successors of a state
-  succs-are : (s : ℕ) → s < states f → graphOf f .succs s ≡ withImplied (stays f) s (rowTargets f s)
-  succs-are s l = succs-row f (headerOf f) s l
+  succs-are : (s : ℕ) → s < states f → graphOf f table .succs s ≡ withImplied (stays f) s (rowTargets f s)
+  succs-are s l = succs-row f (headerOf f table) s l
 
 pub steps-are-implied : StepsAreImplied
-steps-are-implied f =
+steps-are-implied f table =
     record {
       to-itself = λ s l.
           let step : List ℕ → Type 0 = λ ts. T (memb s ts) in (
-            λ e. elim (implied-memb (stays f) s s (rowTargets f s) (subst step (succs-are f s l) e)) [
+            λ e. elim (implied-memb (stays f) s s (rowTargets f s) (subst step (succs-are f table s l) e)) [
               | inl edge ↦ inl edge
               | inr (on, same, none) ↦ inr (eqb→eq (reserved f) 1 on, none)
             ],
-            λ e. subst step (sym (succs-are f s l)) (elim e [
+            λ e. subst step (sym (succs-are f table s l)) (elim e [
               | inl edge ↦ edge-implied (stays f) s s (rowTargets f s) edge
               | inr (one, none) ↦ stays-implied (stays f) s (rowTargets f s) (eq→eqb (reserved f) 1 one) none
             ]),
           );
       to-another = λ s t l d.
-          ap (λ (ts : List ℕ). memb t ts) (succs-are f s l) ∙ other-edge (stays f) s t (rowTargets f s) d;
+          ap (λ (ts : List ℕ). memb t ts) (succs-are f table s l) ∙ other-edge (stays f) s t (rowTargets f s) d;
       zero-rows-alone = λ e.
-          ap (λ (b : Bool). staying b (rowGraph f (headerOf f))) (ne-eqb (reserved f) 1 (omega arith))
-          ∙ staying-not (rowGraph f (headerOf f));
-      full-rows-alone = λ full. rows-alone f (λ s. elim (lt-or-ge s (states f)) [
+          ap (λ (b : Bool). staying b (rowGraph f (headerOf f table))) (ne-eqb (reserved f) 1 (omega arith))
+          ∙ staying-not (rowGraph f (headerOf f table));
+      full-rows-alone = λ full. rows-alone f table (λ s. elim (lt-or-ge s (states f)) [
         | inl l ↦
-            succs-are f s l ∙ implied-some (stays f) s (rowTargets f s) (some-entry (rowTargets f s) (full s l))
+            succs-are f table s l ∙ implied-some (stays f) s (rowTargets f s) (some-entry (rowTargets f s) (full s l))
             ∙ sym (ap (λ (b : Bool). listIf b (rowTargets f s)) (lt-ltb s (states f) l))
-        | inr g ↦ succs-none f (headerOf f) s g ∙ sym (ap (λ (b : Bool). listIf b (rowTargets f s)) (le-ltb s (states f) g))
+        | inr g ↦ succs-none f (headerOf f table) s g ∙ sym (ap (λ (b : Bool). listIf b (rowTargets f s)) (le-ltb s (states f) g))
       ]);
     }
 
 pub run-ends-exactly : RunEndsExactly
-run-ends-exactly f a s l = (
+run-ends-exactly f table a s l = (
   λ ends.
-      let none : withImplied (stays f) s (rowTargets f s) ≡ [] = sym (succs-are f s l) ∙ ends-none (graphOf f) s ends _ refl in
+      let none : withImplied (stays f) s (rowTargets f s) ≡ [] = sym (succs-are f table s l) ∙ ends-none (graphOf f table) s ends _ refl in
       let row = implied-empty (stays f) s (rowTargets f s) none in
       let most : reserved f ≤ 1 = nltb→le 1 (reserved f) (none-clear (rules f) a .1 .1 .1 .1 .0) in
       let other : reserved f ≡ 1 → ⊥ = eqb-false (reserved f) 1 (row .1) in
       (row .0, omega arith),
-  λ (none, zero). no-edge-out (graphOf f) s
-      (ap (λ (g : Graph). g .succs s) (steps-are-implied f .zero-rows-alone zero)
+  λ (none, zero). no-edge-out (graphOf f table) s
+      (ap (λ (g : Graph). g .succs s) (steps-are-implied f table .zero-rows-alone zero)
       ∙ ap (λ (b : Bool). listIf b (rowTargets f s)) (lt-ltb s (states f) l) ∙ none),
 )

@@ -15,14 +15,14 @@ listIf true xs = xs
 listIf false xs = []
 
 -- the graph of a file's rows and marks, read by a header: the header's states and initial state, the file's edges by rows
--- and its marks; no number from the number of states on has an edge or a mark
+-- and its marks in the mark table that the header names; no number from the number of states on has an edge or a mark
 abbrev pub rowGraph : List ℕ → Header → Graph
 rowGraph f h =
     record {
       size = h .states;
       start = h .start;
       succs = λ s. listIf (ltb s (h .states)) (rowTargets f s);
-      marked = λ s. ltb s (h .states) && markBit f s;
+      marked = λ s. ltb s (h .states) && markBit f (h .table) s;
     }
 
 -- the successors of state s, by its edges and whether one without edges has an implied step to itself
@@ -44,9 +44,9 @@ staying b g =
 abbrev pub graphIn : List ℕ → Header → Graph
 graphIn f h = staying (h .stays) (rowGraph f h)
 
--- the model of a file, read by its own header
-abbrev pub graphOf : List ℕ → Graph
-graphOf f = graphIn f (headerOf f)
+-- the model of a file with the marks of mark table t, read by its own header
+abbrev pub graphOf : List ℕ → (t : ℕ) → Graph
+graphOf f t = graphIn f (headerOf f t)
 
 -- the successors of state s, from the part of the file that holds its row's targets
 unfoldable pub stepsOf : Header → ℕ → List ℕ → List ℕ

@@ -7,12 +7,12 @@ ghost use Rattle.lasso.specs.Graph.{edgeb};
 ghost use Rattle.format.specs.Bytes.{words};
 ghost use Rattle.model.specs.Model.{graphIn, stepsOf};
 ghost use Rattle.format.specs.Layout.{totalOf};
-ghost use Rattle.model.specs.Values.{Valid, headOf, checkWith, checkOf};
+ghost use Rattle.model.specs.Values.{naming, Valid, headOf, checkWith, checkOf};
 ghost use Rattle.model.specs.declared.Checked.the-variants.{Accept};
 use format::bit;
 use format::long;
-use format::marks_at;
 use format::row;
+use format::table_at;
 use format::total_of;
 use format::word;
 use rules::offsets_broken;
@@ -21,13 +21,33 @@ use rules::rows_broken;
 use rules::spare_set;
 use rules::targets_broken;
 
-// The fields of an accepted file that its readers need. `stays`: a state without edges has an implied step to itself.
+// The fields of an accepted file that its readers need, and the mark table by which they read it. `stays`: a state without
+// edges has an implied step to itself.
 pub struct Header {
     pub states: usize,
     pub edges: usize,
     pub start: usize,
     pub stays: bool,
+    pub table: usize,
 }
+
+impl Header {
+    // The same header, by which another mark table is read.
+    pub fn naming(self, table: usize) -> Header
+        ensures { λ r. ⌜ r ≡ naming «self» table ⌝ }
+    {
+        Header {
+            states: self.states,
+            edges: self.edges,
+            start: self.start,
+            stays: self.stays,
+            table,
+        }
+    }
+}
+
+// The most mark tables that a model file may have.
+const MARK_TABLES: usize = 2;
 
 // The answer of the check: the number of the first broken rule, or the header.
 pub enum Checked {
@@ -35,7 +55,7 @@ pub enum Checked {
     Accept(Header),
 }
 
-// Applies the rules 1 to 11 in order, each to the whole file before the next.
+// Applies the rules 1 to 11 in order, each to the whole file before the next. The header names mark table 0.
 pub fn check(file: &[u8]) -> Checked
     ensures { λ r. ⌜ r ≡ checkOf (now (file .entry)) ⌝ }
 {
@@ -44,7 +64,7 @@ pub fn check(file: &[u8]) -> Checked
         Checked::Refused(_) => head,
         Checked::Accept(header) => {
             let total = total_of(header.states, header.edges);
-            check_tables(file, header, total)
+            check_tables(file, header, total, MARK_TABLES)
         }
     }
 }
@@ -81,18 +101,20 @@ pub fn check_head(file: &[u8]) -> Checked
         edges,
         start,
         stays,
+        table: 0,
     })
 }
 
-// Applies the rules 6 to 11 to a file that keeps the rules 1 to 5, by the total length that its kind is to have.
-pub fn check_tables(file: &[u8], h: Header, total: usize) -> Checked
+// Applies the rules 6 to 11 to a file that keeps the rules 1 to 5, by the total length that its kind has with one mark table
+// and the most mark tables that it may have.
+pub fn check_tables(file: &[u8], h: Header, total: usize, tables: usize) -> Checked
     requires { ⌜ headOf (now file) ≡ Accept h ⌝ }
-    requires { ⌜ totalOf (h .states) (h .edges) ≤ total ⌝ }
-    ensures { λ r. ⌜ r ≡ checkWith total (now (file .entry)) ⌝ }
+    requires { ⌜ (totalOf (h .states) (h .edges) ≤ total) × (total ≤ 65535) × (tables ≤ 2) ⌝ }
+    ensures { λ r. ⌜ r ≡ checkWith total tables (now (file .entry)) ⌝ }
 {
     let n = h.states;
     let m = h.edges;
-    if offsets_broken(file, n, m, total) {
+    if offsets_broken(file, n, m, total, tables) {
         return Checked::Refused(6);
     }
     if file.len() != long(file, 20) {
@@ -107,7 +129,7 @@ pub fn check_tables(file: &[u8], h: Header, total: usize) -> Checked
     if order_broken(file, n, m) {
         return Checked::Refused(10);
     }
-    if spare_set(file, n, m) {
+    if spare_set(file, n, m, tables) {
         return Checked::Refused(11);
     }
     Checked::Accept(h)
@@ -189,7 +211,7 @@ pub fn has_edge(file: &[u8], h: Header, s: usize, t: usize) -> bool
     false
 }
 
-// State s is marked.
+// State s is marked in the mark table that the header names.
 pub fn is_marked(file: &[u8], h: Header, s: usize) -> bool
     requires { ⌜ Valid (now file) h ⌝ }
     requires { ⌜ s < h .states ⌝ }
@@ -197,5 +219,6 @@ pub fn is_marked(file: &[u8], h: Header, s: usize) -> bool
 {
     let states = h.states;
     let edges = h.edges;
-    bit(file, marks_at(states, edges), s)
+    let at = table_at(states, edges, h.table);
+    bit(file, at, s)
 }

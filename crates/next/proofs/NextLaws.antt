@@ -23,9 +23,9 @@ use Rattle.outcomes.specs.Outcome.{Outcome, refused, answered}
 use Rattle.outcomes.specs.Tables.{noRoom, lengthDue, listReasons}
 use Rattle.outcomes.proofs.OutcomeLaws.{CallIs, call-answer, call-broken, call-kept, never-too-long}
 use Rattle.outcomes.proofs.ReadBack.{transitions, loses-nothing}
-use Rattle.gate.specs.Gate.{commonRules}
+use Rattle.gate.specs.Gate.{namedRules}
 use Rattle.format.proofs.Reasons.{broken-append, clear-append}
-use Rattle.gate.proofs.GateLaws.{common-clear}
+use Rattle.gate.proofs.GateLaws.{common-clear, named-one}
 use Rattle.paths.proofs.LoopTests.{lassoOf}
 use Rattle.next.specs.declared.NextAnswer.{NextAnswer}
 use Rattle.next.specs.declared.NextAnswer.the-variants as NextAnswers
@@ -69,58 +69,58 @@ module _ (g : Graph) (wf : WellFormed g) (l : ℕ) (least : leastLength g ≡ so
           rw e at h
 
 -- 13 decides: if the earlier list is no shortest accepting path, the reasons behind it do not count
-pub thirteen-decides : (f earlier : List ℕ) → T (notShortest (graphOf f) earlier) → (due : Option (List ℕ)) (answer : ℕ)
-    → firstBroken (dueReasons f earlier due answer) ≡ some 13
-thirteen-decides f earlier t due answer =
-    ap (λ (b : Bool). someIf b 13 (firstBroken (listReasons f due answer))) (T-true (notShortest (graphOf f) earlier) t)
+pub thirteen-decides : (g : Graph) (earlier : List ℕ) → T (notShortest g earlier) → (due : Option (List ℕ)) (answer : ℕ)
+    → firstBroken (dueReasons g earlier due answer) ≡ some 13
+thirteen-decides g earlier holds due answer =
+    ap (λ (b : Bool). someIf b 13 (firstBroken (listReasons g due answer))) (T-true (notShortest g earlier) holds)
 
 -- the outcome of "next", and the list that it writes
-abbrev pub NextIs : List ℕ → List ℕ → ℕ → ℕ → Outcome Followed → Option (List ℕ) → Type 0
-NextIs f earlier answer work o due =
-    CallIs (nextReasons f earlier answer work) (followed (following earlier (roll (graphOf f)))) (following earlier (roll (graphOf f))) o due
+abbrev pub NextIs : List ℕ → (t : ℕ) → List ℕ → ℕ → ℕ → Outcome Followed → Option (List ℕ) → Type 0
+NextIs f t earlier answer work o due =
+    CallIs (nextReasons f t earlier answer work) (followed (following earlier (roll (graphOf f t)))) (following earlier (roll (graphOf f t))) o due
 
 -- a reason holds: refused with the first, and nothing is written
-next-broken : (f earlier : List ℕ) (answer work n : ℕ) → firstBroken (nextReasons f earlier answer work) ≡ some n
-    → NextIs f earlier answer work (refused n) none
-next-broken f earlier answer work n e =
-    let due : Option (List ℕ) = following earlier (roll (graphOf f)) in
-    call-broken (nextReasons f earlier answer work) (followed due) due n e
+next-broken : (f : List ℕ) (t : ℕ) (earlier : List ℕ) (answer work n : ℕ) → firstBroken (nextReasons f t earlier answer work) ≡ some n
+    → NextIs f t earlier answer work (refused n) none
+next-broken f t earlier answer work n e =
+    let due : Option (List ℕ) = following earlier (roll (graphOf f t)) in
+    call-broken (nextReasons f t earlier answer work) (followed due) due n e
 
 -- no reason holds: the list that follows decides
-next-kept : (f earlier : List ℕ) (answer work : ℕ) (due : Option (List ℕ))
-    → firstBroken (nextReasons f earlier answer work) ≡ none → following earlier (roll (graphOf f)) ≡ due
-    → NextIs f earlier answer work (answered (followed due)) due
-next-kept f earlier answer work due e q =
-    let follows : Option (List ℕ) = following earlier (roll (graphOf f)) in
-    call-kept (nextReasons f earlier answer work) (followed follows) (followed due) follows due e (ap followed q) q
+next-kept : (f : List ℕ) (t : ℕ) (earlier : List ℕ) (answer work : ℕ) (due : Option (List ℕ))
+    → firstBroken (nextReasons f t earlier answer work) ≡ none → following earlier (roll (graphOf f t)) ≡ due
+    → NextIs f t earlier answer work (answered (followed due)) due
+next-kept f t earlier answer work due e q =
+    let follows : Option (List ℕ) = following earlier (roll (graphOf f t)) in
+    call-kept (nextReasons f t earlier answer work) (followed follows) (followed due) follows due e (ap followed q) q
 
--- refused with a reason of 1 to 12
-pub next-refused : (f earlier : List ℕ) (answer work n : ℕ) → firstBroken (commonRules f work) ≡ some n
-    → NextIs f earlier answer work (refused n) none
-next-refused f earlier answer work n e =
-    next-broken f earlier answer work n (broken-append (commonRules f work) (dueReasons f earlier (following earlier (roll (graphOf f))) answer) n e)
+-- refused with a reason of 22 and 1 to 12
+pub next-refused : (f : List ℕ) (t : ℕ) (earlier : List ℕ) (answer work n : ℕ) → firstBroken (namedRules f t work) ≡ some n
+    → NextIs f t earlier answer work (refused n) none
+next-refused f t earlier answer work n e =
+    next-broken f t earlier answer work n (broken-append (namedRules f t work) (dueReasons (graphOf f t) earlier (following earlier (roll (graphOf f t))) answer) n e)
 
-module _ (f : List ℕ) (accepted : Accepted f) (earlier : List ℕ) (answer work : ℕ) (room : 6 * states f ≤ work) where
+module _ (f : List ℕ) (t : ℕ) (accepted : Accepted f) (one : t ≤ 1) (earlier : List ℕ) (answer work : ℕ) (room : 6 * states f ≤ work) where
   -- the graph of the file
   abbrev g : Graph
-  g = graphOf f
+  g = graphOf f t
 
   -- the reasons 13 and 15 are left to decide
-  next-reasons : firstBroken (nextReasons f earlier answer work)
+  next-reasons : firstBroken (nextReasons f t earlier answer work)
       ≡ someIf (notShortest g earlier) 13 (someIf (noRoom (lengthDue (following earlier (roll g))) answer) 15 none)
   next-reasons =
-      clear-append (commonRules f work) (dueReasons f earlier (following earlier (roll g)) answer) (common-clear f work accepted room)
-      ∙ ap (λ (b : Bool). someIf (notShortest g earlier) 13 (someIf b 14 (someIf (noRoom (lengthDue (following earlier (roll g))) answer) 15 none))) (never-too-long f accepted)
+      clear-append (namedRules f t work) (dueReasons (graphOf f t) earlier (following earlier (roll g)) answer) (named-one f t work one ∙ common-clear f work accepted room)
+      ∙ ap (λ (b : Bool). someIf (notShortest g earlier) 13 (someIf b 14 (someIf (noRoom (lengthDue (following earlier (roll g))) answer) 15 none))) (never-too-long f t accepted)
 
   -- the earlier list is no shortest accepting path: refused with 13
-  pub next-not-shortest : notShortest g earlier ≡ true → NextIs f earlier answer work (refused 13) none
+  pub next-not-shortest : notShortest g earlier ≡ true → NextIs f t earlier answer work (refused 13) none
   next-not-shortest e =
-      next-broken f earlier answer work 13
+      next-broken f t earlier answer work 13
       (next-reasons ∙ ap (λ (b : Bool). someIf b 13 (someIf (noRoom (lengthDue (following earlier (roll g))) answer) 15 none)) e)
 
   -- the earlier list is in the roll: the list due has room or not
   next-due : List·Memᴰ earlier (roll g) → (due : Option (List ℕ)) (b : Bool) → following earlier (roll g) ≡ due
-      → noRoom (lengthDue due) answer ≡ b → firstBroken (nextReasons f earlier answer work) ≡ someIf b 15 none
+      → noRoom (lengthDue due) answer ≡ b → firstBroken (nextReasons f t earlier answer work) ≡ someIf b 15 none
   next-due m due b q e =
       next-reasons
       ∙ ap (λ (x : Bool). someIf x 13 (someIf (noRoom (lengthDue (following earlier (roll g))) answer) 15 none)) (shortest-mem g earlier m)
@@ -129,35 +129,35 @@ module _ (f : List ℕ) (accepted : Accepted f) (earlier : List ℕ) (answer wor
 
   module _ (m : List·Memᴰ earlier (roll g)) where
     -- it is the last of the roll: no more
-    pub next-no-more : following earlier (roll g) ≡ none → NextIs f earlier answer work (answered noMore) none
-    next-no-more last = next-kept f earlier answer work none (next-due m none false last refl) last
+    pub next-no-more : following earlier (roll g) ≡ none → NextIs f t earlier answer work (answered noMore) none
+    next-no-more last = next-kept f t earlier answer work none (next-due m none false last refl) last
 
     -- another follows and has no room: refused with 15
     pub next-no-room : (xs : List ℕ) → following earlier (roll g) ≡ some xs → answer < edges xs + 1
-        → NextIs f earlier answer work (refused 15) none
+        → NextIs f t earlier answer work (refused 15) none
     next-no-room xs follows less =
-        next-broken f earlier answer work 15 (next-due m (some xs) true follows (lt-ltb answer (edges xs + 1) less))
+        next-broken f t earlier answer work 15 (next-due m (some xs) true follows (lt-ltb answer (edges xs + 1) less))
 
     -- it has room: found, with its figures
     pub next-found : (xs : List ℕ) → following earlier (roll g) ≡ some xs → edges xs + 1 ≤ answer
-        → NextIs f earlier answer work (answered (Followed.found (edges xs) (loopStart xs))) (some xs)
+        → NextIs f t earlier answer work (answered (Followed.found (edges xs) (loopStart xs))) (some xs)
     next-found xs follows fits =
-        next-kept f earlier answer work (some xs) (next-due m (some xs) false follows (le-ltb answer (edges xs + 1) fits)) follows
+        next-kept f t earlier answer work (some xs) (next-due m (some xs) false follows (le-ltb answer (edges xs + 1) fits)) follows
 
 -- the list that follows, which stands in region 0 behind the start, was written to the answer table: what "next" answers
 -- and writes
-pub following-written : (f : List ℕ) → Accepted f → (work : ℕ) → 6 * states f ≤ work → (earlier a a' w : List ℕ) (s l k : ℕ)
-    → List·Memᴰ earlier (roll (graphOf f)) → s ≡ graphOf f .start → l ≤ length w
-    → following earlier (roll (graphOf f)) ≡ some (graphOf f .start ∷ take l w) → l < length a
+pub following-written : (f : List ℕ) (t : ℕ) → Accepted f → t ≤ 1 → (work : ℕ) → 6 * states f ≤ work → (earlier a a' w : List ℕ) (s l k : ℕ)
+    → List·Memᴰ earlier (roll (graphOf f t)) → s ≡ graphOf f t .start → l ≤ length w
+    → following earlier (roll (graphOf f t)) ≡ some (graphOf f t .start ∷ take l w) → l < length a
     → k ≡ loopStart (s ∷ take l w) → a' ≡ (s ∷ take l w) ++ drop (l + 1) a
-    → (answered (Followed.found l k) ≡ nextOutcome f earlier (length a) work) × (a' ≡ nextAnswer f earlier a work)
-following-written f accepted work room earlier a a' w s l k m at-start fits follows free at-k out =
-    let g : Graph = graphOf f in
+    → (answered (Followed.found l k) ≡ nextOutcome f t earlier (length a) work) × (a' ≡ nextAnswer f t earlier a work)
+following-written f t accepted one work room earlier a a' w s l k m at-start fits follows free at-k out =
+    let g : Graph = graphOf f t in
     let xs : List ℕ = s ∷ take l w in
     let long : length (take l w) ≡ l = length-take-le l w fits in
     let at-l : l ≡ edges xs = omega arith in
     let follows' : following earlier (roll g) ≡ some xs = subst (λ (x : ℕ). following earlier (roll g) ≡ some (x ∷ take l w)) (sym at-start) follows in
-    let found = next-found f accepted earlier (length a) work room m xs follows' (omega arith) in
+    let found = next-found f t accepted one earlier (length a) work room m xs follows' (omega arith) in
     let figures : answered (Followed.found l k) ≡ answered (Followed.found (edges xs) (loopStart xs)) = cc in
     let entries : l + 1 ≡ length xs = omega arith in (
       figures ∙ sym (found .outcome-is),

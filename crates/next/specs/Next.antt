@@ -1,4 +1,4 @@
--- "Next": the shortest accepting path that follows an earlier one.
+-- "Next": the shortest accepting path that follows an earlier one, by the marks of the table that it names.
 use Prim.Native.Nat.{ℕ}
 use mathlib.Core.Bool.{Bool, not}
 use mathlib.Core.List.{List, _∷_, _++_}
@@ -12,7 +12,7 @@ use Rattle.model.specs.Model.{graphOf}
 use Rattle.format.specs.Rules.{Reason, firstBroken}
 use Rattle.outcomes.specs.Outcome.{Outcome, refused, answered, outcome, LosesNothing}
 use Rattle.outcomes.specs.Tables.{listReasons, unlessRefused, written}
-use Rattle.gate.specs.Gate.{commonRules}
+use Rattle.gate.specs.Gate.{namedRules}
 use Rattle.next.specs.declared.NextAnswer.{NextAnswer}
 use Rattle.next.specs.declared.NextAnswer.the-variants as NextAnswers
 
@@ -40,26 +40,27 @@ abbrev pub followed : Option (List ℕ) → Followed
 followed none = noMore
 followed (some xs) = found (edges xs) (loopStart xs)
 
--- the reasons 13 to 15, where the list that is to be written is given
-abbrev pub dueReasons : List ℕ → List ℕ → Option (List ℕ) → ℕ → List Reason
-dueReasons f earlier due answer =
-    record { number = 13; holds = notShortest (graphOf f) earlier } ∷ listReasons f due answer
+-- the reasons 13 to 15, where the model and the list that is to be written are given
+abbrev pub dueReasons : Graph → List ℕ → Option (List ℕ) → ℕ → List Reason
+dueReasons g earlier due answer =
+    record { number = 13; holds = notShortest g earlier } ∷ listReasons g due answer
 
--- the reasons that next applies, all of them: the list that is to be written is the one that follows the earlier one
-abbrev pub nextReasons : List ℕ → List ℕ → ℕ → ℕ → List Reason
-nextReasons f earlier answer work =
-    commonRules f work ++ dueReasons f earlier (following earlier (roll (graphOf f))) answer
+-- the reasons that next applies: 22 before 1, then all to 15; the list that is to be written is the one that follows the
+-- earlier one
+abbrev pub nextReasons : List ℕ → (t : ℕ) → List ℕ → ℕ → ℕ → List Reason
+nextReasons f t earlier answer work =
+    namedRules f t work ++ dueReasons (graphOf f t) earlier (following earlier (roll (graphOf f t))) answer
 
--- what next answers
-abbrev pub nextOutcome : List ℕ → List ℕ → ℕ → ℕ → Outcome Followed
-nextOutcome f earlier answer work =
-    outcome (firstBroken (nextReasons f earlier answer work)) (followed (following earlier (roll (graphOf f))))
+-- what next answers that names mark table t
+abbrev pub nextOutcome : List ℕ → (t : ℕ) → List ℕ → ℕ → ℕ → Outcome Followed
+nextOutcome f t earlier answer work =
+    outcome (firstBroken (nextReasons f t earlier answer work)) (followed (following earlier (roll (graphOf f t))))
 
 -- the list that next writes
-abbrev pub nextList : List ℕ → List ℕ → ℕ → ℕ → Option (List ℕ)
-nextList f earlier answer work =
-    unlessRefused (firstBroken (nextReasons f earlier answer work)) (following earlier (roll (graphOf f)))
+abbrev pub nextList : List ℕ → (t : ℕ) → List ℕ → ℕ → ℕ → Option (List ℕ)
+nextList f t earlier answer work =
+    unlessRefused (firstBroken (nextReasons f t earlier answer work)) (following earlier (roll (graphOf f t)))
 
 -- the answer table after next
-abbrev pub nextAnswer : List ℕ → List ℕ → List ℕ → ℕ → List ℕ
-nextAnswer f earlier a work = written (nextList f earlier (length a) work) a
+abbrev pub nextAnswer : List ℕ → (t : ℕ) → List ℕ → List ℕ → ℕ → List ℕ
+nextAnswer f t earlier a work = written (nextList f t earlier (length a) work) a

@@ -1,5 +1,5 @@
-// Next: the shortest accepting path that follows an earlier one. It applies the reasons 1 to 15 in order, and leaves
-// the working table untouched after 1 to 12 and all zero otherwise.
+// Next: the shortest accepting path that follows an earlier one, by the marks of the table that it names. It applies the
+// reasons 22 and 1 to 15 in order, and leaves the working table untouched after 1 to 12 and all zero otherwise.
 ghost use mathlib.Core.Path.{_≡_};
 ghost use mathlib.Core.Option.{some};
 ghost use Prim.Native.Nat.{_*_, _≤_};
@@ -45,11 +45,11 @@ fn next_list(
     requires { ⌜ RoundsReady (now file) h (now work) ⌝ }
     requires { ⌜ leastLength (graphIn (now file) h) ≡ some (length .0) ⌝ }
     ensures outcome { λ r. ⌜ nextOutcomeOf r
-        ≡ nextOutcome (now (file .entry)) (now (earlier .entry))
+        ≡ nextOutcome (now (file .entry)) (h .table) (now (earlier .entry))
         (lib.ListN.length (now (answer .entry)))
         (lib.ListN.length (now (work .entry))) ⌝ }
     ensures answer { λ _. ⌜ now (answer .exit)
-        ≡ nextAnswer (now (file .entry)) (now (earlier .entry)) (now (answer .entry))
+        ≡ nextAnswer (now (file .entry)) (h .table) (now (earlier .entry)) (now (answer .entry))
         (lib.ListN.length (now (work .entry))) ⌝ }
     ensures kept { λ _. ⌜ lib.ListN.length (now (work .exit)) ≡ lib.ListN.length (now (work .entry)) ⌝ }
 {
@@ -84,10 +84,10 @@ fn next_of_model(
     requires { ⌜ Valid (now file) h ⌝ }
     requires { ⌜ 6 * h .states ≤ lib.ListN.length (now work) ⌝ }
     ensures outcome { λ r. ⌜ nextOutcomeOf r
-        ≡ nextOutcome (now (file .entry)) (now (earlier .entry))
+        ≡ nextOutcome (now (file .entry)) (h .table) (now (earlier .entry))
         (lib.ListN.length (now (answer .entry))) (lib.ListN.length (now (work .entry))) ⌝ }
     ensures answer { λ _. ⌜ now (answer .exit)
-        ≡ nextAnswer (now (file .entry)) (now (earlier .entry)) (now (answer .entry))
+        ≡ nextAnswer (now (file .entry)) (h .table) (now (earlier .entry)) (now (answer .entry))
         (lib.ListN.length (now (work .entry))) ⌝ }
     ensures kept { λ _. ⌜ lib.ListN.length (now (work .exit)) ≡ lib.ListN.length (now (work .entry)) ⌝ }
 {
@@ -100,15 +100,21 @@ fn next_of_model(
 }
 
 // The shortest accepting path that follows an earlier one, written to the answer table.
-pub fn next(file: &[u8], earlier: &[u16], answer: &mut [u16], work: &mut [u16]) -> NextAnswer
+pub fn next(
+    file: &[u8],
+    mark_table: u16,
+    earlier: &[u16],
+    answer: &mut [u16],
+    work: &mut [u16],
+) -> NextAnswer
     ensures outcome { λ r. ⌜ nextOutcomeOf r
-        ≡ nextOutcome (now (file .entry)) (now (earlier .entry)) (length (now (answer .entry)))
+        ≡ nextOutcome (now (file .entry)) «mark_table» (now (earlier .entry)) (length (now (answer .entry)))
         (length (now (work .entry))) ⌝ }
     ensures answer { λ r. ⌜ now (answer .exit)
-        ≡ nextAnswer (now (file .entry)) (now (earlier .entry)) (now (answer .entry)) (length (now (work .entry))) ⌝ }
-    ensures work { λ r. ⌜ now (work .exit) ≡ workOf (now (file .entry)) (now (work .entry)) ⌝ }
+        ≡ nextAnswer (now (file .entry)) «mark_table» (now (earlier .entry)) (now (answer .entry)) (length (now (work .entry))) ⌝ }
+    ensures work { λ r. ⌜ now (work .exit) ≡ workOf (now (file .entry)) «mark_table» (now (work .entry)) ⌝ }
 {
-    let checked = enter(file, work);
+    let checked = enter(file, mark_table, work);
     match checked {
         Checked::Refused(number) => NextAnswer::Refused(number),
         Checked::Accept(h) => {

@@ -1,6 +1,6 @@
 -- A call's outcome and the list that it writes, from the first of its reasons that holds.
 use Prim.Native.Nat.{ℕ}
-use mathlib.Core.Path.{_≡_, refl, _∙_, ap}
+use mathlib.Core.Path.{_≡_, refl, _∙_, ap, ap₂}
 use mathlib.Core.Bool.{false}
 use mathlib.Core.List.{List}
 use mathlib.Core.Option.{Option, some, none}
@@ -42,12 +42,20 @@ call-kept reasons found found' due due' e p q =
       list-is = ap (λ (o : Option ℕ). unlessRefused o due) e ∙ q;
     }
 
+-- what is answered with a working table of so many entries is answered with one of as many
+pub at-length : {A : Type 0} (F : ℕ → A) {x : A} {n n' : ℕ} → x ≡ F n → n ≡ n' → x ≡ F n'
+at-length F e same = e ∙ ap F same
+
+-- and so it is with the mark table that is named
+pub at-table : {A : Type 0} (F : (t n : ℕ) → A) {x : A} {t t' n n' : ℕ} → x ≡ F t n → t ≡ t' → n ≡ n' → x ≡ F t' n'
+at-table F e named same = e ∙ ap₂ F named same
+
 -- the shortest accepting path of an accepted file never has more than 4,096 transitions
-pub never-too-long : (f : List ℕ) → Accepted f → tooLong (leastLength (graphOf f)) ≡ false
-never-too-long f a = go (leastLength (graphOf f)) refl
+pub never-too-long : (f : List ℕ) (t : ℕ) → Accepted f → tooLong (leastLength (graphOf f t)) ≡ false
+never-too-long f t a = go (leastLength (graphOf f t)) refl
   where
-    go : (o : Option ℕ) → leastLength (graphOf f) ≡ o → tooLong o ≡ false
+    go : (o : Option ℕ) → leastLength (graphOf f t) ≡ o → tooLong o ≡ false
     go none e = refl
     go (some l) e =
         let facts = accepted-facts f a in
-        le-ltb 4096 l (omega (arith, leastLength-range (graphOf f) l e, facts .states-range))
+        le-ltb 4096 l (omega (arith, leastLength-range (graphOf f t) l e, facts .states-range))

@@ -3,18 +3,19 @@ use Prim.Native.Nat.{ℕ}
 use mathlib.Core.List.{List, [], _∷_, _++_}
 use Rattle.lasso.specs.Lists.{upFrom}
 
--- a step, a search and a distance call apply 21 behind 12, a search skips 13, the grader goes no further than 12
+-- a call that names a mark table applies 22 before 1; a step, a search and a distance call apply 21 behind 12, a search
+-- skips 13, the grader goes no further than 12
 abbrev pub stepNumbers : List ℕ
-stepNumbers = upFrom 1 12 ++ 21 ∷ []
+stepNumbers = 22 ∷ upFrom 1 12 ++ 21 ∷ []
 
 abbrev pub searchNumbers : List ℕ
-searchNumbers = upFrom 1 12 ++ 21 ∷ 14 ∷ 15 ∷ []
+searchNumbers = 22 ∷ upFrom 1 12 ++ 21 ∷ 14 ∷ 15 ∷ []
 
 abbrev pub nextNumbers : List ℕ
-nextNumbers = upFrom 1 15
+nextNumbers = 22 ∷ upFrom 1 15
 
 abbrev pub gradeNumbers : List ℕ
-gradeNumbers = upFrom 1 12
+gradeNumbers = 22 ∷ upFrom 1 12
 
 abbrev pub distanceNumbers : List ℕ
 distanceNumbers = upFrom 1 12 ++ 21 ∷ 15 ∷ []

@@ -5,10 +5,9 @@ use mathlib.Core.List.{List, [], _∷_, _++_}
 use mathlib.Core.Option.{Option, some, none}
 use lib.ListN.{length, drop}
 use lib.Dec.{ltb}
-use Rattle.lasso.specs.Graph.{edges}
+use Rattle.lasso.specs.Graph.{Graph, edges}
 use Rattle.lasso.specs.Roll.{leastLength}
 use Rattle.format.specs.Rules.{Reason}
-use Rattle.model.specs.Model.{graphOf}
 
 -- 14. the length is above 4,096
 abbrev pub tooLong : Option ℕ → Bool
@@ -25,10 +24,10 @@ abbrev pub lengthDue : Option (List ℕ) → Option ℕ
 lengthDue none = none
 lengthDue (some xs) = some (edges xs)
 
--- the reasons 14 and 15, where the list that is to be written is given
-abbrev pub listReasons : List ℕ → Option (List ℕ) → ℕ → List Reason
-listReasons f due answer =
-    record { number = 14; holds = tooLong (leastLength (graphOf f)) } ∷
+-- the reasons 14 and 15, where the model and the list that is to be written are given
+abbrev pub listReasons : Graph → Option (List ℕ) → ℕ → List Reason
+listReasons g due answer =
+    record { number = 14; holds = tooLong (leastLength g) } ∷
     record { number = 15; holds = noRoom (lengthDue due) answer } ∷ []
 
 -- the list due if the call is not refused

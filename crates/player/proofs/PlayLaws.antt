@@ -135,7 +135,7 @@ module _ {f script a₀ w₀ log₀ a w log copy : List ℕ} {held at calls : �
             p .answer ∙ ap (λ (l : List Call). answerAfterAll a₀ (map (finderAt f) l)) all,
             (
               p .work ∙ ap (λ (l : List Call). workAfterAll w₀ (map (finderAt f) l)) all,
-              λ accepted proper. numbers ∙ ap (λ (rs : List Result). logAfterAll log₀ rs) (condition-3 f accepted cs proper .results),
+              λ accepted t proper. numbers ∙ ap (λ (rs : List Result). logAfterAll log₀ rs) (condition-3 f accepted t cs proper .results),
             ),
           ),
         ),

@@ -30,9 +30,10 @@ abbrev pub workAfterAll : List ℕ → List Result → List ℕ
 workAfterAll w [] = w
 workAfterAll w (r ∷ rs) = workAfterAll (r .work) rs
 
--- condition 3 of the calls that are played: if the file is accepted and each next is lent the copy last received or a list
--- that is no shortest accepting path, the log is the book's
+-- condition 3 of the calls that are played: if the file is accepted, the calls all name the same mark table, save those that
+-- 22 refuses, and each next among them is lent the copy last received or a list that is no shortest accepting path, the log
+-- is the book's
 abbrev pub BookPlayed : (f script a w log log' : List ℕ) → Type 0
 BookPlayed f script a w log log' =
-    Accepted f → Proper f none (played f script a w log)
+    Accepted f → (t : ℕ) → Proper f t none (played f script a w log)
     → log' ≡ logAfterAll log (bookResults f 0 (played f script a w log))

@@ -1,13 +1,14 @@
 -- The calls that a script asks for, one after another, and the copy that is kept between them.
 use Prim.Native.Nat.{ℕ, zero, suc, _/_}
-use mathlib.Core.Bool.{Bool, true, not, _&&_}
+use mathlib.Core.Bool.{Bool, true, not, _&&_, _||_}
 use mathlib.Core.List.{List, [], _∷_, map}
 use mathlib.Core.Option.{Option, some, none}
 use lib.ListN.{length, drop}
 use lib.Dec.{eqb}
 use Rattle.lasso.specs.Lists.{pick}
+use Rattle.gate.specs.Gate.{noTable}
 use Rattle.sequence.specs.Calls.{Call, Result, finderAt, received}
-use Rattle.script.specs.Commands.{action, commandLength, overb, callOf}
+use Rattle.script.specs.Commands.{action, markTable, commandLength, overb, callOf}
 
 -- the copy afterwards: the list that a call brings, else the copy before
 abbrev pub keepCopy : Option (List ℕ) → List ℕ → List ℕ
@@ -32,9 +33,13 @@ played f script a w log = callsOf f (length log / 4) script [] a w
 abbrev pub results : (f script a w log : List ℕ) → List Result
 results f script a w log = map (finderAt f) (played f script a w log)
 
--- no command that is played lends a list of its own
-abbrev pub copiesb : ℕ → List ℕ → Bool
-copiesb zero script = true
-copiesb (suc room) script =
-    let later : Bool = copiesb room (drop (commandLength script) script) in
-    pick (overb script) true (not (eqb (action script) 2) && later)
+-- the first command names mark table t and lends no list of its own, or 22 refuses its call
+abbrev pub copyb : (t : ℕ) → List ℕ → Bool
+copyb t script = (eqb (markTable script) t && not (eqb (action script) 2)) || noTable (markTable script)
+
+-- so do all commands that are played
+abbrev pub copiesb : (t : ℕ) → ℕ → List ℕ → Bool
+copiesb t zero script = true
+copiesb t (suc room) script =
+    let later : Bool = copiesb t room (drop (commandLength script) script) in
+    pick (overb script) true (copyb t script && later)

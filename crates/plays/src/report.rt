@@ -40,20 +40,21 @@ fn show_command(script: &[u16], at: usize, size: usize)
     requires { ⌜ at + size ≤ length (now script) ⌝ }
 {
     let action = entry(script, at);
+    let mark_table = entry(script, at + 1) as u64;
     if action == 0 {
-        let ceiling = entry(script, at + 1) as u64;
-        let allowance = entry(script, at + 2) as u64;
+        let ceiling = entry(script, at + 2) as u64;
+        let allowance = entry(script, at + 3) as u64;
         return say(
-            b"search with ceiling # and allowance #",
+            b"search by table # with ceiling # and allowance #",
             0,
-            &[ceiling, allowance],
+            &[mark_table, ceiling, allowance],
         );
     }
+    say(b"next by table # with", 0, &[mark_table]);
     if action == 1 {
-        return text(b"next with the copy");
+        return text(b" the copy");
     }
-    text(b"next with");
-    entries(script, at + 2, at + size);
+    entries(script, at + 3, at + size);
 }
 
 // Prints the figures of a search that was stopped: the rounds done, and the best length.

@@ -1,59 +1,24 @@
-// The scripts, and the files that they are played on.
-ghost use Prim.Native.Nat.{_≤_};
+// The scripts whose calls name mark table 0.
+use crate::files::show_d;
+use crate::files::show_h;
+use crate::files::show_nine;
+use crate::files::show_part;
+use crate::files::show_roomy;
 use crate::report::show;
 use crate::report::show_rest;
 use crate::report::title;
 use harness::example_d;
-use harness::part;
-
-// Plays a script with room in every table.
-fn show_roomy(file: &[u8], script: &[u16]) {
-    let mut answer = [0u16; 6];
-    let mut work = [0u16; 42];
-    let mut log = [0u16; 64];
-    show(file, script, &mut answer, &mut work, &mut log);
-}
-
-// Plays a script on the first bytes of example D, of which there are 51.
-fn show_part(size: usize, script: &[u16])
-    requires { ⌜ size ≤ 51 ⌝ }
-{
-    let mut file = [0u8; 51];
-    example_d(&mut file);
-    show_roomy(part(&file, 0, size), script);
-}
-
-// Plays a script on example D.
-fn show_d(script: &[u16]) {
-    show_part(51, script);
-}
-
-// Plays a script on the file with nine lists: 0→1, 2, 3; each of 1, 2, 3→4, 5, 6; each of 4, 5, 6→1, 2, 3; marks 4, 5, 6.
-fn show_nine(script: &[u16]) {
-    show_roomy(
-        b"\x07\x00\x15\x00\x00\x00\x00\x00\x18\x00\x00\x00\x28\x00\x00\x00\x52\x00\x00\x00\x53\x00\x00\x00\x00\x00\x03\x00\x06\x00\x09\x00\x0c\x00\x0f\x00\x12\x00\x15\x00\x01\x00\x02\x00\x03\x00\x04\x00\x05\x00\x06\x00\x04\x00\x05\x00\x06\x00\x04\x00\x05\x00\x06\x00\x01\x00\x02\x00\x03\x00\x01\x00\x02\x00\x03\x00\x01\x00\x02\x00\x03\x00\x70",
-        script,
-    );
-}
-
-// Plays a script on example H: 0→1, 5; 1→2→3→4→1; 5→6→6; marks 1 and 6.
-fn show_h(script: &[u16]) {
-    show_roomy(
-        b"\x07\x00\x08\x00\x00\x00\x00\x00\x18\x00\x00\x00\x28\x00\x00\x00\x38\x00\x00\x00\x39\x00\x00\x00\x00\x00\x02\x00\x03\x00\x04\x00\x05\x00\x06\x00\x07\x00\x08\x00\x01\x00\x05\x00\x02\x00\x03\x00\x04\x00\x01\x00\x06\x00\x06\x00\x42",
-        script,
-    );
-}
 
 // Search, then next until there is no more.
 fn search_then_next() {
     title(b"D: a search, then next until there is no more");
-    show_d(&[0, 4096, 65535, 1, 0, 1, 0, 1, 0]);
+    show_d(&[0, 0, 4096, 65535, 1, 0, 1, 0, 1, 0]);
 }
 
 // Next before any search, with the copy, which is empty, and with lists that are no path.
 fn next_first() {
     title(b"D: next before any search");
-    show_d(&[1, 0, 2, 0, 2, 4, 0, 2, 3, 1, 0, 4096, 65535, 1, 0]);
+    show_d(&[1, 0, 2, 0, 0, 2, 0, 4, 0, 2, 3, 1, 0, 0, 4096, 65535, 1, 0]);
 }
 
 // Searches that are stopped, before and after one that finds the only list.
@@ -62,19 +27,24 @@ fn stopped_between() {
     show_h(
         &[
             0,
+            0,
             4096,
             0,
             1,
             0,
             0,
+            0,
             4096,
             1,
+            0,
             0,
             4096,
             2,
             0,
+            0,
             4096,
             1,
+            0,
             0,
             4096,
             0,
@@ -90,11 +60,13 @@ fn wrong_lists_between() {
     show_nine(
         &[
             0,
+            0,
             4096,
             65535,
             1,
             0,
             2,
+            0,
             4,
             0,
             4,
@@ -103,16 +75,19 @@ fn wrong_lists_between() {
             1,
             0,
             2,
+            0,
             3,
             0,
             1,
             4,
+            0,
             0,
             4096,
             2,
             1,
             0,
             2,
+            0,
             5,
             0,
             1,
@@ -131,11 +106,13 @@ fn search_again() {
     show_nine(
         &[
             0,
+            0,
             4096,
             3,
             1,
             0,
             1,
+            0,
             0,
             0,
             4096,
@@ -165,19 +142,19 @@ fn search_again() {
 // The last command asks for more entries than are there.
 fn cut_off() {
     title(b"D: a script that is cut off");
-    show_d(&[0, 4096, 65535, 1, 0, 2, 4, 0, 2]);
+    show_d(&[0, 0, 4096, 65535, 1, 0, 2, 0, 4, 0, 2]);
 }
 
 // An unknown action ends the script.
 fn unknown() {
     title(b"D: a script with an unknown action");
-    show_d(&[0, 4096, 65535, 3, 0, 1, 0]);
+    show_d(&[0, 0, 4096, 65535, 3, 0, 1, 0]);
 }
 
 // A file that is refused: the working table is untouched.
 fn broken_file() {
     title(b"D without its last byte");
-    show_part(50, &[0, 4096, 65535, 1, 0]);
+    show_part(50, &[0, 0, 4096, 65535, 1, 0]);
 }
 
 // Lists that end in implied steps: 0→1, 0→2, both marked, with 1 in bytes 6 and 7.
@@ -185,31 +162,31 @@ fn implied_steps() {
     title(b"0 to 1 and 2, which stay: a wrong list between");
     show_roomy(
         b"\x03\x00\x02\x00\x00\x00\x01\x00\x18\x00\x00\x00\x20\x00\x00\x00\x24\x00\x00\x00\x25\x00\x00\x00\x00\x00\x02\x00\x02\x00\x02\x00\x01\x00\x02\x00\x06",
-        &[0, 4096, 65535, 2, 3, 0, 1, 2, 1, 0, 1, 0],
+        &[0, 0, 4096, 65535, 2, 0, 3, 0, 1, 2, 1, 0, 1, 0],
     );
 }
 
 // A search under a ceiling that the lists exceed, between one that finds and the next ones: the copy stays good.
 fn low_ceiling_between() {
     title(b"D: a ceiling below the lists between");
-    show_d(&[0, 3, 65535, 0, 2, 65535, 1, 0, 1, 0]);
+    show_d(&[0, 0, 3, 65535, 0, 0, 2, 65535, 1, 0, 1, 0]);
 }
 
 // Ceilings above 4,096 after a search that finds: the copy stays good.
 fn high_ceilings_between() {
     title(b"D: ceilings above 4,096 between");
-    show_d(&[0, 4096, 1, 0, 4097, 1, 1, 0, 0, 65535, 1, 1, 0]);
+    show_d(&[0, 0, 4096, 1, 0, 0, 4097, 1, 1, 0, 0, 0, 65535, 1, 1, 0]);
 }
 
 // A ceiling above 4,096 and no other call: the working table is all zero.
 fn high_ceiling_alone() {
     title(b"D: a ceiling above 4,096 alone");
-    show_d(&[0, 4097, 65535]);
+    show_d(&[0, 0, 4097, 65535]);
 }
 
 // Plays searches under one ceiling with every allowance up to the number of candidates, and a next, on example H.
 fn show_allowances(ceiling: u16) {
-    show_h(&[0, ceiling, 0, 0, ceiling, 1, 0, ceiling, 2, 1, 0]);
+    show_h(&[0, 0, ceiling, 0, 0, 0, ceiling, 1, 0, 0, ceiling, 2, 1, 0]);
 }
 
 // Ceilings at, between and below the lengths of the two rounds, which are 5 and 3.
@@ -225,7 +202,34 @@ fn ceilings_of_rounds() {
 // Searches under a ceiling that find, find none and are stopped, with a next after each.
 fn ceilings_and_next() {
     title(b"nine lists: searches under ceilings, a next after each");
-    show_nine(&[0, 3, 3, 1, 0, 0, 2, 3, 1, 0, 0, 2, 2, 1, 0, 0, 3, 2, 1, 0]);
+    show_nine(
+        &[
+            0,
+            0,
+            3,
+            3,
+            1,
+            0,
+            0,
+            0,
+            2,
+            3,
+            1,
+            0,
+            0,
+            0,
+            2,
+            2,
+            1,
+            0,
+            0,
+            0,
+            3,
+            2,
+            1,
+            0,
+        ],
+    );
 }
 
 // The scripts with ceilings.
@@ -282,7 +286,28 @@ pub fn show_short_answer() {
     let mut log = [0u16; 64];
     title(b"D: an answer table of 3 entries");
     show_lent(
-        &[0, 4096, 65535, 1, 0, 2, 4, 0, 1, 3, 1, 2, 4, 0, 2, 3, 2],
+        &[
+            0,
+            0,
+            4096,
+            65535,
+            1,
+            0,
+            2,
+            0,
+            4,
+            0,
+            1,
+            3,
+            1,
+            2,
+            0,
+            4,
+            0,
+            2,
+            3,
+            2,
+        ],
         &mut answer,
         &mut log,
     );
@@ -293,6 +318,10 @@ pub fn show_short_log() {
     let mut answer = [0u16; 6];
     let mut log = [0u16; 10];
     title(b"D: a log of 10 entries");
-    show_lent(&[0, 4096, 65535, 1, 0, 1, 0, 1, 0], &mut answer, &mut log);
+    show_lent(
+        &[0, 0, 4096, 65535, 1, 0, 1, 0, 1, 0],
+        &mut answer,
+        &mut log,
+    );
     show_rest(b"the log:", &log, 0);
 }

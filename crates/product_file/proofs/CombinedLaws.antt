@@ -96,7 +96,7 @@ module _ {f letters p : List ℕ} {h k : Header} (C : Combinable f letters p h k
         let s : ℕ = c / states p in
         let letter : ℕ = letterOf letters s in
         let chose = agreeing-chosen (property-facts (C .property-valid)) letter (c % states p) below in
-        ap (λ (qs : List ℕ). rowOf (states p) (graphOf f .succs s) qs) chose
+        ap (λ (qs : List ℕ). rowOf (states p) (graphOf f 0 .succs s) qs) chose
         ∙ ap (λ (g : Graph). rowOf (states p) (g .succs s) (chosen letter (rowMasks p (c % states p)) (rowTargets p (c % states p))))
         (sym (valid-graph (C .rule-valid)))
         ∙ ap (λ (n : ℕ). rowOf n (graphIn f h .succs (c / n)) (chosen (letterOf letters (c / n)) (rowMasks p (c % n)) (rowTargets p (c % n))))
@@ -125,7 +125,7 @@ module _ {f letters p : List ℕ} {h k : Header} (C : Combinable f letters p h k
         let within : q < states p = omega (arith, property-below, property-header .0) in
         let rows = row-masks-length (property-facts (C .property-valid)) q within in
         let steps : length (graphIn f h .succs (c / k .states)) ≤ 8192 =
-        subst (λ (g : Graph). length (g .succs (c / k .states)) ≤ 8192) (sym (valid-graph (C .rule-valid))) (succs-length-le (valid-facts (C .rule-valid)) (c / k .states)) in
+        subst (λ (g : Graph). length (g .succs (c / k .states)) ≤ 8192) (sym (valid-graph (C .rule-valid))) (succs-length-le (valid-facts (C .rule-valid)) (h .table) (c / k .states)) in
         let held : length (keep (λ (m : ℕ). bitb m letter) (rowMasks p q)) ≤ 8192 =
         omega (arith, keep-length-le (λ (m : ℕ). bitb m letter) (rowMasks p q), rows .1) in
         omega (arith, combined-degree, mul-le-mul steps held)

@@ -18,9 +18,10 @@ use Rattle.property.specs.Property.{propertyGraph, propertyOf, ValidProperty}
 abbrev pub letterOf : List ℕ → ℕ → ℕ
 letterOf letters s = getD letters s 0
 
--- the combined model of a rule file with its letter table and a property file
+-- the combined model of a rule file with its letter table and a property file; the rule is read by mark table 0, but its marks
+-- are not used
 abbrev pub combined : (f letters p : List ℕ) → Graph
-combined f letters p = product (graphOf f) (letterOf letters) (propertyOf p)
+combined f letters p = product (graphOf f 0) (letterOf letters) (propertyOf p)
 
 -- what the writers ask: an accepted rule file with its header h, one letter up to 15 for each of its states, a property file
 -- that breaks none of 1 to 11 with its header k, and no more pairs of states than a model has states

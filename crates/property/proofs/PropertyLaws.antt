@@ -22,11 +22,14 @@ use Rattle.property.specs.Property.{masksAt, propertyTotal, propertyRule
 module _ {p : List ℕ} {h : Header} (v : ValidProperty p h) where
   -- the facts of its fields and tables
   pub property-facts : Facts p
-  property-facts = kept-facts (propertyTotal (states p) (edgeCount p)) p (omega arith) (v .kept)
+  property-facts = kept-facts (propertyTotal (states p) (edgeCount p)) 1 p (omega arith) (omega arith) (v .kept)
 
   -- its length counts the masks
   pub property-length : length p ≡ propertyTotal (states p) (edgeCount p)
-  property-length = kept-length (propertyTotal (states p) (edgeCount p)) p (v .kept)
+  property-length =
+      let (t, one, long) = kept-length (propertyTotal (states p) (edgeCount p)) 1 p (v .kept) in
+      let first : t ≡ 0 = omega arith in
+      omega (arith, rw first at long)
 
   -- its header has its numbers
   pub property-numbers : (h .states ≡ states p) × (h .edges ≡ edgeCount p) × (h .start ≡ initial p)
@@ -34,7 +37,7 @@ module _ {p : List ℕ} {h : Header} (v : ValidProperty p h) where
 
   -- its graph is well formed
   pub property-well-formed : WellFormed (propertyGraph p)
-  property-well-formed = facts-well-formed property-facts
+  property-well-formed = facts-well-formed property-facts 0
 
   -- the masks of a row lie within the file
   pub masks-within : (q : ℕ) → q < states p → masksAt (states p) (edgeCount p) + 2 * rowEntry p (q + 1) ≤ length p
@@ -43,13 +46,13 @@ module _ {p : List ℕ} {h : Header} (v : ValidProperty p h) where
 -- a property file that the check refuses breaks one of 1 to 11, so reason 17 holds
 pub refused-bad : (p : List ℕ) (n : ℕ) → Refused n ≡ propertyCheckOf p → badProperty p ≡ true
 refused-bad p n e =
-    let broken : firstBroken (propertyRules p) ≡ some n = answer-refused (firstBroken (propertyRules p)) p n e in
+    let broken : firstBroken (propertyRules p) ≡ some n = answer-refused (firstBroken (propertyRules p)) (headerOf p 0) n e in
     ap (λ (o : Option ℕ). isSome o || zeroMask p) broken
 
 -- a property file that the check accepts keeps them, with its own header
 pub checked-valid : (p : List ℕ) (h : Header) → Accept h ≡ propertyCheckOf p → ValidProperty p h
 checked-valid p h e =
-    let accepted = answer-accepted (firstBroken (propertyRules p)) p h e in
+    let accepted = answer-accepted (firstBroken (propertyRules p)) (headerOf p 0) h e in
     record { kept = accepted .0; header = accepted .1 }
 
 -- then a zero mask decides reason 17
@@ -57,7 +60,7 @@ pub valid-bad : {p : List ℕ} {h : Header} → ValidProperty p h → badPropert
 valid-bad {p} v = ap (λ (o : Option ℕ). isSome o || zeroMask p) (v .kept)
 
 -- a property file to which reason 17 does not apply keeps 1 to 11
-pub bad-kept : (p : List ℕ) → T (not (badProperty p)) → ValidProperty p (headerOf p)
+pub bad-kept : (p : List ℕ) → T (not (badProperty p)) → ValidProperty p (headerOf p 0)
 bad-kept p h = record { kept = none-left (firstBroken (propertyRules p)) (neither-l (isSome (firstBroken (propertyRules p))) (zeroMask p) h); header = refl }
   where
     none-left : (o : Option ℕ) → T (not (isSome o)) → o ≡ none

@@ -9,7 +9,7 @@ use lib.Dec.{eqb, ltb}
 use Rattle.lasso.specs.Lists.{anyb, isSome, upFrom, below}
 use Rattle.lasso.specs.Graph.{ascendingb}
 use Rattle.format.specs.Bytes.{word, long, bitb}
-use Rattle.format.specs.Layout.{states, edgeCount, initial, rowsAt, edgesAt, marksAt, markBytes, rowEntry, target, rowTargets, markBit}
+use Rattle.format.specs.Layout.{states, edgeCount, initial, rowsAt, edgesAt, marksAt, markBytes, tableAt, rowEntry, target, rowTargets, markBit}
 use Rattle.format.specs.Rules.{firstBroken, badReserved}
 use Rattle.model.specs.Model.{listIf}
 use Rattle.property.specs.Property.{masksAt, propertyTotal, maskAt, propertyRules, zeroMask, badProperty, propertyOf, SameButReserved}
@@ -52,8 +52,8 @@ module _ {p p' : List ℕ} (same : SameButReserved p p') where
   same-row s = λ i. map (λ e. same-target e i) (upFrom (same-entry s i) (same-entry (s + 1) i - same-entry s i))
 
   -- the marks are the same
-  same-mark : (s : ℕ) → markBit p s ≡ markBit p' s
-  same-mark s = λ i. bitb (same .same-bytes (marksAt (same-states i) (same-edges i) + s / 8) (inr (omega arith)) i) (s % 8)
+  same-mark : (t s : ℕ) → markBit p t s ≡ markBit p' t s
+  same-mark t s = λ i. bitb (same .same-bytes (tableAt (same-states i) (same-edges i) t + s / 8) (inr (omega arith)) i) (s % 8)
 
   -- the masks are the same
   same-mask : (e : ℕ) → maskAt p e ≡ maskAt p' e
@@ -74,7 +74,7 @@ module _ {p p' : List ℕ} (same : SameButReserved p p') where
         holds = not (eqb (same-long 8 (omega arith) i) rowsAt) ||
             (not (eqb (same-long 12 (omega arith) i) (edgesAt n)) ||
             (not (eqb (same-long 16 (omega arith) i) (marksAt n m)) ||
-            not (eqb (same-long 20 (omega arith) i) (propertyTotal n m))));
+            not (anyb (λ t. eqb (same-long 20 (omega arith) i) (propertyTotal n m + t * markBytes n)) (below 1))));
       } ∷
       record { number = 7; holds = not (eqb (same .same-length i) (same-long 20 (omega arith) i)) } ∷
       record {
@@ -85,7 +85,7 @@ module _ {p p' : List ℕ} (same : SameButReserved p p') where
       } ∷
       record { number = 9; holds = anyb (λ e. not (ltb (same-target e i) n)) (below m) } ∷
       record { number = 10; holds = anyb (λ s. not (ascendingb (same-row s i))) (below n) } ∷
-      record { number = 11; holds = anyb (λ s. same-mark s i) (upFrom n (8 * markBytes n - n)) } ∷ []
+      record { number = 11; holds = anyb (λ t. anyb (λ s. same-mark t s i) (upFrom n (8 * markBytes n - n))) (below 1) } ∷ []
 
   -- both or neither have a zero mask
   same-zero-mask : zeroMask p ≡ zeroMask p'
@@ -98,7 +98,7 @@ module _ {p p' : List ℕ} (same : SameButReserved p p') where
       size = same-states i;
       start = same-initial i;
       succs = λ s. listIf (ltb s (same-states i)) (same-row s i);
-      marked = λ s. ltb s (same-states i) && same-mark s i;
+      marked = λ s. ltb s (same-states i) && same-mark 0 s i;
     };
     holds = λ q q' letter. anyb (λ e. eqb (same-target e i) q' && bitb (same-mask e i) letter)
         (upFrom (same-entry q i) (same-entry (q + 1) i - same-entry q i));

@@ -1,4 +1,5 @@
--- The property file: a model file that has, after its marks, one 16-bit mask per edge, and the property that it holds.
+-- The property file: a model file with one mark table that has, after its marks, one 16-bit mask per edge, and the property
+-- that it holds.
 use Prim.Native.Nat.{ℕ, _+_, _*_, _-_, _≤_, _<_}
 use mathlib.Core.Path.{_≡_}
 use mathlib.Core.Bool.{Bool, _&&_, _||_}
@@ -34,13 +35,13 @@ maskAt p e = word p (masksAt (states p) (edgeCount p) + 2 * e)
 abbrev pub rowMasks : List ℕ → ℕ → List ℕ
 rowMasks p q = rowNumbers p (masksAt (states p) (edgeCount p)) q
 
--- the reasons 1 to 11 for a property file
+-- the reasons 1 to 11 for a property file: it has one mark table, and 11 does not speak of its masks
 abbrev pub propertyRules : List ℕ → List Reason
-propertyRules p = rulesWith (propertyTotal (states p) (edgeCount p)) p
+propertyRules p = rulesWith (propertyTotal (states p) (edgeCount p)) 1 p
 
 -- the answer of the check by these reasons
 abbrev pub propertyCheckOf : List ℕ → Checked
-propertyCheckOf p = checkWith (propertyTotal (states p) (edgeCount p)) p
+propertyCheckOf p = checkWith (propertyTotal (states p) (edgeCount p)) 1 p
 
 -- some edge has a zero mask
 abbrev pub zeroMask : List ℕ → Bool
@@ -50,9 +51,10 @@ zeroMask p = anyb (λ e. eqb (maskAt p e) 0) (below (edgeCount p))
 abbrev pub badProperty : List ℕ → Bool
 badProperty p = isSome (firstBroken (propertyRules p)) || zeroMask p
 
--- the states, edges and marks of a property file: its edges are those of its rows, and no others
+-- the states, edges and marks of a property file: its edges are those of its rows, and no others, its marks those of mark
+-- table 0
 abbrev pub propertyGraph : List ℕ → Graph
-propertyGraph p = rowGraph p (headerOf p)
+propertyGraph p = rowGraph p (headerOf p 0)
 
 -- q has an edge to q' whose mask holds the letter: bit l of the mask is letter l
 abbrev pub holdsLetter : List ℕ → (q q' letter : ℕ) → Bool
@@ -69,10 +71,10 @@ chosen letter [] ts = []
 chosen letter (m ∷ ms) [] = []
 chosen letter (m ∷ ms) (t ∷ ts) = consIf (bitb m letter) t (chosen letter ms ts)
 
--- what the leaves ask of a property file and a header: it breaks none of 1 to 11, and the header is its own
+-- what the leaves ask of a property file and a header: it breaks none of 1 to 11, and the header is its own, with mark table 0
 pub record ValidProperty (p : List ℕ) (h : Header) : Type 0 where
   pub kept : firstBroken (propertyRules p) ≡ none
-  pub header : h ≡ headerOf p
+  pub header : h ≡ headerOf p 0
 
 -- two files of one length whose bytes differ at 6–7 alone
 pub record SameButReserved (p p' : List ℕ) : Type 0 where

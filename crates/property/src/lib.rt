@@ -9,8 +9,8 @@ ghost use Rattle.property.specs.Property.{propertyCheckOf, rowMasks, zer
 use format::bit;
 use format::edge_part;
 use format::entry_at;
-use format::marks_at;
 use format::row;
+use format::table_at;
 use format::total_of;
 use format::word;
 use model::Checked;
@@ -18,7 +18,7 @@ use model::Header;
 use model::check_head;
 use model::check_tables;
 
-// Applies the rules 1 to 11 in order; the total length counts the masks.
+// Applies the rules 1 to 11 in order; there is one mark table, and the total length counts the masks behind it.
 pub fn check_property(file: &[u8]) -> Checked
     ensures { λ r. ⌜ r ≡ propertyCheckOf (now (file .entry)) ⌝ }
 {
@@ -27,7 +27,7 @@ pub fn check_property(file: &[u8]) -> Checked
         Checked::Refused(_) => head,
         Checked::Accept(header) => {
             let total = total_of(header.states, header.edges) + 2 * header.edges;
-            check_tables(file, header, total)
+            check_tables(file, header, total, 1)
         }
     }
 }
@@ -93,13 +93,13 @@ pub fn count_holding(masks: &[u8], letter: usize) -> usize
     held
 }
 
-// State q is marked.
+// State q is marked in mark table 0, the only one.
 pub fn is_marked(file: &[u8], h: Header, q: usize) -> bool
     requires { ⌜ ValidProperty (now file) h ⌝ }
     requires { ⌜ q < h .states ⌝ }
-    ensures { λ r. ⌜ r ≡ markBit (now (file .entry)) q ⌝ }
+    ensures { λ r. ⌜ r ≡ markBit (now (file .entry)) 0 q ⌝ }
 {
     let states = h.states;
     let edges = h.edges;
-    bit(file, marks_at(states, edges), q)
+    bit(file, table_at(states, edges, 0), q)
 }

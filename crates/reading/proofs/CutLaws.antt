@@ -1,4 +1,4 @@
--- The first 25,115 bytes of a file decide which of 1 to 11 it breaks first: of a longer file 7 holds, unless an earlier
+-- The first 25,627 bytes of a file decide which of 1 to 11 it breaks first: of a longer file 7 holds, unless an earlier
 -- reason does, and those before 7 look at the header alone.
 use Prim.Native.Nat.{ℕ, _+_, _*_, _≤_, _<_}
 use mathlib.Core.Path.{_≡_, refl, sym, _∙_, ap}
@@ -10,10 +10,11 @@ use borrow.Author.Tests.{le-ltb}
 use lib.ListN.{length, getD, take, drop}
 use lib.Seq.{getD-take, length-take-le}
 use lib.Dec.{eqb, ltb, nltb→le}
-use Rattle.lasso.specs.Lists.{someIf}
+use Rattle.lasso.specs.Lists.{anyb, below, someIf}
 use Rattle.format.specs.Bytes.{word, long}
-use Rattle.format.specs.Layout.{states, edgeCount, initial, rowsAt, edgesAt, marksAt, totalOf}
+use Rattle.format.specs.Layout.{states, edgeCount, initial, rowsAt, edgesAt, marksAt, markBytes, totalOf}
 use Rattle.format.specs.Rules.{Reason, rules, firstBroken, shortFile, badStates, badEdges, badInitial, badReserved, badOffsets, badLength}
+use Rattle.format.proofs.Marks.{one-table}
 use Rattle.format.proofs.Reasons.{none-clear, clear-append, broken-append}
 use Rattle.format.proofs.Kept.{states-kept, length-kept}
 use Rattle.reading.specs.Sizes.{fileBytes}
@@ -22,9 +23,9 @@ use Rattle.reading.specs.Sizes.{fileBytes}
 abbrev seven : List Reason
 seven = record { number = 7; holds = true } ∷ []
 
--- 6, by the total length that the file's own numbers give
+-- 6, by the total lengths that the file's own numbers give with one mark table or with two
 abbrev badOwn : List ℕ → Bool
-badOwn f = badOffsets (totalOf (states f) (edgeCount f)) f
+badOwn f = badOffsets (totalOf (states f) (edgeCount f)) 2 f
 
 -- the reasons 1 to 6
 abbrev firstSix : List ℕ → List Reason
@@ -39,7 +40,9 @@ longer f more e =
     let given = from2 .1 .1 .1 .1 .0 in
     elim (badLength f) as (λ b. badLength f ≡ b → b ≡ true) [
       | true ↦ λ q. refl
-      | false ↦ λ q. absurd (omega (arith, n, m, length-kept (totalOf (states f) (edgeCount f)) f given (rw q tt)))
+      | false ↦ λ q.
+          let (t, few, long) = length-kept (totalOf (states f) (edgeCount f)) 2 f given (rw q tt) in
+          absurd (omega (arith, n, m, long, one-table t (markBytes (states f)) (omega arith)))
     ] refl
 
 -- the first reason of such a file is one of 1 to 6, or 7
@@ -70,7 +73,8 @@ six-some a b c d e g =
 -- 6 by the numbers that it looks at
 abbrev offsetsBad : (n m rows edges marks total : ℕ) → Bool
 offsetsBad n m rows edges marks total =
-    not (eqb rows rowsAt) || (not (eqb edges (edgesAt n)) || (not (eqb marks (marksAt n m)) || not (eqb total (totalOf n m))))
+    not (eqb rows rowsAt) || (not (eqb edges (edgesAt n)) || (not (eqb marks (marksAt n m)) ||
+    not (anyb (λ t. eqb total (totalOf n m + t * markBytes n)) (below 2))))
 
 module _ (k : ℕ) (f : List ℕ) where
   -- a number in the part that is taken

@@ -6,7 +6,7 @@ ghost use lib.ListN.{length};
 ghost use Rattle.lasso.specs.Graph.{ascendingb};
 ghost use Rattle.format.specs.Bytes.{words};
 ghost use Rattle.format.specs.Layout.{states, edgeCount, HasTables};
-ghost use Rattle.format.specs.Rules.{badOffsets, badRows, badTargets, badOrder, badSpare};
+ghost use Rattle.format.specs.Rules.{totalFits, badOffsets, badRows, badTargets, badOrder, spareSet, badSpare};
 use format::bit;
 use format::edges_at;
 use format::entry_at;
@@ -15,14 +15,37 @@ use format::mark_bytes;
 use format::marks_at;
 use format::row;
 use format::row_entry;
+use format::table_at;
 use format::word;
 
-// Rule 6: an offset differs from the one that n states and m edges give, or the total length from the one given.
-pub fn offsets_broken(file: &[u8], n: usize, m: usize, total: usize) -> bool
+// The total length is one that a kind of file of n states may have: `total` with one mark table, and one table's size more
+// with each further one, up to `tables`.
+fn total_fits(file: &[u8], n: usize, total: usize, tables: usize) -> bool
+    requires { ⌜ 24 ≤ length (now file) ⌝ }
+    requires { ⌜ (n ≡ states (now file)) × (n ≤ 4096) ⌝ }
+    requires { ⌜ (total ≤ 65535) × (tables ≤ 2) ⌝ }
+    ensures { λ r. ⌜ r ≡ totalFits total tables (now (file .entry)) ⌝ }
+{
+    let size = mark_bytes(n);
+    let given = long(file, 20);
+    let mut further: usize = 0;
+    while further < tables {
+        if given == total + further * size {
+            return true;
+        }
+        further += 1;
+    }
+    false
+}
+
+// Rule 6: an offset differs from the one that n states and m edges give, or the total length is none of those of this kind
+// of file.
+pub fn offsets_broken(file: &[u8], n: usize, m: usize, total: usize, tables: usize) -> bool
     requires { ⌜ 24 ≤ length (now file) ⌝ }
     requires { ⌜ (n ≡ states (now file)) × (m ≡ edgeCount (now file)) ⌝ }
     requires { ⌜ (n ≤ 4096) × (m ≤ 8192) ⌝ }
-    ensures { λ r. ⌜ r ≡ badOffsets total (now (file .entry)) ⌝ }
+    requires { ⌜ (total ≤ 65535) × (tables ≤ 2) ⌝ }
+    ensures { λ r. ⌜ r ≡ badOffsets total tables (now (file .entry)) ⌝ }
 {
     let edges = edges_at(n);
     let marks = marks_at(n, m);
@@ -35,7 +58,7 @@ pub fn offsets_broken(file: &[u8], n: usize, m: usize, total: usize) -> bool
     if long(file, 16) != marks {
         return true;
     }
-    long(file, 20) != total
+    !total_fits(file, n, total, tables)
 }
 
 // Rule 8: the first row entry is not 0, an entry is less than the one before, or the last is not m.
@@ -103,19 +126,36 @@ pub fn order_broken(file: &[u8], n: usize, m: usize) -> bool
     false
 }
 
-// Rule 11: a spare bit of the marks is set.
-pub fn spare_set(file: &[u8], n: usize, m: usize) -> bool
+// A spare bit of mark table t is set.
+fn spare_of_table(file: &[u8], n: usize, m: usize, t: usize) -> bool
     requires { ⌜ HasTables (now file) n m ⌝ }
-    ensures { λ r. ⌜ r ≡ badSpare (now (file .entry)) ⌝ }
+    requires { ⌜ t ≤ 1 ⌝ }
+    ensures { λ r. ⌜ r ≡ spareSet (now (file .entry)) t ⌝ }
 {
-    let marks = marks_at(n, m);
+    let at = table_at(n, m, t);
     let end = 8 * mark_bytes(n);
     let mut s = n;
     while s < end {
-        if bit(file, marks, s) {
+        if bit(file, at, s) {
             return true;
         }
         s += 1;
+    }
+    false
+}
+
+// Rule 11: a spare bit of the marks is set, in one of the tables that this kind of file may have.
+pub fn spare_set(file: &[u8], n: usize, m: usize, tables: usize) -> bool
+    requires { ⌜ HasTables (now file) n m ⌝ }
+    requires { ⌜ tables ≤ 2 ⌝ }
+    ensures { λ r. ⌜ r ≡ badSpare tables (now (file .entry)) ⌝ }
+{
+    let mut t: usize = 0;
+    while t < tables {
+        if spare_of_table(file, n, m, t) {
+            return true;
+        }
+        t += 1;
     }
     false
 }

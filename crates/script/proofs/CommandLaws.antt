@@ -11,11 +11,10 @@ use lib.Dec.{eqb, ltb}
 use Rattle.lasso.specs.Lists.{pick}
 use Rattle.gate.specs.declared.Ask.{Ask}
 use Rattle.gate.specs.Gate.{asking}
-use Rattle.sequence.specs.Calls.{search, next}
+use Rattle.sequence.specs.Calls.{Call, search, next}
 use Rattle.logged.specs.Log.{Made}
 use Rattle.logged.proofs.CallLaws.{made-as}
-use Rattle.script.specs.Commands.{action, argument, behind, commandLength, overb, sizeOf}
-use Rattle.script.specs.Commands.{allowance, lentList, callOf}
+use Rattle.script.specs.Commands.{action, markTable, third, behind, commandLength, overb, sizeOf, allowance, lentList, callOf}
 
 -- an alternative whose second part holds
 or-true : (a : Bool) → (a || true) ≡ true
@@ -27,27 +26,27 @@ or-false : (a b : Bool) → (a || b) ≡ false → (a ≡ false) × (b ≡ false
 or-false true b e = let z : _≡_ {A = ℕ} 0 1 = cc in absurd (omega arith)
 or-false false b e = (refl, e)
 
--- what stands behind a search: one number
-pub behind-search : (x y : ℕ) → x ≡ 0 → 1 ≡ behind x y
-behind-search x y e = sym (ap (λ (b : Bool). pick b 1 (pick (eqb x 1) 0 y)) (eq-eqb x 0 e))
+-- what stands behind a search: two numbers
+pub behind-search : (x y : ℕ) → x ≡ 0 → 2 ≡ behind x y
+behind-search x y e = sym (ap (λ (b : Bool). pick b 2 (pick (eqb x 1) 0 (y + 1))) (eq-eqb x 0 e))
 
 -- behind a next: what its own test says
-behind-next : (x y : ℕ) → (x ≡ 0 → ⊥) → pick (eqb x 1) 0 y ≡ behind x y
-behind-next x y d = sym (ap (λ (b : Bool). pick b 1 (pick (eqb x 1) 0 y)) (ne-eqb x 0 d))
+behind-next : (x y : ℕ) → (x ≡ 0 → ⊥) → pick (eqb x 1) 0 (y + 1) ≡ behind x y
+behind-next x y d = sym (ap (λ (b : Bool). pick b 2 (pick (eqb x 1) 0 (y + 1))) (ne-eqb x 0 d))
 
 -- behind one with the copy: nothing
 pub behind-copy : (x y : ℕ) → (x ≡ 0 → ⊥) → x ≡ 1 → 0 ≡ behind x y
-behind-copy x y d e = sym (ap (λ (b : Bool). pick b 0 y) (eq-eqb x 1 e)) ∙ behind-next x y d
+behind-copy x y d e = sym (ap (λ (b : Bool). pick b 0 (y + 1)) (eq-eqb x 1 e)) ∙ behind-next x y d
 
--- behind one with a list: its entries
-pub behind-list : (x y : ℕ) → (x ≡ 0 → ⊥) → (x ≡ 1 → ⊥) → y ≡ behind x y
-behind-list x y d d' = sym (ap (λ (b : Bool). pick b 0 y) (ne-eqb x 1 d')) ∙ behind-next x y d
+-- behind one with a list: the count and the entries
+pub behind-list : (x y : ℕ) → (x ≡ 0 → ⊥) → (x ≡ 1 → ⊥) → y + 1 ≡ behind x y
+behind-list x y d d' = sym (ap (λ (b : Bool). pick b 0 (y + 1)) (ne-eqb x 1 d')) ∙ behind-next x y d
 
--- no more than one number stands there besides as many as the argument says
-pub behind-most : (x y : ℕ) → behind x y ≤ y + 1
+-- no more than two numbers stand there besides as many as the count says
+pub behind-most : (x y : ℕ) → behind x y ≤ y + 2
 behind-most x y = go (eqb x 0) (eqb x 1)
   where
-    go : (b b' : Bool) → pick b 1 (pick b' 0 y) ≤ y + 1
+    go : (b b' : Bool) → pick b 2 (pick b' 0 (y + 1)) ≤ y + 2
     go true b' = omega arith
     go false true = omega arith
     go false false = omega arith
@@ -69,15 +68,11 @@ module _ (s : List ℕ) where
       (ap (λ (b : Bool). pick (b || ltb 2 (action s)) 0 (commandLength s)) (le-ltb (length s) (commandLength s) fits)
       ∙ ap (λ (b : Bool). pick b 0 (commandLength s)) (le-ltb 2 (action s) known))
 
-  -- how many numbers it has, from the two that were read
-  pub command-length : {x y r : ℕ} → x ≡ action s → y ≡ argument s → r ≡ behind x y → 2 + r ≡ commandLength s
-  command-length {x} {y} {r} at-action at-argument e =
-      let at : r ≡ behind (action s) (argument s) = e ∙ (λ i. behind (at-action i) (at-argument i)) in
+  -- how many numbers it has, from those that were read
+  pub command-length : {x y r : ℕ} → x ≡ action s → y ≡ third s → r ≡ behind x y → 2 + r ≡ commandLength s
+  command-length {x} {y} {r} at-action at-third e =
+      let at : r ≡ behind (action s) (third s) = e ∙ (λ i. behind (at-action i) (at-third i)) in
       ap (λ (n : ℕ). 2 + n) at
-
-  -- no command has fewer than two numbers
-  pub size-short : length s < 2 → 0 ≡ sizeOf s
-  size-short less = size-none (omega arith)
 
   -- an unknown action
   pub size-unknown : 2 < action s → 0 ≡ sizeOf s
@@ -102,61 +97,61 @@ module _ (s : List ℕ) where
     pub action-known : action s ≤ 2
     action-known = ltb-false 2 (action s) (or-false (ltb (length s) (commandLength s)) (ltb 2 (action s)) e .1)
 
-    -- two numbers are there
-    pub two-there : 2 ≤ length s
-    two-there = omega (arith, command-there)
-
-    -- and behind them one more, if it is a search
-    pub three-there : action s ≡ 0 → 3 ≤ length s
-    three-there q = omega (arith, command-there, behind-search (action s) (argument s) q)
-
-    -- or the list, if that is what it asks for
-    pub list-there : (action s ≡ 0 → ⊥) → (action s ≡ 1 → ⊥) → argument s + 2 ≤ length s
-    list-there d d' = omega (arith, command-there, behind-list (action s) (argument s) d d')
+    -- the list is there, if that is what it asks for
+    pub list-there : (action s ≡ 0 → ⊥) → (action s ≡ 1 → ⊥) → 3 + third s ≤ length s
+    list-there d d' = omega (arith, command-there, behind-list (action s) (third s) d d')
 
   module _ (copy a w : List ℕ) where
+    -- the search and the next that the command may ask for
+    abbrev asked : Call
+    asked = search (asking (markTable s) (third s) (allowance s)) a w
+
+    abbrev followed : List ℕ → Call
+    followed earlier = next (markTable s) earlier a w
+
     -- a search
-    pub call-search : action s ≡ 0 → search (asking (argument s) (allowance s)) a w ≡ callOf s copy a w
-    call-search e =
-        sym (ap (λ (b : Bool). pick b (search (asking (argument s) (allowance s)) a w) (next (lentList s copy) a w))
-        (eq-eqb (action s) 0 e))
+    pub call-search : action s ≡ 0 → asked ≡ callOf s copy a w
+    call-search e = sym (ap (λ (b : Bool). pick b asked (followed (lentList s copy))) (eq-eqb (action s) 0 e))
 
     -- a next with the list that the command lends
-    call-next : (action s ≡ 0 → ⊥) → next (lentList s copy) a w ≡ callOf s copy a w
-    call-next d =
-        sym (ap (λ (b : Bool). pick b (search (asking (argument s) (allowance s)) a w) (next (lentList s copy) a w))
-        (ne-eqb (action s) 0 d))
+    pub call-next : (action s ≡ 0 → ⊥) → followed (lentList s copy) ≡ callOf s copy a w
+    call-next d = sym (ap (λ (b : Bool). pick b asked (followed (lentList s copy))) (ne-eqb (action s) 0 d))
 
     -- a next with the copy
-    pub call-copy : (action s ≡ 0 → ⊥) → action s ≡ 1 → next copy a w ≡ callOf s copy a w
+    pub call-copy : (action s ≡ 0 → ⊥) → action s ≡ 1 → followed copy ≡ callOf s copy a w
     call-copy d e =
-        sym (ap (λ (b : Bool). next (pick b copy (take (argument s) (drop 2 s))) a w) (eq-eqb (action s) 1 e)) ∙ call-next d
+        sym (ap (λ (b : Bool). followed (pick b copy (take (third s) (drop 3 s)))) (eq-eqb (action s) 1 e)) ∙ call-next d
 
     -- a next with the entries behind
-    pub call-list : (action s ≡ 0 → ⊥) → (action s ≡ 1 → ⊥) → next (take (argument s) (drop 2 s)) a w ≡ callOf s copy a w
+    pub call-list : (action s ≡ 0 → ⊥) → (action s ≡ 1 → ⊥) → followed (take (third s) (drop 3 s)) ≡ callOf s copy a w
     call-list d d' =
-        sym (ap (λ (b : Bool). next (pick b copy (take (argument s) (drop 2 s))) a w) (ne-eqb (action s) 1 d')) ∙ call-next d
+        sym (ap (λ (b : Bool). followed (pick b copy (take (third s) (drop 3 s)))) (ne-eqb (action s) 1 d')) ∙ call-next d
 
 -- the call that is made is the one that the first command asks for, whose numbers were read
-module _ (s copy a w : List ℕ) {x : ℕ} (at-action : x ≡ action s) where
+module _ (s copy a w : List ℕ) {x t : ℕ} (at-action : x ≡ action s) (at-table : t ≡ markTable s) where
   -- a next with the copy
-  pub called-copy : (x ≡ 0 → ⊥) → x ≡ 1 → next copy a w ≡ callOf s copy a w
-  called-copy d e = call-copy s copy a w (λ q. d (at-action ∙ q)) (sym at-action ∙ e)
+  pub called-copy : (x ≡ 0 → ⊥) → x ≡ 1 → next t copy a w ≡ callOf s copy a w
+  called-copy d e =
+      ap (λ (n : ℕ). next n copy a w) at-table ∙ call-copy s copy a w (λ q. d (at-action ∙ q)) (sym at-action ∙ e)
 
   -- a next with the entries behind
-  pub called-list : {y : ℕ} → y ≡ argument s → (x ≡ 0 → ⊥) → (x ≡ 1 → ⊥)
-      → next (take (y + 2 - 2) (drop 2 s)) a w ≡ callOf s copy a w
-  called-list {y} at-argument d d' =
-      let n : y + 2 - 2 ≡ argument s = omega arith in
-      ap (λ (k : ℕ). next (take k (drop 2 s)) a w) n
+  pub called-list : {y : ℕ} → y ≡ third s → (x ≡ 0 → ⊥) → (x ≡ 1 → ⊥)
+      → next t (take (3 + y - 3) (drop 3 s)) a w ≡ callOf s copy a w
+  called-list {y} at-third d d' =
+      let n : 3 + y - 3 ≡ third s = omega arith in
+      (λ i. next (at-table i) (take (n i) (drop 3 s)) a w)
       ∙ call-list s copy a w (λ q. d (at-action ∙ q)) (λ q. d' (at-action ∙ q))
 
   -- a search that asks what was read
   pub made-search : {f : List ℕ} {ask : Ask} {place : ℕ} {log a' w' log' : List ℕ} {got : ℕ}
-      → Made f (search ask a w) place log a' w' log' got → ask .ceiling .0 ≡ argument s → ask .allowance ≡ allowance s
+      → Made f (search ask a w) place log a' w' log' got
+      → ask .table ≡ t → ask .ceiling .0 ≡ third s → ask .allowance ≡ allowance s
       → x ≡ 0 → Made f (callOf s copy a w) place log a' w' log' got
-  made-search m at-ceiling at-allowance e =
-      made-as ((λ i. search (asking (at-ceiling i) (at-allowance i)) a w) ∙ call-search s copy a w (sym at-action ∙ e)) m
+  made-search m named at-ceiling at-allowance e =
+      made-as
+      ((λ i. search (asking ((named ∙ at-table) i) (at-ceiling i) (at-allowance i)) a w)
+      ∙ call-search s copy a w (sym at-action ∙ e))
+      m
 
 -- what is left of a script from a place on
 pub rest-of : (s : List ℕ) (at : ℕ) → at ≤ length s → take (length s - at) (drop at s) ≡ drop at s

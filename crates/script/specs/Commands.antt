@@ -1,7 +1,7 @@
--- The commands of a script of numbers, and the call that each asks for. Each command begins with two numbers,
--- what to do and its argument: 0 and a ceiling, with an allowance behind them, a search; 1 and a number that is not
--- used, a next with the copy last received, which is the empty list at first; 2 and a count, with so many entries
--- behind them, a next with those entries.
+-- The commands of a script of numbers, and the call that each asks for. Each command begins with two numbers, what to do
+-- and the mark table that the call names: 0, a search, with a ceiling and an allowance behind them; 1, a next with the copy
+-- last received, which is the empty list at first; 2, a next with a list of its own, with a count and so many entries
+-- behind them.
 use Prim.Native.Nat.{ℕ, _+_}
 use mathlib.Core.Bool.{Bool, _||_}
 use mathlib.Core.List.{List}
@@ -15,18 +15,22 @@ use Rattle.sequence.specs.Calls.{Call, search, next}
 abbrev pub action : List ℕ → ℕ
 action script = getD script 0 0
 
--- its argument
-abbrev pub argument : List ℕ → ℕ
-argument script = getD script 1 0
+-- the mark table that its call names
+abbrev pub markTable : List ℕ → ℕ
+markTable script = getD script 1 0
 
--- how many numbers stand behind these two: one for a search, none for a next with the copy, else as many as the
--- argument says
-abbrev pub behind : (action argument : ℕ) → ℕ
-behind action argument = pick (eqb action 0) 1 (pick (eqb action 1) 0 argument)
+-- its third number, if it has one: the ceiling of a search, or the count of a list's entries
+abbrev pub third : List ℕ → ℕ
+third script = getD script 2 0
+
+-- how many numbers stand behind the first two: two for a search, none for a next with the copy, else the count and as many as
+-- it says
+abbrev pub behind : (action third : ℕ) → ℕ
+behind action third = pick (eqb action 0) 2 (pick (eqb action 1) 0 (third + 1))
 
 -- how many numbers it has
 abbrev pub commandLength : List ℕ → ℕ
-commandLength script = 2 + behind (action script) (argument script)
+commandLength script = 2 + behind (action script) (third script)
 
 -- the script is over: at its end, where a command is cut off, and at an unknown action
 abbrev pub overb : List ℕ → Bool
@@ -38,14 +42,14 @@ sizeOf script = pick (overb script) 0 (commandLength script)
 
 -- the allowance of a search
 abbrev pub allowance : List ℕ → ℕ
-allowance script = getD script 2 0
+allowance script = getD script 3 0
 
 -- the list that the first command lends to a next: the copy last received, or the entries behind it
 abbrev pub lentList : (script copy : List ℕ) → List ℕ
-lentList script copy = pick (eqb (action script) 1) copy (take (argument script) (drop 2 script))
+lentList script copy = pick (eqb (action script) 1) copy (take (third script) (drop 3 script))
 
 -- the call that the first command asks for, lent the tables
 abbrev pub callOf : (script copy a w : List ℕ) → Call
 callOf script copy a w =
-    pick (eqb (action script) 0) (search (asking (argument script) (allowance script)) a w)
-    (next (lentList script copy) a w)
+    pick (eqb (action script) 0) (search (asking (markTable script) (third script) (allowance script)) a w)
+    (next (markTable script) (lentList script copy) a w)

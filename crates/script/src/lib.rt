@@ -3,23 +3,32 @@
 ghost use mathlib.Core.Path.{_≡_};
 ghost use mathlib.Core.Bool.{false};
 ghost use Prim.Native.Nat.{_+_, _≤_};
-ghost use lib.ListN.{length};
+ghost use lib.ListN.{length, getD};
 ghost use Rattle.logged.specs.Log.{Made};
 ghost use Rattle.script.specs.Commands.{behind, overb, sizeOf, callOf};
 use gate::Ask;
 use lasso::Transitions;
 use logged::play_next;
 use logged::play_search;
-use table::get;
+
+// The number at a place of a script, 0 past its end.
+fn number_at(script: &[u16], place: usize) -> u16
+    ensures { λ r. ⌜ r ≡ getD (now (script .entry)) place 0 ⌝ }
+{
+    if script.len() <= place {
+        return 0;
+    }
+    script[place]
+}
 
 // How many numbers stand behind the first two of a command.
-fn numbers_behind(action: usize, argument: usize) -> usize
-    ensures { λ r. ⌜ r ≡ behind action argument ⌝ }
+fn numbers_behind(action: u16, third: u16) -> usize
+    ensures { λ r. ⌜ r ≡ behind action third ⌝ }
 {
     match action {
-        0 => 1,
+        0 => 2,
         1 => 0,
-        _ => argument,
+        _ => third as usize + 1,
     }
 }
 
@@ -27,17 +36,13 @@ fn numbers_behind(action: usize, argument: usize) -> usize
 pub fn command_size(script: &[u16]) -> usize
     ensures { λ r. ⌜ r ≡ sizeOf (now (script .entry)) ⌝ }
 {
-    let there = script.len();
-    if there < 2 {
-        return 0;
-    }
-    let action = get(script, 0);
+    let action = number_at(script, 0);
     if 2 < action {
         return 0;
     }
-    let argument = get(script, 1);
-    let size = 2 + numbers_behind(action, argument);
-    if there < size {
+    let third = number_at(script, 2);
+    let size = 2 + numbers_behind(action, third);
+    if script.len() < size {
         return 0;
     }
     size
@@ -59,20 +64,21 @@ pub fn play_one(
         (callOf (now (script .entry)) (now (copy .entry)) (now (answer .entry)) (now (work .entry)))
         place (now (log .entry)) (now (answer .exit)) (now (work .exit)) (now (log .exit)) r ⌝ }
 {
-    let action = get(script, 0);
-    let argument = get(script, 1);
+    let action = number_at(script, 0);
+    let mark_table = number_at(script, 1);
+    let third = number_at(script, 2);
     if action == 0 {
-        let ceiling = argument as u16;
-        let allowance = get(script, 2) as u16;
+        let allowance = number_at(script, 3);
         let ask = Ask {
-            ceiling: Transitions(ceiling),
+            table: mark_table,
+            ceiling: Transitions(third),
             allowance,
         };
         return play_search(file, ask, answer, work, log, place);
     }
     if action == 1 {
-        return play_next(file, copy, answer, work, log, place);
+        return play_next(file, mark_table, copy, answer, work, log, place);
     }
-    let end = argument + 2;
-    play_next(file, &script[2..end], answer, work, log, place)
+    let end = 3 + third as usize;
+    play_next(file, mark_table, &script[3..end], answer, work, log, place)
 }

@@ -17,48 +17,48 @@ use Rattle.lasso.proofs.RollLaws.{roll-empty, roll-length}
 use Rattle.lasso.proofs.CeilingLaws.{roll-within}
 use Rattle.gate.specs.declared.Ask.{Ask}
 use Rattle.model.specs.Model.{graphOf}
-use Rattle.format.specs.Layout.{states}
+use Rattle.format.specs.Layout.{states, initial}
 use Rattle.format.specs.Rules.{firstBroken, Accepted}
 use Rattle.outcomes.specs.Outcome.{Outcome, refused, answered}
 use Rattle.outcomes.specs.Tables.{noRoom, lengthDue, listReasons}
 use Rattle.outcomes.proofs.OutcomeLaws.{CallIs, call-answer, call-broken, call-kept, never-too-long}
 use Rattle.outcomes.proofs.ReadBack.{transitions, readRecord, readRecord-recordOf, loses-nothing}
-use Rattle.gate.specs.Gate.{commonRules, ceilingReason}
+use Rattle.gate.specs.Gate.{namedRules, ceilingReason}
 use Rattle.format.proofs.Reasons.{broken-append}
-use Rattle.gate.proofs.GateLaws.{common-clear, ceiling-high, ceiling-low}
+use Rattle.gate.proofs.GateLaws.{common-clear, named-one, ceiling-high, ceiling-low}
 use Rattle.search.specs.declared.SearchAnswer.{SearchAnswer}
 use Rattle.search.specs.declared.SearchAnswer.the-variants as SearchAnswers
-use Rattle.search.specs.Search.{Searched, stopped, noneWithin, searchOutcomeOf, SearchLosesNothing, stopsb, firstOf, searched, firstDue, searchReasons, searchOutcome, searchAnswer, WithEnough}
+use Rattle.search.specs.Search.{Searched, stopped, noneWithin, searchOutcomeOf, SearchLosesNothing, stopsb, firstOf, searched, firstDue, graphAsked, searchReasons, searchOutcome, searchAnswer, WithEnough}
 
 -- a search's outcome, and the list that it writes
 abbrev pub SearchIs : List ℕ → Ask → ℕ → ℕ → Outcome Searched → Option (List ℕ) → Type 0
 SearchIs f ask answer work o due =
-    CallIs (searchReasons f ask answer work) (searched (graphOf f) ask) (firstDue (graphOf f) ask) o due
+    CallIs (searchReasons f ask answer work) (searched (graphAsked f ask) ask) (firstDue (graphAsked f ask) ask) o due
 
 -- a search for which a reason holds is refused with the first, and writes nothing
 search-broken : (f : List ℕ) (ask : Ask) (answer work n : ℕ) → firstBroken (searchReasons f ask answer work) ≡ some n
     → SearchIs f ask answer work (refused n) none
 search-broken f ask answer work n e =
-    call-broken (searchReasons f ask answer work) (searched (graphOf f) ask) (firstDue (graphOf f) ask) n e
+    call-broken (searchReasons f ask answer work) (searched (graphAsked f ask) ask) (firstDue (graphAsked f ask) ask) n e
 
 -- a search for which none holds: what it answers, and the list due
 search-kept : (f : List ℕ) (ask : Ask) (answer work : ℕ) (s : Searched) (due : Option (List ℕ))
-    → firstBroken (searchReasons f ask answer work) ≡ none → searched (graphOf f) ask ≡ s
-    → firstDue (graphOf f) ask ≡ due → SearchIs f ask answer work (answered s) due
+    → firstBroken (searchReasons f ask answer work) ≡ none → searched (graphAsked f ask) ask ≡ s
+    → firstDue (graphAsked f ask) ask ≡ due → SearchIs f ask answer work (answered s) due
 search-kept f ask answer work s due e p q =
-    call-kept (searchReasons f ask answer work) (searched (graphOf f) ask) s (firstDue (graphOf f) ask) due e p q
+    call-kept (searchReasons f ask answer work) (searched (graphAsked f ask) ask) s (firstDue (graphAsked f ask) ask) due e p q
 
--- refused with a reason of 1 to 12
-pub search-refused : (f : List ℕ) (ask : Ask) (answer work n : ℕ) → firstBroken (commonRules f work) ≡ some n
+-- refused with a reason of 22 and 1 to 12
+pub search-refused : (f : List ℕ) (ask : Ask) (answer work n : ℕ) → firstBroken (namedRules f (ask .table) work) ≡ some n
     → SearchIs f ask answer work (refused n) none
 search-refused f ask answer work n e =
-    search-broken f ask answer work n (broken-append (commonRules f work) (ceilingReason (ask .ceiling .0) ∷ listReasons f (firstDue (graphOf f) ask) answer) n e)
+    search-broken f ask answer work n (broken-append (namedRules f (ask .table) work) (ceilingReason (ask .ceiling .0) ∷ listReasons (graphAsked f ask) (firstDue (graphAsked f ask) ask) answer) n e)
 
 -- refused with 21
-pub search-too-high : (f : List ℕ) (ask : Ask) (answer work : ℕ) → firstBroken (commonRules f work) ≡ none → 4096 < ask .ceiling .0
+pub search-too-high : (f : List ℕ) (ask : Ask) (answer work : ℕ) → firstBroken (namedRules f (ask .table) work) ≡ none → 4096 < ask .ceiling .0
     → SearchIs f ask answer work (refused 21) none
 search-too-high f ask answer work e high =
-    search-broken f ask answer work 21 (ceiling-high f work (ask .ceiling .0) (listReasons f (firstDue (graphOf f) ask) answer) e high)
+    search-broken f ask answer work 21 (ceiling-high (namedRules f (ask .table) work) (ask .ceiling .0) (listReasons (graphAsked f ask) (firstDue (graphAsked f ask) ask) answer) e high)
 
 -- the first of a list of lists decides between found and none
 firstOf-head : (rs : List (List ℕ)) (xs : List ℕ) (rounds : ℕ) → head? rs ≡ some xs
@@ -76,10 +76,10 @@ roll-first g l e = go (roll g) refl
     go (xs ∷ rs) q =
         (xs, refl, roll-length g l e xs (subst (λ (zs : List (List ℕ)). List·Memᴰ xs zs) (sym q) (List·Memᴰ·head refl)))
 
-module _ (f : List ℕ) (accepted : Accepted f) (ask : Ask) (answer work : ℕ) (room : 6 * states f ≤ work) (low : ask .ceiling .0 ≤ 4096) where
+module _ (f : List ℕ) (accepted : Accepted f) (ask : Ask) (answer work : ℕ) (room : 6 * states f ≤ work) (one : ask .table ≤ 1) (low : ask .ceiling .0 ≤ 4096) where
   -- the graph of the file, and its roll within the ceiling
   abbrev g : Graph
-  g = graphOf f
+  g = graphAsked f ask
 
   abbrev rs : List (List ℕ)
   rs = rollWithin g (ask .ceiling .0)
@@ -87,8 +87,9 @@ module _ (f : List ℕ) (accepted : Accepted f) (ask : Ask) (answer work : ℕ) 
   -- only reason 15 is left to decide
   search-reasons : firstBroken (searchReasons f ask answer work) ≡ someIf (noRoom (lengthDue (firstDue g ask)) answer) 15 none
   search-reasons =
-      ceiling-low f work (ask .ceiling .0) (listReasons f (firstDue g ask) answer) (common-clear f work accepted room) low
-      ∙ ap (λ (b : Bool). someIf b 14 (someIf (noRoom (lengthDue (firstDue g ask)) answer) 15 none)) (never-too-long f accepted)
+      ceiling-low (namedRules f (ask .table) work) (ask .ceiling .0) (listReasons g (firstDue g ask) answer)
+      (named-one f (ask .table) work one ∙ common-clear f work accepted room) low
+      ∙ ap (λ (b : Bool). someIf b 14 (someIf (noRoom (lengthDue (firstDue g ask)) answer) 15 none)) (never-too-long f (ask .table) accepted)
 
   -- the list due has room or not
   search-due : (due : Option (List ℕ)) (b : Bool) → firstDue g ask ≡ due → noRoom (lengthDue due) answer ≡ b
@@ -148,20 +149,23 @@ module _ (f : List ℕ) (accepted : Accepted f) (ask : Ask) (answer work : ℕ) 
 
 -- the first of the roll, which stands in region 0 behind the start, was written to the answer table: what a search that asks
 -- enough answers and writes
-pub first-written : (f : List ℕ) → Accepted f → (work : ℕ) → 6 * states f ≤ work → (a a' w : List ℕ) (s l k rounds : ℕ)
-    → s ≡ graphOf f .start → l ≤ length w → leastLength (graphOf f) ≡ some l
-    → head? (roll (graphOf f)) ≡ some (graphOf f .start ∷ take l w) → l < length a
-    → k ≡ loopStart (s ∷ take l w) → rounds ≡ length (candidates (graphOf f)) → a' ≡ (s ∷ take l w) ++ drop (l + 1) a
-    → WithEnough rounds l (λ ask. (answered (Searched.found l k rounds) ≡ searchOutcome f ask (length a) work) × (a' ≡ searchAnswer f ask a work))
-first-written f accepted work room a a' w s l k rounds at-start fits least first free at-k all out ask asks =
-    let g : Graph = graphOf f in
+pub first-written : (f : List ℕ) (t : ℕ) → Accepted f → t ≤ 1 → (work : ℕ) → 6 * states f ≤ work → (a a' w : List ℕ) (s l k rounds : ℕ)
+    → s ≡ initial f → l ≤ length w → leastLength (graphOf f t) ≡ some l
+    → head? (roll (graphOf f t)) ≡ some (initial f ∷ take l w) → l < length a
+    → k ≡ loopStart (s ∷ take l w) → rounds ≡ length (candidates (graphOf f t)) → a' ≡ (s ∷ take l w) ++ drop (l + 1) a
+    → WithEnough t rounds l (λ ask. (answered (Searched.found l k rounds) ≡ searchOutcome f ask (length a) work) × (a' ≡ searchAnswer f ask a work))
+first-written f t accepted one work room a a' w s l k rounds at-start fits least first free at-k all out ask asks =
+    let g : Graph = graphAsked f ask in
+    let g-is : graphOf f t ≡ g = ap (graphOf f) (sym (asks .named)) in
+    let rounds-are : rounds ≡ length (candidates g) = subst (λ (x : Graph). rounds ≡ length (candidates x)) g-is all in
     let xs : List ℕ = s ∷ take l w in
     let long : length (take l w) ≡ l = length-take-le l w fits in
     let at-l : l ≡ edges xs = omega arith in
     let first' : head? (rollWithin g (ask .ceiling .0)) ≡ some xs =
-    ap (λ (zs : List (List ℕ)). head? zs) (roll-within g l (ask .ceiling .0) least (asks .within))
-    ∙ subst (λ (x : ℕ). head? (roll g) ≡ some (x ∷ take l w)) (sym at-start) first in
-    let found = search-found f accepted ask (length a) work room (asks .not-high) (omega (arith, asks .allowed)) xs first' (omega arith) in
+    ap (λ (zs : List (List ℕ)). head? zs) (roll-within g l (ask .ceiling .0) (subst (λ (x : Graph). leastLength x ≡ some l) g-is least) (asks .within))
+    ∙ subst (λ (x : Graph). head? (roll x) ≡ some (initial f ∷ take l w)) g-is first
+    ∙ ap (λ (x : ℕ). some (x ∷ take l w)) (sym at-start) in
+    let found = search-found f accepted ask (length a) work room (omega (arith, asks .named)) (asks .not-high) (omega (arith, asks .allowed)) xs first' (omega arith) in
     let figures : answered (Searched.found l k rounds) ≡ answered (Searched.found (edges xs) (loopStart xs) (length (candidates g))) = cc in
     let entries : l + 1 ≡ length xs = omega arith in (
       figures ∙ sym (found .outcome-is),

@@ -1,5 +1,6 @@
 -- A search: the first of the shortest accepting paths, if the allowance suffices and they are within the ceiling.
 use Prim.Native.Nat.{ℕ, _≤_}
+use mathlib.Core.Path.{_≡_}
 use mathlib.Core.Bool.{Bool}
 use mathlib.Core.List.{List, [], _∷_, _++_, head?}
 use mathlib.Core.Option.{Option, none}
@@ -15,7 +16,7 @@ use Rattle.model.specs.Model.{graphOf}
 use Rattle.format.specs.Rules.{Reason, firstBroken}
 use Rattle.outcomes.specs.Outcome.{Outcome, refused, answered, outcome, LosesNothing}
 use Rattle.outcomes.specs.Tables.{listReasons, unlessRefused, written}
-use Rattle.gate.specs.Gate.{commonRules, ceilingReason}
+use Rattle.gate.specs.Gate.{namedRules, ceilingReason}
 use Rattle.search.specs.declared.SearchAnswer.{SearchAnswer}
 use Rattle.search.specs.declared.SearchAnswer.the-variants as SearchAnswers
 
@@ -56,30 +57,37 @@ searched g ask =
 abbrev pub firstDue : Graph → Ask → Option (List ℕ)
 firstDue g ask = pick (stopsb g (ask .allowance)) none (head? (rollWithin g (ask .ceiling .0)))
 
--- the reasons that a search applies: 21 behind 1 to 12, then 14 and 15; it skips 13
+-- the model that a search is about: the file's, with the marks of the table that it names
+abbrev pub graphAsked : List ℕ → Ask → Graph
+graphAsked f ask = graphOf f (ask .table)
+
+-- the reasons that a search applies: 22 before 1, 21 behind 12, then 14 and 15; it skips 13
 abbrev pub searchReasons : List ℕ → Ask → ℕ → ℕ → List Reason
 searchReasons f ask answer work =
-    commonRules f work ++ ceilingReason (ask .ceiling .0) ∷ listReasons f (firstDue (graphOf f) ask) answer
+    namedRules f (ask .table) work ++
+    ceilingReason (ask .ceiling .0) ∷ listReasons (graphAsked f ask) (firstDue (graphAsked f ask) ask) answer
 
 -- what a search answers
 abbrev pub searchOutcome : List ℕ → Ask → ℕ → ℕ → Outcome Searched
 searchOutcome f ask answer work =
-    outcome (firstBroken (searchReasons f ask answer work)) (searched (graphOf f) ask)
+    outcome (firstBroken (searchReasons f ask answer work)) (searched (graphAsked f ask) ask)
 
--- a search asks enough: it is allowed so many rounds, its ceiling is not below the length, and 21 does not refuse it
-pub record AsksEnough (rounds length : ℕ) (ask : Ask) : Type 0 where
+-- a search asks enough: it names that mark table, it is allowed so many rounds, its ceiling is not below the length, and 21
+-- does not refuse it
+pub record AsksEnough (t rounds length : ℕ) (ask : Ask) : Type 0 where
+  pub named : ask .table ≡ t
   pub allowed : rounds ≤ ask .allowance
   pub within : length ≤ ask .ceiling .0
   pub not-high : ask .ceiling .0 ≤ 4096
 
 -- something is so of every search that asks enough
-abbrev pub WithEnough : (rounds length : ℕ) → (Ask → Type 0) → Type 0
-WithEnough rounds length P = (ask : Ask) → AsksEnough rounds length ask → P ask
+abbrev pub WithEnough : (t rounds length : ℕ) → (Ask → Type 0) → Type 0
+WithEnough t rounds length P = (ask : Ask) → AsksEnough t rounds length ask → P ask
 
 -- the list that a search writes
 abbrev pub searchList : List ℕ → Ask → ℕ → ℕ → Option (List ℕ)
 searchList f ask answer work =
-    unlessRefused (firstBroken (searchReasons f ask answer work)) (firstDue (graphOf f) ask)
+    unlessRefused (firstBroken (searchReasons f ask answer work)) (firstDue (graphAsked f ask) ask)
 
 -- the answer table after a search
 abbrev pub searchAnswer : List ℕ → Ask → List ℕ → ℕ → List ℕ

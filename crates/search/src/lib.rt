@@ -1,5 +1,6 @@
-// A search: the first of the shortest accepting paths, if they are not longer than the ceiling. It applies the reasons 1
-// to 12, 21, 14 and 15 in order, and leaves the working table untouched after 1 to 12 and all zero otherwise.
+// A search: the first of the shortest accepting paths, if they are not longer than the ceiling, by the marks of the table
+// that it names. It applies the reasons 22, 1 to 12, 21, 14 and 15 in order, and leaves the working table untouched after 1
+// to 12 and all zero otherwise.
 ghost use mathlib.Core.Path.{_≡_};
 ghost use mathlib.Core.Option.{some};
 ghost use Prim.Native.Nat.{_*_, _≤_};
@@ -36,7 +37,7 @@ pub enum SearchAnswer {
 }
 
 // Writes the first of the shortest accepting paths, whose length is known. All rounds are done, so that the answer is
-// that of a search with any allowance that suffices and any ceiling that the length is not above.
+// that of a search of this mark table with any allowance that suffices and any ceiling that the length is not above.
 fn first_list(
     file: &[u8],
     h: Header,
@@ -48,10 +49,10 @@ fn first_list(
     requires { ⌜ RoundsReady (now file) h (now work) ⌝ }
     requires { ⌜ leastLength (graphIn (now file) h) ≡ some (length .0) ⌝ }
     requires { ⌜ rounds ≡ lib.ListN.length (candidates (graphIn (now file) h)) ⌝ }
-    ensures outcome { λ r. ⌜ WithEnough rounds (length .0) (λ ask. searchOutcomeOf r
+    ensures outcome { λ r. ⌜ WithEnough (h .table) rounds (length .0) (λ ask. searchOutcomeOf r
         ≡ searchOutcome (now (file .entry)) ask
         (lib.ListN.length (now (answer .entry))) (lib.ListN.length (now (work .entry)))) ⌝ }
-    ensures answer { λ _. ⌜ WithEnough rounds (length .0) (λ ask. now (answer .exit)
+    ensures answer { λ _. ⌜ WithEnough (h .table) rounds (length .0) (λ ask. now (answer .exit)
         ≡ searchAnswer (now (file .entry)) ask (now (answer .entry)) (lib.ListN.length (now (work .entry)))) ⌝ }
     ensures kept { λ _. ⌜ lib.ListN.length (now (work .exit)) ≡ lib.ListN.length (now (work .entry)) ⌝ }
 {
@@ -78,7 +79,7 @@ fn search_model(
     answer: &mut [u16],
     work: &mut [u16],
 ) -> SearchAnswer
-    requires { ⌜ Valid (now file) h ⌝ }
+    requires { ⌜ Valid (now file) h × (h .table ≡ ask .table) ⌝ }
     requires { ⌜ 6 * h .states ≤ length (now work) ⌝ }
     ensures outcome { λ r. ⌜ searchOutcomeOf r
         ≡ searchOutcome (now (file .entry)) ask (length (now (answer .entry))) (length (now (work .entry))) ⌝ }
@@ -103,9 +104,9 @@ pub fn search(file: &[u8], ask: Ask, answer: &mut [u16], work: &mut [u16]) -> Se
         ≡ searchOutcome (now (file .entry)) ask (length (now (answer .entry))) (length (now (work .entry))) ⌝ }
     ensures answer { λ r. ⌜ now (answer .exit)
         ≡ searchAnswer (now (file .entry)) ask (now (answer .entry)) (length (now (work .entry))) ⌝ }
-    ensures work { λ r. ⌜ now (work .exit) ≡ workOf (now (file .entry)) (now (work .entry)) ⌝ }
+    ensures work { λ r. ⌜ now (work .exit) ≡ workOf (now (file .entry)) (ask .table) (now (work .entry)) ⌝ }
 {
-    let checked = enter(file, work);
+    let checked = enter(file, ask.table, work);
     match checked {
         Checked::Refused(number) => SearchAnswer::Refused(number),
         Checked::Accept(h) => {

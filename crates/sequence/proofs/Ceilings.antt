@@ -16,14 +16,13 @@ use Rattle.lasso.specs.Ceiling.{RollAbove, CeilingSays}
 use Rattle.lasso.proofs.CeilingLaws.{whole-or-none, ceiling-shown}
 use Rattle.format.specs.Rules.{Accepted, firstBroken}
 use Rattle.format.proofs.Reasons.{append-clear}
-use Rattle.model.specs.Model.{graphOf}
 use Rattle.model.proofs.Laws.{accepted-well-formed}
 use Rattle.gate.specs.declared.Ask.{Ask}
-use Rattle.gate.specs.Gate.{commonRules, ceilingReason, workOf}
-use Rattle.gate.proofs.GateLaws.{clear-common}
+use Rattle.gate.specs.Gate.{namedRules, ceilingReason, workOf}
+use Rattle.gate.proofs.GateLaws.{clear-common, clear-named}
 use Rattle.outcomes.specs.Outcome.{answered, outcome}
 use Rattle.outcomes.specs.Tables.{listReasons, written, unlessRefused}
-use Rattle.search.specs.Search.{Searched, stopped, noneWithin, stopsb, firstOf, firstDue, searchReasons}
+use Rattle.search.specs.Search.{Searched, stopped, noneWithin, stopsb, firstOf, firstDue, graphAsked, searchReasons}
 use Rattle.sequence.specs.Calls.{search, ofSearch}
 use Rattle.sequence.specs.Book.{Page, page, afterSearch, unlessRefusedℕ}
 use Rattle.sequence.specs.Ceilings.{NoneOnPage, FoundOnPage, BookSearches, BookOfCeilings}
@@ -32,9 +31,9 @@ use Rattle.sequence.specs.Ceilings.{NoneOnPage, FoundOnPage, BookSearche
 none-found : {n L k rounds : ℕ} → ofSearch (answered (noneWithin n)) ≡ ofSearch (answered (Searched.found L k rounds)) → ⊥
 none-found e = let z : _≡_ {A = ℕ} 0 1 = cc in omega arith
 
-module _ (f : List ℕ) (h : ℕ) (ask : Ask) (a w : List ℕ) (clear : firstBroken (searchReasons f ask (length a) (length w)) ≡ none) (enough : length (candidates (graphOf f)) ≤ ask .allowance) where
+module _ (f : List ℕ) (h : ℕ) (ask : Ask) (a w : List ℕ) (clear : firstBroken (searchReasons f ask (length a) (length w)) ≡ none) (enough : length (candidates (graphAsked f ask)) ≤ ask .allowance) where
   abbrev g : Graph
-  g = graphOf f
+  g = graphAsked f ask
 
   abbrev n : ℕ
   n = length (candidates g)
@@ -44,7 +43,7 @@ module _ (f : List ℕ) (h : ℕ) (ask : Ask) (a w : List ℕ) (clear : firstBro
   pageOf first stops rs =
       let answer : Searched = pick stops (stopped (afterRounds g (ask .ceiling .0) (ask .allowance))) (firstOf rs n) in
       record {
-        result = record { answer = ofSearch (outcome first answer); table = written (unlessRefused first (pick stops none (head? rs))) a; work = workOf f w };
+        result = record { answer = ofSearch (outcome first answer); table = written (unlessRefused first (pick stops none (head? rs))) a; work = workOf f (ask .table) w };
         after = unlessRefusedℕ first h (afterSearch h answer);
       }
 
@@ -56,14 +55,14 @@ module _ (f : List ℕ) (h : ℕ) (ask : Ask) (a w : List ℕ) (clear : firstBro
       ∙ ap (pageOf none false) e
 
   -- there is none: so it is on the page
-  none-on-page : rollWithin g (ask .ceiling .0) ≡ [] → NoneOnPage f a h (page f h (search ask a w))
+  none-on-page : rollWithin g (ask .ceiling .0) ≡ [] → NoneOnPage g a h (page f h (search ask a w))
   none-on-page e =
-      subst (NoneOnPage f a h) (sym (page-is [] e)) (record { answer-is = refl; table-is = refl; h-same = refl })
+      subst (NoneOnPage g a h) (sym (page-is [] e)) (record { answer-is = refl; table-is = refl; h-same = refl })
 
   -- there is a first one: so it is on the page
-  found-on-page : (xs : List ℕ) (rest : List (List ℕ)) → rollWithin g (ask .ceiling .0) ≡ xs ∷ rest → FoundOnPage f a (page f h (search ask a w))
+  found-on-page : (xs : List ℕ) (rest : List (List ℕ)) → rollWithin g (ask .ceiling .0) ≡ xs ∷ rest → FoundOnPage g a (page f h (search ask a w))
   found-on-page xs rest e =
-      subst (FoundOnPage f a) (sym (page-is (xs ∷ rest) e))
+      subst (FoundOnPage g a) (sym (page-is (xs ∷ rest) e))
       (record { list = xs; first = first; answer-is = refl; table-is = refl; h-one = refl })
     where
       first : head? (roll g) ≡ some xs
@@ -75,11 +74,12 @@ module _ (f : List ℕ) (h : ℕ) (ask : Ask) (a w : List ℕ) (clear : firstBro
       ]
 
   -- it is not both
-  not-both : NoneOnPage f a h (page f h (search ask a w)) → FoundOnPage f a (page f h (search ask a w)) → ⊥
+  not-both : NoneOnPage g a h (page f h (search ask a w)) → FoundOnPage g a (page f h (search ask a w)) → ⊥
   not-both p q = none-found (sym (p .answer-is) ∙ q .answer-is)
 
   -- by the lists within the ceiling
-  searches : CeilingSays g (ask .ceiling .0) → (rs : List (List ℕ)) → rollWithin g (ask .ceiling .0) ≡ rs → BookSearches f h ask a w
+  searches : CeilingSays g (ask .ceiling .0) → (rs : List (List ℕ)) → rollWithin g (ask .ceiling .0) ≡ rs
+      → BookSearches g (ask .ceiling .0) a h (page f h (search ask a w))
   searches says [] e =
       let there : RollAbove g (ask .ceiling .0) = says .empty-by-roll .0 e in
       record {
@@ -96,6 +96,7 @@ module _ (f : List ℕ) (h : ℕ) (ask : Ask) (a w : List ℕ) (clear : firstBro
 -- the book's page for every search neither refused nor stopped
 pub book-of-ceilings : BookOfCeilings
 book-of-ceilings f h ask a w clear enough =
-    let common = append-clear (commonRules f (length w)) (ceilingReason (ask .ceiling .0) ∷ listReasons f (firstDue (graphOf f) ask) (length a)) clear in
-    let accepted : Accepted f = clear-common f (length w) common .0 in
-    searches f h ask a w clear enough (ceiling-shown (graphOf f) (accepted-well-formed f accepted) (ask .ceiling .0)) _ refl
+    let g : Graph = graphAsked f ask in
+    let named = append-clear (namedRules f (ask .table) (length w)) (ceilingReason (ask .ceiling .0) ∷ listReasons g (firstDue g ask) (length a)) clear in
+    let accepted : Accepted f = clear-common f (length w) (clear-named f (ask .table) (length w) named .1) .0 in
+    searches f h ask a w clear enough (ceiling-shown g (accepted-well-formed f (ask .table) accepted) (ask .ceiling .0)) _ refl

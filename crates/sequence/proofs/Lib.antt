@@ -1,8 +1,4 @@
--- Condition 3, what the book says under a ceiling, and the tables of examples.
+-- Condition 3, and what the book says under a ceiling.
 pub mod Places
 pub mod Sequence
 pub mod Ceilings
-pub mod Examples
-pub mod Steps
-pub mod Grades
-pub mod Distances

@@ -10,9 +10,9 @@ use Rattle.model.specs.Model.{graphOf}
 use Rattle.format.specs.Rules.{firstBroken}
 use Rattle.outcomes.specs.Outcome.{outcome}
 use Rattle.outcomes.specs.Tables.{written, unlessRefused}
-use Rattle.search.specs.Search.{Searched, stopped, noneWithin, searchReasons, searched, firstDue}
+use Rattle.search.specs.Search.{Searched, stopped, noneWithin, graphAsked, searchReasons, searched, firstDue}
 use Rattle.next.specs.Next.{dueReasons, followed}
-use Rattle.gate.specs.Gate.{commonRules, workOf}
+use Rattle.gate.specs.Gate.{namedRules, workOf}
 use Rattle.sequence.specs.Calls.{Call, search, next, ofSearch, ofNext, Result}
 
 -- what the book gives for a call: the result, and h afterwards
@@ -40,28 +40,28 @@ abbrev pub unlessRefusedℕ : Option ℕ → ℕ → ℕ → ℕ
 unlessRefusedℕ none h h' = h'
 unlessRefusedℕ (some n) h h' = h
 
--- the book's page for a call: refused with the first reason in checking order; or for a search "stopped", "none within the
--- ceiling" (when: `BookOfCeilings`) or "found" with the roll's first list; or for a next, which takes no ceiling, "no more"
--- if h is the number of lists in the roll, else "found" with the list at place h
+-- the book's page for a call, by the mark table that it names: refused with the first reason in checking order; or for a search
+-- "stopped", "none within the ceiling" (when: `BookOfCeilings`) or "found" with the roll's first list; or for a next, which
+-- takes no ceiling, "no more" if h is the number of lists in the roll, else "found" with the list at place h
 abbrev pub page : List ℕ → ℕ → Call → Page
 page f h (search ask a w) =
     let first : Option ℕ = firstBroken (searchReasons f ask (length a) (length w)) in
     record {
       result = record {
-        answer = ofSearch (outcome first (searched (graphOf f) ask));
-        table = written (unlessRefused first (firstDue (graphOf f) ask)) a;
-        work = workOf f w;
+        answer = ofSearch (outcome first (searched (graphAsked f ask) ask));
+        table = written (unlessRefused first (firstDue (graphAsked f ask) ask)) a;
+        work = workOf f (ask .table) w;
       };
-      after = unlessRefusedℕ first h (afterSearch h (searched (graphOf f) ask));
+      after = unlessRefusedℕ first h (afterSearch h (searched (graphAsked f ask) ask));
     }
-page f h (next earlier a w) =
-    let list : Option (List ℕ) = listAt (roll (graphOf f)) h in
-    let first : Option ℕ = firstBroken (commonRules f (length w) ++ dueReasons f earlier list (length a)) in
+page f h (next t earlier a w) =
+    let list : Option (List ℕ) = listAt (roll (graphOf f t)) h in
+    let first : Option ℕ = firstBroken (namedRules f t (length w) ++ dueReasons (graphOf f t) earlier list (length a)) in
     record {
       result = record {
         answer = ofNext (outcome first (followed list));
         table = written (unlessRefused first list) a;
-        work = workOf f w;
+        work = workOf f t w;
       };
       after = unlessRefusedℕ first h (afterNext h list);
     }

@@ -9,11 +9,16 @@ use Rattle.next.specs.Next.{Followed, noMore, nextOutcome, nextAnswer}
 use Rattle.gate.specs.declared.Ask.{Ask}
 use Rattle.gate.specs.Gate.{workOf}
 
--- a search or a next, with everything given or lent with it: what a search asks or the earlier list, the answer table and the
--- working table
+-- a search or a next, with everything given or lent with it: what a search asks, or the mark table that a next names and the
+-- earlier list; the answer table and the working table
 pub data Call : Type 0 where
   search : (ask : Ask) (answer work : List ℕ) → Call
-  next : (earlier answer work : List ℕ) → Call
+  next : (table : ℕ) (earlier answer work : List ℕ) → Call
+
+-- the mark table that a call names
+abbrev pub tableNamed : Call → ℕ
+tableNamed (search ask a w) = ask .table
+tableNamed (next t earlier a w) = t
 
 -- the answer of a search or of a next
 pub data Answer : Type 0 where
@@ -31,12 +36,12 @@ abbrev pub finderAt : List ℕ → Call → Result
 finderAt f (search ask a w) = record {
   answer = ofSearch (searchOutcome f ask (length a) (length w));
   table = searchAnswer f ask a (length w);
-  work = workOf f w;
+  work = workOf f (ask .table) w;
 }
-finderAt f (next earlier a w) = record {
-  answer = ofNext (nextOutcome f earlier (length a) (length w));
-  table = nextAnswer f earlier a (length w);
-  work = workOf f w;
+finderAt f (next t earlier a w) = record {
+  answer = ofNext (nextOutcome f t earlier (length a) (length w));
+  table = nextAnswer f t earlier a (length w);
+  work = workOf f t w;
 }
 
 -- the length of the list that an answer "found" brings

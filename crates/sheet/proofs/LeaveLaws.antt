@@ -9,7 +9,7 @@ use borrow.Author.Tests.{lt-ltb, le-ltb}
 use lib.ListN.{length}
 use Rattle.lasso.specs.Lists.{pick}
 use Rattle.format.specs.Rules.{firstBroken}
-use Rattle.gate.specs.Gate.{commonRules, workOf}
+use Rattle.gate.specs.Gate.{namedRules, workEntered, workOf}
 use Rattle.gate.proofs.GateLaws.{work-refused}
 use Rattle.search.proofs.SearchLaws.{search-refused}
 use Rattle.text.specs.Figure.{figure}
@@ -29,24 +29,24 @@ module _ (f : List ℕ) (t a w : List ℕ) where
   -- what the contract says: the text of the sheet and the tables after it, by the room
   abbrev pub LeavesSheet : ℕ → (t' a' w' : List ℕ) → Type 0
   LeavesSheet =
-      Leaves (smallText t) (sheetText f (length a) (length w)) t a (sheetAnswer f a (length w)) w (workOf f w)
+      Leaves (smallText t) (sheetText f (length a) (length w)) t a (sheetAnswer f a (length w)) w (workOf f 0 w)
 
   -- too little room: nothing changes
   pub leaves-short : length t < sheetRoom → LeavesSheet 0 t a w
   leaves-short less =
-      subst (λ (b : Bool). Leaves b (sheetText f (length a) (length w)) t a (sheetAnswer f a (length w)) w (workOf f w) 0 t a w)
+      subst (λ (b : Bool). Leaves b (sheetText f (length a) (length w)) t a (sheetAnswer f a (length w)) w (workOf f 0 w) 0 t a w)
       (sym (lt-ltb (length t) sheetRoom less)) (wrote-none t 0 (omega arith), (refl, refl))
 
   -- room enough: the text is written to the front
   pub leaves-sheet : {t' a' w' : List ℕ} {next : ℕ} → sheetRoom ≤ length t → Wrote t 0 (sheetText f (length a) (length w)) t' next
-      → a' ≡ sheetAnswer f a (length w) → w' ≡ workOf f w → LeavesSheet next t' a' w'
+      → a' ≡ sheetAnswer f a (length w) → w' ≡ workOf f 0 w → LeavesSheet next t' a' w'
   leaves-sheet {t'} {a'} {w'} {next} room wrote p q =
-      subst (λ (b : Bool). Leaves b (sheetText f (length a) (length w)) t a (sheetAnswer f a (length w)) w (workOf f w) next t' a' w')
+      subst (λ (b : Bool). Leaves b (sheetText f (length a) (length w)) t a (sheetAnswer f a (length w)) w (workOf f 0 w) next t' a' w')
       (sym (le-ltb (length t) sheetRoom room)) (wrote, (p, q))
 
   -- room enough, and the file is refused for a reason of 1 to 12: one line, and the tables are untouched
-  pub leaves-refused : {t' : List ℕ} {n next : ℕ} → sheetRoom ≤ length t → firstBroken (commonRules f (length w)) ≡ some n
-      → Wrote t 0 (figure refusedWord n) t' next → LeavesSheet next t' a w
-  leaves-refused {n = n} room broken wrote =
+  pub leaves-refused : {t' w₁ : List ℕ} {n next : ℕ} → sheetRoom ≤ length t → firstBroken (namedRules f 0 (length w)) ≡ some n
+      → w₁ ≡ workEntered 0 w → Wrote t 0 (figure refusedWord n) t' next → LeavesSheet next t' a w₁
+  leaves-refused {n = n} room broken entered wrote =
       let is = sheet-refused f (length a) (length w) (search-refused f sheetAsk (length a) (length w) n broken) in
-      leaves-sheet room (wrote-as (sym (is .text-is)) wrote) (sym (sheet-answer a is)) (work-refused f w n broken)
+      leaves-sheet room (wrote-as (sym (is .text-is)) wrote) (sym (sheet-answer a is)) (work-refused f 0 w n broken entered)

@@ -31,44 +31,44 @@ use Rattle.sheet_text.proofs.SheetLaws.{headOf, rollText-some}
 
 -- a file that is not refused breaks none of 1 to 11
 refusal-accepted : (f : List ℕ) (answer work : ℕ) → sheetRefusal f answer work ≡ none → Accepted f
-refusal-accepted f answer work e = append-clear (rules f) (drop 11 (searchReasons f sheetAsk answer work)) e
+refusal-accepted f answer work e = append-clear (rules f) (drop 12 (searchReasons f sheetAsk answer work)) e
 
--- the number of a refusal is at most 21
-refusal-number : (f : List ℕ) (answer work n : ℕ) → sheetRefusal f answer work ≡ some n → n ≤ 21
-refusal-number f answer work n e = broken-number (λ k. k ≤ 21) (searchReasons f sheetAsk answer work) (omega arith) n e
+-- the number of a refusal is at most 22
+refusal-number : (f : List ℕ) (answer work n : ℕ) → sheetRefusal f answer work ≡ some n → n ≤ 22
+refusal-number f answer work n e = broken-number (λ k. k ≤ 22) (searchReasons f sheetAsk answer work) (omega arith) n e
 
 module _ (f : List ℕ) (accepted : Accepted f) where
   -- the lines before the lists
   headOf-room : length (headOf f) ≤ 28
   headOf-room =
       let facts = accepted-facts f accepted in
-      head-room (states f) (edgeCount f) (length (candidates (graphOf f))) (omega (arith, facts .states-range)) (omega (arith, facts .edges-range))
-      (omega (arith, facts .states-range, candidates-length-le (graphOf f)))
+      head-room (states f) (edgeCount f) (length (candidates (graphOf f 0))) (omega (arith, facts .states-range)) (omega (arith, facts .edges-range))
+      (omega (arith, facts .states-range, candidates-length-le (graphOf f 0)))
 
   -- the lines of the lists and the closing line
-  listsText-room : (l : ℕ) → leastLength (graphOf f) ≡ some l → length (listsText (roll (graphOf f))) ≤ listsRoom
+  listsText-room : (l : ℕ) → leastLength (graphOf f 0) ≡ some l → length (listsText (roll (graphOf f 0))) ≤ listsRoom
   listsText-room l e =
-      let g : Graph = graphOf f in
+      let g : Graph = graphOf f 0 in
       let facts = accepted-facts f accepted in
-      let small = roll-room g (accepted-well-formed f accepted) l e (omega (arith, facts .states-range)) in
+      let small = roll-room g (accepted-well-formed f 0 accepted) l e (omega (arith, facts .states-range)) in
       let n : ℕ = length (roll g) in
       omega (arith, length-append (collect line (take mostLists (roll g))) (closing n), lines-room mostLists (roll g) small, closing-room (ltb mostLists n) (min n mostLists) (omega arith))
 
   -- the text of a file that is not refused
   text-room : length (textOf none f) ≤ sheetRoom
-  text-room = go (leastLength (graphOf f)) refl
+  text-room = go (leastLength (graphOf f 0)) refl
     where
-      go : (o : Option ℕ) → leastLength (graphOf f) ≡ o → length (textOf none f) ≤ sheetRoom
+      go : (o : Option ℕ) → leastLength (graphOf f 0) ≡ o → length (textOf none f) ≤ sheetRoom
       go none e =
-          let q : textOf none f ≡ headOf f ++ noneLine = ap (λ (rs : List (List ℕ)). headOf f ++ rollText rs) (roll-empty (graphOf f) .1 e) in
+          let q : textOf none f ≡ headOf f ++ noneLine = ap (λ (rs : List (List ℕ)). headOf f ++ rollText rs) (roll-empty (graphOf f 0) .1 e) in
           omega (arith, ap length q, length-append (headOf f) noneLine, headOf-room)
       go (some l) e =
           let facts = accepted-facts f accepted in
-          let (xs, first, long) = roll-first (graphOf f) l e in
-          let rest : List ℕ = figure shortestWord l ++ listsText (roll (graphOf f)) in
-          let q : textOf none f ≡ headOf f ++ rest = ap (λ (r : List ℕ). headOf f ++ r) (rollText-some (roll (graphOf f)) xs l first long) in
-          let range = leastLength-range (graphOf f) l e in
-          omega (arith, ap length q, length-append (headOf f) rest, length-append (figure shortestWord l) (listsText (roll (graphOf f))), headOf-room, listsText-room l e, figure-room shortestWord l (omega (arith, facts .states-range)))
+          let (xs, first, long) = roll-first (graphOf f 0) l e in
+          let rest : List ℕ = figure shortestWord l ++ listsText (roll (graphOf f 0)) in
+          let q : textOf none f ≡ headOf f ++ rest = ap (λ (r : List ℕ). headOf f ++ r) (rollText-some (roll (graphOf f 0)) xs l first long) in
+          let range = leastLength-range (graphOf f 0) l e in
+          omega (arith, ap length q, length-append (headOf f) rest, length-append (figure shortestWord l) (listsText (roll (graphOf f 0))), headOf-room, listsText-room l e, figure-room shortestWord l (omega (arith, facts .states-range)))
 
 -- no sheet is longer than the room asked
 pub sheetText-length : (f : List ℕ) (answer work : ℕ) → length (sheetText f answer work) ≤ sheetRoom

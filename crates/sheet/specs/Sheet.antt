@@ -22,4 +22,4 @@ sheetAnswered f a w t = pick (smallText t) a (sheetAnswer f a (length w))
 
 -- the working table w afterwards: untouched if the text is too small
 abbrev pub sheetWorked : (f w t : List ℕ) → List ℕ
-sheetWorked f w t = pick (smallText t) w (workOf f w)
+sheetWorked f w t = pick (smallText t) w (workOf f 0 w)

@@ -8,6 +8,9 @@ use model::Checked;
 use sheet_head::write_refusal;
 use sheet_text::sheet_model;
 
+// The mark table that a sheet is about.
+const SHEET_TABLE: u16 = 0;
+
 // The entries that a text must have: no sheet is longer.
 const SHEET_ROOM: usize = 410_000;
 
@@ -25,7 +28,7 @@ pub fn sheet(input: &[u8], answer: &mut [u16], work: &mut [u16], text: &mut [u8]
     if text.len() < SHEET_ROOM {
         return 0;
     }
-    let checked = enter(input, work);
+    let checked = enter(input, SHEET_TABLE, work);
     match checked {
         Checked::Refused(number) => write_refusal(text, number as usize),
         Checked::Accept(h) => {

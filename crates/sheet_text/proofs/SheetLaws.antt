@@ -31,7 +31,7 @@ use Rattle.sheet_head.proofs.HeadLaws.{head-room}
 -- the whole text of a sheet, and the list that it leaves in the answer table
 pub record SheetIs (f : List ℕ) (answer work : ℕ) (text : List ℕ) (due : Option (List ℕ)) : Type 0 where
   pub text-is : sheetText f answer work ≡ text
-  pub list-is : unlessRefused (sheetRefusal f answer work) (lastPrinted (roll (graphOf f))) ≡ due
+  pub list-is : unlessRefused (sheetRefusal f answer work) (lastPrinted (roll (graphOf f 0))) ≡ due
 
 -- the answer table holds that list
 pub sheet-answer : {f : List ℕ} {work : ℕ} {text : List ℕ} {due : Option (List ℕ)} (a : List ℕ) → SheetIs f (length a) work text due
@@ -52,20 +52,20 @@ outcome-answered (some m) s a e = let z : _≡_ {A = ℕ} 0 1 = cc in absurd (om
 pub sheet-refused : (f : List ℕ) (answer work : ℕ) {n : ℕ} {due : Option (List ℕ)} → SearchIs f sheetAsk answer work (refused n) due
     → SheetIs f answer work (figure refusedWord n) none
 sheet-refused f answer work {n} s =
-    let e : sheetRefusal f answer work ≡ some n = outcome-refused (sheetRefusal f answer work) (searched (graphOf f) sheetAsk) n (s .outcome-is) in
+    let e : sheetRefusal f answer work ≡ some n = outcome-refused (sheetRefusal f answer work) (searched (graphOf f 0) sheetAsk) n (s .outcome-is) in
     record {
       text-is = ap (λ (o : Option ℕ). textOf o f) e;
-      list-is = ap (λ (o : Option ℕ). unlessRefused o (lastPrinted (roll (graphOf f)))) e;
+      list-is = ap (λ (o : Option ℕ). unlessRefused o (lastPrinted (roll (graphOf f 0)))) e;
     }
 
 -- the sheet of a file that a search does not refuse
 sheet-kept : (f : List ℕ) (answer work : ℕ) {a : Searched} {due : Option (List ℕ)} → SearchIs f sheetAsk answer work (answered a) due
-    → SheetIs f answer work (textOf none f) (lastPrinted (roll (graphOf f)))
+    → SheetIs f answer work (textOf none f) (lastPrinted (roll (graphOf f 0)))
 sheet-kept f answer work {a} s =
-    let e : sheetRefusal f answer work ≡ none = outcome-answered (sheetRefusal f answer work) (searched (graphOf f) sheetAsk) a (s .outcome-is) in
+    let e : sheetRefusal f answer work ≡ none = outcome-answered (sheetRefusal f answer work) (searched (graphOf f 0) sheetAsk) a (s .outcome-is) in
     record {
       text-is = ap (λ (o : Option ℕ). textOf o f) e;
-      list-is = ap (λ (o : Option ℕ). unlessRefused o (lastPrinted (roll (graphOf f)))) e;
+      list-is = ap (λ (o : Option ℕ). unlessRefused o (lastPrinted (roll (graphOf f 0)))) e;
     }
 
 -- the text behind the rounds, if there is a first list
@@ -79,58 +79,62 @@ rollText-some (r ∷ rs) xs l e long =
 
 -- the lines before the lists
 abbrev pub headOf : List ℕ → List ℕ
-headOf f = head (states f) (edgeCount f) (length (candidates (graphOf f)))
+headOf f = head (states f) (edgeCount f) (length (candidates (graphOf f 0)))
 
 module _ (f : List ℕ) (accepted : Accepted f) (answer work : ℕ) (room : 6 * states f ≤ work) where
   -- the allowance suffices
-  pub enough-rounds : length (candidates (graphOf f)) ≤ sheetAsk .allowance
+  pub enough-rounds : length (candidates (graphOf f 0)) ≤ sheetAsk .allowance
   enough-rounds =
       let facts = accepted-facts f accepted in
-      omega (arith, candidates-length-le (graphOf f), facts .states-range)
+      omega (arith, candidates-length-le (graphOf f 0), facts .states-range)
+
+  -- the mark table is one of the two
+  named-one : sheetAsk .table ≤ 1
+  named-one = omega arith
 
   -- the ceiling is no higher than may be
   low-ceiling : sheetAsk .ceiling .0 ≤ 4096
   low-ceiling = omega arith
 
   -- and cuts nothing off the roll
-  pub whole-roll : rollWithin (graphOf f) (sheetAsk .ceiling .0) ≡ roll (graphOf f)
+  pub whole-roll : rollWithin (graphOf f 0) (sheetAsk .ceiling .0) ≡ roll (graphOf f 0)
   whole-roll =
       let facts = accepted-facts f accepted in
-      roll-full (graphOf f) (sheetAsk .ceiling .0) (omega (arith, facts .states-range))
+      roll-full (graphOf f 0) (sheetAsk .ceiling .0) (omega (arith, facts .states-range))
 
   -- there is no accepting path
-  pub sheet-none : leastLength (graphOf f) ≡ none → SheetIs f answer work (headOf f ++ noneLine) none
+  pub sheet-none : leastLength (graphOf f 0) ≡ none → SheetIs f answer work (headOf f ++ noneLine) none
   sheet-none e =
-      let no-list : roll (graphOf f) ≡ [] = roll-empty (graphOf f) .1 e in
-      let s = sheet-kept f answer work (search-none f accepted sheetAsk answer work room low-ceiling enough-rounds (whole-roll ∙ no-list)) in
+      let no-list : roll (graphOf f 0) ≡ [] = roll-empty (graphOf f 0) .1 e in
+      let s = sheet-kept f answer work (search-none f accepted sheetAsk answer work room named-one low-ceiling enough-rounds (whole-roll ∙ no-list)) in
       record {
         text-is = s .text-is ∙ ap (λ (rs : List (List ℕ)). headOf f ++ rollText rs) no-list;
         list-is = s .list-is ∙ ap (λ (rs : List (List ℕ)). lastPrinted rs) no-list;
       }
 
   -- there are lists, and they have room
-  pub sheet-lists : (l : ℕ) → leastLength (graphOf f) ≡ some l → l + 1 ≤ answer
-      → SheetIs f answer work (headOf f ++ figure shortestWord l ++ listsText (roll (graphOf f))) (lastPrinted (roll (graphOf f)))
+  pub sheet-lists : (l : ℕ) → leastLength (graphOf f 0) ≡ some l → l + 1 ≤ answer
+      → SheetIs f answer work (headOf f ++ figure shortestWord l ++ listsText (roll (graphOf f 0))) (lastPrinted (roll (graphOf f 0)))
   sheet-lists l e fits =
-      let (xs, first, long) = roll-first (graphOf f) l e in
-      let s = sheet-kept f answer work (search-found f accepted sheetAsk answer work room low-ceiling enough-rounds xs (ap (λ (rs : List (List ℕ)). head? rs) whole-roll ∙ first) (omega arith)) in
+      let (xs, first, long) = roll-first (graphOf f 0) l e in
+      let s = sheet-kept f answer work (search-found f accepted sheetAsk answer work room named-one low-ceiling enough-rounds xs (ap (λ (rs : List (List ℕ)). head? rs) whole-roll ∙ first) (omega arith)) in
       record {
         text-is =
             s .text-is
-            ∙ ap (λ (r : List ℕ). headOf f ++ r) (rollText-some (roll (graphOf f)) xs l first long)
-            ∙ sym (append-assoc (headOf f) (figure shortestWord l) (listsText (roll (graphOf f))));
+            ∙ ap (λ (r : List ℕ). headOf f ++ r) (rollText-some (roll (graphOf f 0)) xs l first long)
+            ∙ sym (append-assoc (headOf f) (figure shortestWord l) (listsText (roll (graphOf f 0))));
         list-is = s .list-is;
       }
 
   -- there are lists, and they have no room
-  pub sheet-no-room : (l : ℕ) → leastLength (graphOf f) ≡ some l → answer < l + 1 → SheetIs f answer work (figure refusedWord 15) none
+  pub sheet-no-room : (l : ℕ) → leastLength (graphOf f 0) ≡ some l → answer < l + 1 → SheetIs f answer work (figure refusedWord 15) none
   sheet-no-room l e less =
       let facts = accepted-facts f accepted in
-      let within : l ≤ sheetAsk .ceiling .0 = omega (arith, leastLength-range (graphOf f) l e, facts .states-range) in
-      sheet-refused f answer work (search-no-room f accepted sheetAsk answer work room low-ceiling enough-rounds l e within less)
+      let within : l ≤ sheetAsk .ceiling .0 = omega (arith, leastLength-range (graphOf f 0) l e, facts .states-range) in
+      sheet-refused f answer work (search-no-room f accepted sheetAsk answer work room named-one low-ceiling enough-rounds l e within less)
 
 -- the numbers of the header are the file's
-pub head-is : {f : List ℕ} {h : Header} {rounds : ℕ} → Valid f h → rounds ≡ length (candidates (graphOf f))
+pub head-is : {f : List ℕ} {h : Header} {rounds : ℕ} → Valid f h → rounds ≡ length (candidates (graphOf f 0))
     → head (h .states) (h .edges) rounds ≡ headOf f
 head-is {f} {h} {rounds} v e =
     let (n, m, s) = header-numbers f (v .header) in
@@ -139,8 +143,8 @@ head-is {f} {h} {rounds} v e =
     ∙ ap (λ (k : ℕ). head (states f) (edgeCount f) k) e
 
 -- the lines before the lists have room
-pub head-fits : {f : List ℕ} {h : Header} {rounds : ℕ} → Valid f h → rounds ≡ length (candidates (graphOf f))
+pub head-fits : {f : List ℕ} {h : Header} {rounds : ℕ} → Valid f h → rounds ≡ length (candidates (graphOf f 0))
     → length (head (h .states) (h .edges) rounds) ≤ 28
 head-fits {f} {h} {rounds} v e =
     let sizes = valid-sizes v in
-    head-room (h .states) (h .edges) rounds (omega arith) (omega arith) (omega (arith, e, candidates-length-le (graphOf f)))
+    head-room (h .states) (h .edges) rounds (omega arith) (omega arith) (omega (arith, e, candidates-length-le (graphOf f 0)))

@@ -24,15 +24,15 @@ rollText [] = noneLine
 rollText (xs ∷ rest) =
     figure shortestWord (edges xs) ++ listsText (xs ∷ rest)
 
--- the text for a file that is refused with a number, or is not refused
+-- the text for a file that is refused with a number, or is not refused, by the marks of table 0
 abbrev pub textOf : Option ℕ → List ℕ → List ℕ
-textOf none f = head (states f) (edgeCount f) (length (candidates (graphOf f))) ++ rollText (roll (graphOf f))
+textOf none f = head (states f) (edgeCount f) (length (candidates (graphOf f 0))) ++ rollText (roll (graphOf f 0))
 textOf (some n) f = figure refusedWord n
 
--- what the sheet's search asks: ceiling 4,096, which no shortest accepting path is above, and allowance 65,535; there are
+-- what the sheet's search asks: mark table 0, ceiling 4,096, which no shortest accepting path is above, and allowance 65,535; there are
 -- never more than 4,096 candidates
 abbrev pub sheetAsk : Ask
-sheetAsk = asking 4096 65535
+sheetAsk = asking 0 4096 65535
 
 -- the reason to refuse, if there is one; the tables have so many entries
 abbrev pub sheetRefusal : List ℕ → ℕ → ℕ → Option ℕ
@@ -45,7 +45,7 @@ sheetText f answer work = textOf (sheetRefusal f answer work) f
 -- the answer table after a sheet: the last list printed, if any
 abbrev pub sheetAnswer : List ℕ → List ℕ → ℕ → List ℕ
 sheetAnswer f a work =
-    written (unlessRefused (sheetRefusal f (length a) work) (lastPrinted (roll (graphOf f)))) a
+    written (unlessRefused (sheetRefusal f (length a) work) (lastPrinted (roll (graphOf f 0)))) a
 
 -- the room that is asked for a text: no sheet is longer
 abbrev pub sheetRoom : ℕ

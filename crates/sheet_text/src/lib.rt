@@ -1,4 +1,4 @@
-// The text of the desk sheet of an accepted file.
+// The text of the desk sheet of an accepted file, by the marks of table 0.
 ghost use mathlib.Core.Path.{_≡_};
 ghost use mathlib.Core.Option.{some};
 ghost use Prim.Native.Nat.{_*_, _≤_};
@@ -34,7 +34,7 @@ fn write_shortest(
     work: &mut [u16],
     text: &mut [u8],
 ) -> usize
-    requires { ⌜ RoundsReady (now file) h (now work) ⌝ }
+    requires { ⌜ RoundsReady (now file) h (now work) × (h .table ≡ 0) ⌝ }
     requires { ⌜ leastLength (graphIn (now file) h) ≡ some (length .0) ⌝ }
     requires { ⌜ rounds ≡ lib.ListN.length (candidates (graphIn (now file) h)) ⌝ }
     requires { ⌜ sheetRoom ≤ lib.ListN.length (now text) ⌝ }
@@ -64,7 +64,7 @@ pub fn sheet_model(
     work: &mut [u16],
     text: &mut [u8],
 ) -> usize
-    requires { ⌜ Valid (now file) h ⌝ }
+    requires { ⌜ Valid (now file) h × (h .table ≡ 0) ⌝ }
     requires { ⌜ 6 * h .states ≤ length (now work) ⌝ }
     requires { ⌜ sheetRoom ≤ length (now text) ⌝ }
     ensures text { λ r. ⌜ Wrote (now (text .entry)) 0

@@ -13,44 +13,44 @@ use Rattle.model.specs.Model.{graphOf}
 use Rattle.format.specs.Rules.{firstBroken}
 use Rattle.outcomes.specs.Outcome.{Outcome, refused, answered, outcome}
 use Rattle.outcomes.proofs.ReadBack.{readRecord, readRecord-recordOf, loses-nothing}
-use Rattle.gate.specs.Gate.{commonRules, ceilingReason}
+use Rattle.gate.specs.Gate.{namedRules, ceilingReason}
 use Rattle.format.proofs.Reasons.{broken-append}
 use Rattle.gate.proofs.GateLaws.{ceiling-high, ceiling-low}
 use Rattle.step.specs.declared.StepAnswer.{StepAnswer}
 use Rattle.step.specs.declared.StepAnswer.the-variants as StepAnswers
 use Rattle.step.specs.Step.{Stepped, finished, advanced, stepOutcomeOf, StepLosesNothing, stepped, stepReasons, stepOutcome}
 
-module _ (f : List ℕ) (ceiling : ℕ) (rec : Record) (work : ℕ) where
+module _ (f : List ℕ) (t ceiling : ℕ) (rec : Record) (work : ℕ) where
   -- refused with the first reason that holds
-  step-broken : (n : ℕ) → firstBroken (stepReasons f ceiling work) ≡ some n → refused n ≡ stepOutcome f ceiling rec work
-  step-broken n e = sym (ap (λ (o : Option ℕ). outcome o (stepped (graphOf f) ceiling rec)) e)
+  step-broken : (n : ℕ) → firstBroken (stepReasons f t ceiling work) ≡ some n → refused n ≡ stepOutcome f t ceiling rec work
+  step-broken n e = sym (ap (λ (o : Option ℕ). outcome o (stepped (graphOf f t) ceiling rec)) e)
 
-  -- refused with a reason of 1 to 12
-  pub step-refused : (n : ℕ) → firstBroken (commonRules f work) ≡ some n → refused n ≡ stepOutcome f ceiling rec work
-  step-refused n e = step-broken n (broken-append (commonRules f work) (ceilingReason ceiling ∷ []) n e)
+  -- refused with a reason of 22 and 1 to 12
+  pub step-refused : (n : ℕ) → firstBroken (namedRules f t work) ≡ some n → refused n ≡ stepOutcome f t ceiling rec work
+  step-refused n e = step-broken n (broken-append (namedRules f t work) (ceilingReason ceiling ∷ []) n e)
 
   -- refused with 21
-  pub step-too-high : firstBroken (commonRules f work) ≡ none → 4096 < ceiling → refused 21 ≡ stepOutcome f ceiling rec work
-  step-too-high e high = step-broken 21 (ceiling-high f work ceiling [] e high)
+  pub step-too-high : firstBroken (namedRules f t work) ≡ none → 4096 < ceiling → refused 21 ≡ stepOutcome f t ceiling rec work
+  step-too-high e high = step-broken 21 (ceiling-high (namedRules f t work) ceiling [] e high)
 
-  module _ (e : firstBroken (commonRules f work) ≡ none) (low : ceiling ≤ 4096) where
+  module _ (e : firstBroken (namedRules f t work) ≡ none) (low : ceiling ≤ 4096) where
     -- not refused: answered with what the step gives
-    step-answered : (s : Stepped) → stepped (graphOf f) ceiling rec ≡ s → answered s ≡ stepOutcome f ceiling rec work
+    step-answered : (s : Stepped) → stepped (graphOf f t) ceiling rec ≡ s → answered s ≡ stepOutcome f t ceiling rec work
     step-answered s q =
-        sym (ap (λ (o : Option ℕ). outcome o (stepped (graphOf f) ceiling rec)) (ceiling-low f work ceiling [] e low) ∙ ap (λ (x : Stepped). answered x) q)
+        sym (ap (λ (o : Option ℕ). outcome o (stepped (graphOf f t) ceiling rec)) (ceiling-low (namedRules f t work) ceiling [] e low) ∙ ap (λ (x : Stepped). answered x) q)
 
     -- no candidate is left: finished, with the same record
-    pub step-finished : length (candidates (graphOf f)) ≤ rec .done → answered (finished rec) ≡ stepOutcome f ceiling rec work
+    pub step-finished : length (candidates (graphOf f t)) ≤ rec .done → answered (finished rec) ≡ stepOutcome f t ceiling rec work
     step-finished le =
-        let g : Graph = graphOf f in
+        let g : Graph = graphOf f t in
         step-answered (finished rec)
         (ap (λ (b : Bool). pick b (finished rec) (advanced (afterRound g ceiling rec))) (le-leb (length (candidates g)) (rec .done) le))
 
     -- a candidate is left: the record after its round
-    pub step-advanced : rec .done < length (candidates (graphOf f)) → (after : Record) → after ≡ afterRound (graphOf f) ceiling rec
-        → answered (advanced after) ≡ stepOutcome f ceiling rec work
+    pub step-advanced : rec .done < length (candidates (graphOf f t)) → (after : Record) → after ≡ afterRound (graphOf f t) ceiling rec
+        → answered (advanced after) ≡ stepOutcome f t ceiling rec work
     step-advanced less after q =
-        let g : Graph = graphOf f in
+        let g : Graph = graphOf f t in
         step-answered (advanced after)
         (ap (λ (b : Bool). pick b (finished rec) (advanced (afterRound g ceiling rec))) (lt-leb (length (candidates g)) (rec .done) less)
         ∙ ap (λ (r : Record). advanced r) (sym q))

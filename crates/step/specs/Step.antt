@@ -1,4 +1,4 @@
--- One step: the record after one more round under a ceiling.
+-- One step: the record after one more round under a ceiling, by the marks of the table that it names.
 use Prim.Native.Nat.{ℕ}
 use mathlib.Core.List.{List, [], _∷_, _++_}
 use Rattle.lasso.specs.Lists.{pick}
@@ -8,7 +8,7 @@ use Rattle.lasso.specs.Values.{recordOf}
 use Rattle.model.specs.Model.{graphOf}
 use Rattle.format.specs.Rules.{Reason, firstBroken}
 use Rattle.outcomes.specs.Outcome.{Outcome, refused, answered, outcome, LosesNothing}
-use Rattle.gate.specs.Gate.{commonRules, ceilingReason}
+use Rattle.gate.specs.Gate.{namedRules, ceilingReason}
 use Rattle.step.specs.declared.StepAnswer.{StepAnswer}
 use Rattle.step.specs.declared.StepAnswer.the-variants as StepAnswers
 
@@ -32,10 +32,10 @@ StepLosesNothing = LosesNothing stepOutcomeOf
 abbrev pub stepped : Graph → (ceiling : ℕ) → Record → Stepped
 stepped g ceiling rec = pick (finishedb g rec) (finished rec) (advanced (afterRound g ceiling rec))
 
--- the reasons that a step applies: 21 behind 1 to 12, and no further
-abbrev pub stepReasons : List ℕ → (ceiling work : ℕ) → List Reason
-stepReasons f ceiling work = commonRules f work ++ ceilingReason ceiling ∷ []
+-- the reasons that a step applies: 22 before 1, 21 behind 12, and no further
+abbrev pub stepReasons : List ℕ → (t ceiling work : ℕ) → List Reason
+stepReasons f t ceiling work = namedRules f t work ++ ceilingReason ceiling ∷ []
 
--- what a step answers
-abbrev pub stepOutcome : List ℕ → (ceiling : ℕ) → Record → (work : ℕ) → Outcome Stepped
-stepOutcome f ceiling rec work = outcome (firstBroken (stepReasons f ceiling work)) (stepped (graphOf f) ceiling rec)
+-- what a step answers that names mark table t
+abbrev pub stepOutcome : List ℕ → (t ceiling : ℕ) → Record → (work : ℕ) → Outcome Stepped
+stepOutcome f t ceiling rec work = outcome (firstBroken (stepReasons f t ceiling work)) (stepped (graphOf f t) ceiling rec)

@@ -1,5 +1,5 @@
-// One step: the record after one more round under a ceiling. It applies the reasons 1 to 12 and 21 in order, and leaves
-// the working table untouched after 1 to 12 and all zero otherwise.
+// One step: the record after one more round under a ceiling, by the marks of the table that it names. It applies the
+// reasons 22, 1 to 12 and 21 in order, and leaves the working table untouched after 1 to 12 and all zero otherwise.
 ghost use mathlib.Core.Path.{_≡_};
 ghost use Prim.Native.Nat.{_*_, _≤_};
 ghost use lib.ListN.{length};
@@ -36,7 +36,7 @@ fn step_model(
     requires { ⌜ Valid (now file) h ⌝ }
     requires { ⌜ 6 * h .states ≤ length (now work) ⌝ }
     ensures outcome { λ r. ⌜ stepOutcomeOf r
-        ≡ stepOutcome (now (file .entry)) (ceiling .0) (recordOf «so_far») (length (now (work .entry))) ⌝ }
+        ≡ stepOutcome (now (file .entry)) (h .table) (ceiling .0) (recordOf «so_far») (length (now (work .entry))) ⌝ }
     ensures kept { λ _. ⌜ length (now (work .exit)) ≡ length (now (work .entry)) ⌝ }
 {
     if ceiling_too_high(ceiling) {
@@ -53,12 +53,18 @@ fn step_model(
 }
 
 // The record after one more round under a ceiling, for any record at all.
-pub fn step(file: &[u8], ceiling: Transitions, so_far: RoundRecord, work: &mut [u16]) -> StepAnswer
+pub fn step(
+    file: &[u8],
+    mark_table: u16,
+    ceiling: Transitions,
+    so_far: RoundRecord,
+    work: &mut [u16],
+) -> StepAnswer
     ensures outcome { λ r. ⌜ stepOutcomeOf r
-        ≡ stepOutcome (now (file .entry)) (ceiling .0) (recordOf «so_far») (length (now (work .entry))) ⌝ }
-    ensures work { λ r. ⌜ now (work .exit) ≡ workOf (now (file .entry)) (now (work .entry)) ⌝ }
+        ≡ stepOutcome (now (file .entry)) «mark_table» (ceiling .0) (recordOf «so_far») (length (now (work .entry))) ⌝ }
+    ensures work { λ r. ⌜ now (work .exit) ≡ workOf (now (file .entry)) «mark_table» (now (work .entry)) ⌝ }
 {
-    let checked = enter(file, work);
+    let checked = enter(file, mark_table, work);
     match checked {
         Checked::Refused(number) => StepAnswer::Refused(number),
         Checked::Accept(h) => {

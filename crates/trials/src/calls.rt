@@ -15,9 +15,15 @@ use lasso::RoundRecord;
 use lasso::Transitions;
 
 // A step with the whole of a working table.
-fn step_on(file: &[u8], ceiling: Transitions, so_far: RoundRecord, work: &mut [u16]) -> u64 {
+fn step_on(
+    file: &[u8],
+    mark_table: u16,
+    ceiling: Transitions,
+    so_far: RoundRecord,
+    work: &mut [u16],
+) -> u64 {
     fill(work, VARIED);
-    let code = of_step(step::step(file, ceiling, so_far, work));
+    let code = of_step(step::step(file, mark_table, ceiling, so_far, work));
     seen_work(code, work)
 }
 
@@ -30,10 +36,16 @@ fn search_on(file: &[u8], ask: Ask, table: &mut [u16], work: &mut [u16]) -> u64 
 }
 
 // Next with an earlier list and the whole of two tables.
-fn next_on(file: &[u8], earlier: &[u16], table: &mut [u16], work: &mut [u16]) -> u64 {
+fn next_on(
+    file: &[u8],
+    mark_table: u16,
+    earlier: &[u16],
+    table: &mut [u16],
+    work: &mut [u16],
+) -> u64 {
     fill(table, VARIED);
     fill(work, VARIED);
-    let code = of_next(next::next(file, earlier, table, work));
+    let code = of_next(next::next(file, mark_table, earlier, table, work));
     seen(code, table, work)
 }
 
@@ -46,20 +58,35 @@ fn distances_on(file: &[u8], ceiling: Transitions, output: &mut [u16], work: &mu
     seen(code, output, work)
 }
 
-// A step under a ceiling from a record, lent so many entries of a working table.
-pub fn step(file: &[u8], ceiling: u16, done: u16, best: u64, work: &mut [u16], room: usize) -> u64
+// A step by the marks of a table, under a ceiling and from a record, lent so many entries of a working table.
+pub fn step(
+    file: &[u8],
+    mark_table: u16,
+    ceiling: u16,
+    done: u16,
+    best: u64,
+    work: &mut [u16],
+    room: usize,
+) -> u64
     requires { ⌜ room ≤ length (now work) ⌝ }
 {
     let so_far = RoundRecord {
         done: done,
         best: best_of(best),
     };
-    step_on(file, Transitions(ceiling), so_far, &mut work[..room])
+    step_on(
+        file,
+        mark_table,
+        Transitions(ceiling),
+        so_far,
+        &mut work[..room],
+    )
 }
 
-// A search under a ceiling, lent so many entries of an answer table and of a working table.
+// A search by the marks of a table and under a ceiling, lent so many entries of an answer table and of a working table.
 pub fn search(
     file: &[u8],
+    mark_table: u16,
     ceiling: u16,
     allowance: u16,
     table: &mut [u16],
@@ -71,15 +98,17 @@ pub fn search(
     requires { ⌜ room ≤ length (now work) ⌝ }
 {
     let ask = Ask {
+        table: mark_table,
         ceiling: Transitions(ceiling),
         allowance: allowance,
     };
     search_on(file, ask, &mut table[..space], &mut work[..room])
 }
 
-// Next with an earlier list, lent so many entries of an answer table and of a working table.
+// Next by the marks of a table, with an earlier list, lent so many entries of an answer table and of a working table.
 pub fn next(
     file: &[u8],
+    mark_table: u16,
     earlier: &[u16],
     table: &mut [u16],
     space: usize,
@@ -89,7 +118,13 @@ pub fn next(
     requires { ⌜ space ≤ length (now table) ⌝ }
     requires { ⌜ room ≤ length (now work) ⌝ }
 {
-    next_on(file, earlier, &mut table[..space], &mut work[..room])
+    next_on(
+        file,
+        mark_table,
+        earlier,
+        &mut table[..space],
+        &mut work[..room],
+    )
 }
 
 // The distances up to a ceiling, lent so many entries of an output and of a working table.

@@ -1,8 +1,8 @@
 // The look at the tables after a call, which were filled with varied numbers before it.
 ghost use Prim.Native.Nat.{_≤_};
 use harness::VARIED;
-use harness::ZEROS;
 use harness::holds;
+use harness::left_after;
 use harness::refusal_of;
 use harness::with_wrong;
 use harness::written;
@@ -22,14 +22,6 @@ pub fn wrong_answer(table: &[u16], written: usize) -> u64
     ensures { λ r. ⌜ r ≤ 1 ⌝ }
 {
     unlike(table, written, VARIED)
-}
-
-// What the working table must hold: it is untouched after a refusal by 1 to 12, and zero after every other answer.
-fn left_after(refusal: usize) -> usize {
-    match refusal {
-        1..=12 => VARIED,
-        _ => ZEROS,
-    }
 }
 
 // 0 if the working table holds what it must after a refusal with a number, or 0 for another answer; else 1.

@@ -1,16 +1,16 @@
--- The model file that holds a graph is accepted, and its graph is the one given.
+-- The model file that holds a graph is accepted, and its graph by mark table 0 is the one given.
 use Prim.Native.Nat.{ℕ, _+_, _≤_, _<_}
 use mathlib.Core.Path.{_≡_, refl, sym, ap, subst, _∙_}
-use mathlib.Core.Bool.{Bool, false, not}
+use mathlib.Core.Bool.{Bool, false, _&&_, not}
 use mathlib.Core.Logic.{inl, inr}
 use mathlib.Core.List.{List, [], _∷_, List·Memᴰ}
 use native.Mathlib.Omega.{arith}
 use lib.ListN.{length, getD}
-use lib.Dec.{T, eqb, eqb-refl, not-T}
+use lib.Dec.{T, eqb, ltb, eqb-refl, not-T}
 use borrow.Author.Tests.{le-ltb}
 use Rattle.lasso.specs.Lists.{memb, below}
 use Rattle.lasso.specs.Graph.{Graph, WellFormed, ascendingb}
-use Rattle.lasso.proofs.Tests.{or-l, mem-memb, lt-or-ge, T-false}
+use Rattle.lasso.proofs.Tests.{and-false, or-l, mem-memb, lt-or-ge, T-false}
 use Rattle.lasso.proofs.OrderLaws.{mem-collect, getD-mem}
 use Rattle.format.specs.Layout.{states, edgeCount, rowEntry}
 use Rattle.model.specs.Model.{graphIn, graphOf}
@@ -22,7 +22,7 @@ use Rattle.writer.specs.File.{edgesBelow, edgeTotal, fileOf}
 use Rattle.writer.specs.Holds.{Writable, FilesHold}
 use Rattle.writer.proofs.FileLaws.{edges-below-le, file-length-is}
 use Rattle.writer.proofs.ReadLaws.{file-states, file-edges, file-initial, file-reserved, file-rows-at, file-edges-at, file-marks-at, file-total, file-row-entry, file-target, file-row-targets, file-mark-bit}
-use Rattle.writer.proofs.RuleLaws.{LaidOut, facts-accepted}
+use Rattle.writer.proofs.RuleLaws.{LaidOut, second-clear, facts-accepted}
 
 -- a list in which nothing is found is empty
 none-found : (xs : List ℕ) → ((t : ℕ) → T (memb t xs) → ⊥) → xs ≡ []
@@ -77,27 +77,27 @@ module _ (g : Graph) (w : Writable g) where
       }
 
   -- the successors that are read are those of the graph
-  same-succs : (s : ℕ) → graphOf (fileOf g) .succs s ≡ g .succs s
+  same-succs : (s : ℕ) → graphOf (fileOf g) 0 .succs s ≡ g .succs s
   same-succs s =
       let f : List ℕ = fileOf g in
       elim (lt-or-ge s (g .size)) [
-        | inl l ↦ succs-row f (headerOf f) s (omega (arith, file-states g)) ∙ implied-not s _ ∙ file-row-targets g s l
-        | inr m ↦ succs-none f (headerOf f) s (omega (arith, file-states g))
+        | inl l ↦ succs-row f (headerOf f 0) s (omega (arith, file-states g)) ∙ implied-not s _ ∙ file-row-targets g s l
+        | inr m ↦ succs-none f (headerOf f 0) s (omega (arith, file-states g))
             ∙ sym (none-found (g .succs s) (λ t h. omega (arith, w .well-formed .edge-states s t h)))
       ]
 
   -- the marks that are read are those of the graph
-  same-marks : (s : ℕ) → graphOf (fileOf g) .marked s ≡ g .marked s
+  same-marks : (s : ℕ) → graphOf (fileOf g) 0 .marked s ≡ g .marked s
   same-marks s =
       let f : List ℕ = fileOf g in
       elim (lt-or-ge s (g .size)) [
-        | inl l ↦ marked-bit f (headerOf f) s (omega (arith, file-states g)) ∙ file-mark-bit g s (omega arith)
-        | inr m ↦ marked-none f (headerOf f) s (omega (arith, file-states g))
+        | inl l ↦ marked-bit f (headerOf f 0) s (omega (arith, file-states g)) ∙ file-mark-bit g s (omega arith)
+        | inr m ↦ marked-none f (headerOf f 0) s (omega (arith, file-states g))
             ∙ sym (T-false (g .marked s) (not-T (g .marked s) (λ t. omega (arith, w .marks-states s t))))
       ]
 
   -- the file's graph is the one given
-  pub file-graph : graphOf (fileOf g) ≡ g
+  pub file-graph : graphOf (fileOf g) 0 ≡ g
   file-graph = λ i. record {
     size = file-states g i;
     start = file-initial g i;
@@ -112,4 +112,6 @@ files-hold g w =
       file-length = file-length-is g;
       accepted = facts-accepted (fileOf g) (file-facts g w) (file-laid-out g);
       same-graph = file-graph g w;
+      no-second-marks = λ s.
+          ap (λ (b : Bool). ltb s (states (fileOf g)) && b) (second-clear (fileOf g) (file-facts g w) (file-laid-out g) s) ∙ and-false (ltb s (states (fileOf g)));
     }

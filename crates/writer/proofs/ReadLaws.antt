@@ -11,7 +11,7 @@ use Rattle.lasso.specs.Lists.{upFrom, below}
 use Rattle.lasso.specs.Graph.{Graph}
 use Rattle.lasso.proofs.BelowLaws.{map-below-at}
 use Rattle.format.specs.Bytes.{word, long, bitb}
-use Rattle.format.specs.Layout.{states, edgeCount, initial, reserved, rowsAt, edgesAt, marksAt, markBytes, totalOf, rowEntry, target, rowTargets, markBit}
+use Rattle.format.specs.Layout.{states, edgeCount, initial, reserved, rowsAt, edgesAt, marksAt, markBytes, totalOf, tableAt, rowEntry, target, rowTargets, markBit}
 use Rattle.writer.specs.File.{words16, edgesBelow, edgeTotal, headerWords, rowWords, markByte, fileOf}
 use Rattle.writer.proofs.FileLaws.{bytes-number, words16-length, words16-append, word-words16, edges-next, edges-below-le, row-words-length, worth-bit}
 
@@ -162,12 +162,12 @@ module _ (g : Graph) where
       file-target (a + i) (omega (arith, edges-below-le g (s + 1) (g .size) (omega arith)))
       ∙ edge-at g s (g .size) i l m)
 
-  -- bit s of the marks is the mark of s
-  pub file-mark-bit : (s : ℕ) → s < 8 * markBytes (g .size) → markBit (fileOf g) s ≡ g .marked s
+  -- bit s of mark table 0 is the mark of s
+  pub file-mark-bit : (s : ℕ) → s < 8 * markBytes (g .size) → markBit (fileOf g) 0 s ≡ g .marked s
   file-mark-bit s l =
       let f : List ℕ = fileOf g in
       let at : ℕ = marksAt (g .size) (edgeTotal g) + s / 8 in
-      let place : marksAt (states f) (edgeCount f) + s / 8 ≡ at = omega (arith, file-states, file-edges) in
+      let place : tableAt (states f) (edgeCount f) 0 + s / 8 ≡ at = omega (arith, file-states, file-edges) in
       let byte : getD f at 0 ≡ markByte g (s / 8) =
       last-byte header (rowWords g) (edgesBelow g (g .size)) marks at (s / 8) (omega (arith, row-words-length g))
       ∙ map-below-at (markByte g) (markBytes (g .size)) (s / 8) (omega arith) in

@@ -9,11 +9,12 @@ use native.Mathlib.Nat.{not-le-of-lt}
 use lib.ListN.{length, drop}
 use lib.Dec.{T, eqb, ltb, eqb→eq, ltb→lt, lt→ltb, not-T, T-not}
 use Rattle.lasso.specs.Lists.{anyb, upFrom, below, someIf}
-use Rattle.lasso.proofs.Tests.{anyb-some, upFrom-range, eq→eqb, T-false}
+use Rattle.lasso.proofs.Tests.{anyb-some, or-l, upFrom-range, eq→eqb, T-false}
 use Rattle.lasso.specs.Graph.{ascendingb}
 use Rattle.format.specs.Bytes.{long}
 use Rattle.format.specs.Layout.{states, edgeCount, initial, reserved, rowsAt, edgesAt, marksAt, markBytes, totalOf, rowEntry, target, rowTargets, markBit}
-use Rattle.format.specs.Rules.{Reason, firstBroken, shortFile, badStates, badEdges, badInitial, badReserved, badOffsets, badLength, badRows, badTargets, badOrder, badSpare, rules, Accepted}
+use Rattle.format.specs.Rules.{Reason, firstBroken, shortFile, badStates, badEdges, badInitial, badReserved, totalFits, badOffsets, badLength, badRows, badTargets, badOrder, spareSet, badSpare, rules, Accepted}
+use Rattle.format.proofs.Marks.{one-table-no-marks}
 use Rattle.format.proofs.Reasons.{Clear}
 use Rattle.model.proofs.Laws.{Facts}
 
@@ -57,7 +58,7 @@ none-in-range p a n h =
 pub none-below-passes : (p : ℕ → Bool) (n : ℕ) → ((i : ℕ) → i < n → T (not (p i))) → T (not (anyb p (below n)))
 none-below-passes p n h = none-in-range p 0 n (λ i a l. h i (omega arith))
 
--- what the rules ask of a file's header and length
+-- what the rules ask of the header and the length of a file with one mark table
 pub record LaidOut (f : List ℕ) : Type 0 where
   pub reserved-zero : reserved f ≡ 0
   pub rows-at : long f 8 ≡ rowsAt
@@ -90,15 +91,17 @@ module _ (f : List ℕ) (F : Facts f) (L : LaidOut f) where
   keeps-reserved : T (not (badReserved f))
   keeps-reserved = le-fails 1 (reserved f) (omega (arith, L .reserved-zero))
 
-  -- rule 6 is kept: the offsets and the total length are those that N and M give
-  keeps-offsets : T (not (badOffsets (totalOf (states f) (edgeCount f)) f))
+  -- rule 6 is kept: the offsets and the total length are those that N and M give with one mark table
+  keeps-offsets : T (not (badOffsets (totalOf (states f) (edgeCount f)) 2 f))
   keeps-offsets =
       let n : ℕ = states f in
       let m : ℕ = edgeCount f in
       let a : T (not (not (eqb (long f 8) rowsAt))) = same-passes (long f 8) rowsAt (L .rows-at) in
       let b : T (not (not (eqb (long f 12) (edgesAt n)))) = same-passes (long f 12) (edgesAt n) (L .edges-at) in
       let c : T (not (not (eqb (long f 16) (marksAt n m)))) = same-passes (long f 16) (marksAt n m) (L .marks-at) in
-      let d : T (not (not (eqb (long f 20) (totalOf n m)))) = same-passes (long f 20) (totalOf n m) (L .total-is) in
+      let with : ℕ → Bool = λ t. eqb (long f 20) (totalOf n m + t * markBytes n) in
+      let one : T (with 0) = eq→eqb (long f 20) (totalOf n m + 0 * markBytes n) (omega (arith, L .total-is)) in
+      let d : T (not (not (totalFits (totalOf n m) 2 f))) = passes (totalFits (totalOf n m) 2 f) (or-l (with 0) (with 1 || false) one) in
       search neither
 
   -- rule 7 is kept: the file has its total length
@@ -127,10 +130,17 @@ module _ (f : List ℕ) (F : Facts f) (L : LaidOut f) where
       none-below-passes (λ (s : ℕ). not (ascendingb (rowTargets f s))) (states f)
       (λ s l. passes (ascendingb (rowTargets f s)) (F .targets-ascend s l))
 
+  -- no bit of mark table 1 is set, which would lie past the end
+  pub second-clear : (s : ℕ) → markBit f 1 s ≡ false
+  second-clear s = one-table-no-marks f (L .length-is) s
+
   -- rule 11 is kept: no spare bit is set
-  keeps-spare : T (not (badSpare f))
-  keeps-spare =
-      none-in-range (markBit f) (states f) (8 * markBytes (states f) - states f) (λ s l m. F .spare-clear s l (omega arith))
+  keeps-spare : T (not (badSpare 2 f))
+  keeps-spare = (neither (spareSet f 0) (spareSet f 1 || false) (clear-table 0 (F .spare-clear))
+      (neither (spareSet f 1) false (clear-table 1 (λ s l m. rw (second-clear s) tt)) tt))
+    where
+      clear-table : (t : ℕ) → ((s : ℕ) → states f ≤ s → s < 8 * markBytes (states f) → T (not (markBit f t s))) → T (not (spareSet f t))
+      clear-table t h = none-in-range (markBit f t) (states f) (8 * markBytes (states f) - states f) (λ s l m. h s l (omega arith))
 
   -- rules 6 to 11 are kept
   tables-clear : Clear (drop 5 (rules f))

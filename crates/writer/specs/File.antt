@@ -1,4 +1,4 @@
--- The model file that holds a graph, as bytes.
+-- The model file that holds a graph, as bytes: it has one mark table.
 use Prim.Native.Nat.{ℕ, zero, suc, _+_, _*_, _/_, _%_, _^_}
 use mathlib.Core.Bool.{Bool}
 use mathlib.Core.List.{List, [], _∷_, _++_, map}
@@ -46,7 +46,7 @@ worth set (suc k) = worth set k + pick (set k) (2 ^ k) 0
 abbrev pub markByte : Graph → ℕ → ℕ
 markByte g b = worth (λ j. g .marked (8 * b + j)) 8
 
--- the model file: the header, the row table, the edge table, the marks
+-- the model file: the header, the row table, the edge table, one mark table
 abbrev pub fileOf : Graph → List ℕ
 fileOf g =
     words16 (headerWords (g .size) (edgeTotal g) (g .start)) ++

@@ -1,5 +1,4 @@
 // Writers of the bytes of a model file: each puts its bytes into a lent output from a place on, and answers the next place.
-ghost use mathlib.Core.Path.{_≡_};
 ghost use Prim.Native.Nat.{_+_, _≤_, _<_};
 ghost use lib.ListN.{length};
 ghost use Rattle.text.specs.Writing.{Wrote};
@@ -29,7 +28,7 @@ fn write_long(out: &mut [u8], at: usize, x: usize) -> usize
     write_word(out, next, x / 65536)
 }
 
-// Writes the header of a model file with n states, m edges and an initial state.
+// Writes the header of a model file with n states, m edges, an initial state and one mark table.
 pub fn write_header(out: &mut [u8], n: usize, m: usize, start: usize) -> usize
     requires { ⌜ 24 ≤ length (now out) ⌝ }
     requires { ⌜ (n ≤ 4096) × (m ≤ 8192) × (start < n) ⌝ }

@@ -28,7 +28,7 @@ abbrev output-due : tie.Start → List ℕ
 output-due s = let a = s .args in distancesOutput (a .file .now) (a .ceiling) (a .output .now) (length (a .work .now))
 
 abbrev work-due : tie.Start → List ℕ
-work-due s = workOf (s .args .file .now) (s .args .work .now)
+work-due s = workOf (s .args .file .now) 0 (s .args .work .now)
 
 returns : tie.Need-returns
 returns c =

@@ -20,13 +20,13 @@ start c = c .before .before .before .before .before
 
 -- what is due: the answer, and the tables afterwards
 abbrev due : tie.Start → Outcome Grade
-due s = let a = s .args in gradeOutcome (a .file .now) (a .list .now) (a .k) (length (a .work .now))
+due s = let a = s .args in gradeOutcome (a .file .now) (a .mark-table) (a .list .now) (a .k) (length (a .work .now))
 
 abbrev place-due : tie.Start → List ℕ
 place-due s = placeIn (s .args .place .now) (due s)
 
 abbrev work-due : tie.Start → List ℕ
-work-due s = workOf (s .args .file .now) (s .args .work .now)
+work-due s = workOf (s .args .file .now) (s .args .mark-table) (s .args .work .now)
 
 returns : tie.Need-returns
 returns c =

@@ -19,13 +19,13 @@ start c = c .before .before .before .before .before
 
 -- what is due: the answer, and the tables afterwards
 abbrev due : tie.Start → Outcome Followed
-due s = let a = s .args in nextOutcome (a .file .now) (a .earlier .now) (length (a .answer .now)) (length (a .work .now))
+due s = let a = s .args in nextOutcome (a .file .now) (a .mark-table) (a .earlier .now) (length (a .answer .now)) (length (a .work .now))
 
 abbrev answer-due : tie.Start → List ℕ
-answer-due s = let a = s .args in nextAnswer (a .file .now) (a .earlier .now) (a .answer .now) (length (a .work .now))
+answer-due s = let a = s .args in nextAnswer (a .file .now) (a .mark-table) (a .earlier .now) (a .answer .now) (length (a .work .now))
 
 abbrev work-due : tie.Start → List ℕ
-work-due s = workOf (s .args .file .now) (s .args .work .now)
+work-due s = workOf (s .args .file .now) (s .args .mark-table) (s .args .work .now)
 
 returns : tie.Need-returns
 returns c =

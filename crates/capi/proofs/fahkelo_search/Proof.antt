@@ -21,15 +21,15 @@ start c = c .before .before .before .before
 abbrev due : tie.Start → Outcome Searched
 due s =
     let a = s .args in
-    searchOutcome (a .file .now) (asking (a .ceiling) (a .allowance)) (length (a .answer .now)) (length (a .work .now))
+    searchOutcome (a .file .now) (asking (a .mark-table) (a .ceiling) (a .allowance)) (length (a .answer .now)) (length (a .work .now))
 
 abbrev answer-due : tie.Start → List ℕ
 answer-due s =
     let a = s .args in
-    searchAnswer (a .file .now) (asking (a .ceiling) (a .allowance)) (a .answer .now) (length (a .work .now))
+    searchAnswer (a .file .now) (asking (a .mark-table) (a .ceiling) (a .allowance)) (a .answer .now) (length (a .work .now))
 
 abbrev work-due : tie.Start → List ℕ
-work-due s = workOf (s .args .file .now) (s .args .work .now)
+work-due s = workOf (s .args .file .now) (s .args .mark-table) (s .args .work .now)
 
 returns : tie.Need-returns
 returns c =

@@ -22,13 +22,13 @@ start c = c .before .before .before
 
 -- what is due: the answer from a record, from the one that is given, and the table afterwards
 abbrev due-from : tie.Start → Record → Outcome Stepped
-due-from s rec = let a = s .args in stepOutcome (a .file .now) (a .ceiling) rec (length (a .work .now))
+due-from s rec = let a = s .args in stepOutcome (a .file .now) (a .mark-table) (a .ceiling) rec (length (a .work .now))
 
 abbrev due : tie.Start → Outcome Stepped
 due s = let a = s .args in due-from s (recordGiven (a .done) (a .has-best) (a .best))
 
 abbrev work-due : tie.Start → List ℕ
-work-due s = workOf (s .args .file .now) (s .args .work .now)
+work-due s = workOf (s .args .file .now) (s .args .mark-table) (s .args .work .now)
 
 returns : tie.Need-returns
 returns c =

@@ -7,10 +7,10 @@ use Rattle.compare.proofs.compare_ceilings.Statement.{statement}
 use Rattle.compare.proofs.compare_ceilings.Tie as tie
 
 abbrev Inv-loop : tie.InvT-loop
-Inv-loop m t file tally₀ end ceiling₀ tally ceiling = (ceiling ≤ end) × (length tally ≡ length tally₀)
+Inv-loop m t file markTable tally₀ end ceiling₀ tally ceiling = (ceiling ≤ end) × (length tally ≡ length tally₀)
 
 abbrev μ-loop : tie.MeasureT-loop
-μ-loop m t file tally₀ end ceiling₀ tally ceiling = end - ceiling
+μ-loop m t file markTable tally₀ end ceiling₀ tally ceiling = end - ceiling
 
 cast-end : tie.Need-cast-end Inv-loop μ-loop
 cast-end c = search needs

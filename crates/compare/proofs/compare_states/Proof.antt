@@ -1,4 +1,4 @@
--- `compare::compare_states` meets its contract. The loop goes through the models.
+-- `compare::compare_states` meets its contract. The loop goes through the models and their turns.
 use borrow.Author.Needs.{needs}
 use Prim.Native.Nat.{_-_, _≤_}
 use mathlib.Core.Path.{_≡_}
@@ -7,25 +7,25 @@ use Rattle.compare.proofs.compare_states.Statement.{statement}
 use Rattle.compare.proofs.compare_states.Tie as tie
 
 abbrev Inv-loop : tie.InvT-loop
-Inv-loop states tally₀ end number₀ tally number = (number ≤ end) × (length tally ≡ length tally₀)
+Inv-loop states tally₀ end place₀ tally place = (place ≤ end) × (length tally ≡ length tally₀)
 
 abbrev μ-loop : tie.MeasureT-loop
-μ-loop states tally₀ end number₀ tally number = end - number
+μ-loop states tally₀ end place₀ tally place = end - place
 
 how-many-requires : tie.Need-how-many-requires Inv-loop μ-loop
 how-many-requires c κs = search needs
 
+mul-end : tie.Need-mul-end Inv-loop μ-loop
+mul-end c = search needs
+
 loop-holds : tie.Need-loop-holds Inv-loop μ-loop
 loop-holds c = search needs
 
-numbered-requires : tie.Need-numbered-requires Inv-loop μ-loop
-numbered-requires c κs = search needs
+compare-turn-requires : tie.Need-compare-turn-requires Inv-loop μ-loop
+compare-turn-requires c κs = search needs
 
-compare-model-requires : tie.Need-compare-model-requires Inv-loop μ-loop
-compare-model-requires c κs = search needs
-
-add-number : tie.Need-add-number Inv-loop μ-loop
-add-number c = search needs
+add-place : tie.Need-add-place Inv-loop μ-loop
+add-place c = search needs
 
 loop-less : tie.Need-loop-less Inv-loop μ-loop
 loop-less c = search needs
@@ -46,10 +46,10 @@ compare-states-spec =
     Inv-loop
     μ-loop
     how-many-requires
+    mul-end
     loop-holds
-    numbered-requires
-    compare-model-requires
-    add-number
+    compare-turn-requires
+    add-place
     loop-less
     loop-again
     same-length

@@ -16,7 +16,7 @@ same-length c = search needs
 returns : tie.Need-returns
 returns c =
     let cleared = c .before .before in
-    record { zeros = cleared-all (cleared .before .before .before .args .work .now) _ (cleared .clear .ensures) }
+    record { all-zero = cleared-all (cleared .before .before .before .args .work .now) _ (cleared .clear .ensures) }
 
 pub leave-spec : {M : Type 1} → statement M
 leave-spec = tie.close (tie.spec clear-requires same-length returns)

@@ -5,10 +5,10 @@ use Rattle.grade_compare.proofs.compare_lists.Statement.{statement}
 use Rattle.grade_compare.proofs.compare_lists.Tie as tie
 
 abbrev Inv-loop : tie.InvT-loop
-Inv-loop m least file t₀ turn₀ turns₀ t turn turns = turns ≤ 1000000
+Inv-loop m least file markTable t₀ turn₀ turns₀ t turn turns = turns ≤ 1000000
 
 abbrev μ-loop : tie.MeasureT-loop
-μ-loop m least file t₀ turn₀ turns₀ t turn turns = 1000000 - turns
+μ-loop m least file markTable t₀ turn₀ turns₀ t turn turns = 1000000 - turns
 
 first-turn-requires : tie.Need-first-turn-requires Inv-loop μ-loop
 first-turn-requires c κs = omega arith

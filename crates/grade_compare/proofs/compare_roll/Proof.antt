@@ -5,10 +5,13 @@ use Rattle.grade_compare.proofs.compare_roll.Statement.{statement}
 use Rattle.grade_compare.proofs.compare_roll.Tie as tie
 
 abbrev Inv-loop : tie.InvT-loop
-Inv-loop states lists file before table₀ code₀ right₀ got₀ table code right got = got ≤ 1000
+Inv-loop states lists file markTable before lent table₀ code₀ right₀ got₀ table code right got = got ≤ 1000
 
 abbrev μ-loop : tie.MeasureT-loop
-μ-loop states lists file before table₀ code₀ right₀ got₀ table code right got = 1000 - got
+μ-loop states lists file markTable before lent table₀ code₀ right₀ got₀ table code right got = 1000 - got
+
+room-requires : tie.Need-room-requires Inv-loop μ-loop
+room-requires c κs = omega arith
 
 search-requires : tie.Need-search-requires Inv-loop μ-loop
 search-requires c κs = omega arith
@@ -55,6 +58,7 @@ compare-roll-spec =
     (tie.spec
     Inv-loop
     μ-loop
+    room-requires
     search-requires
     loop-holds
     brings-list-requires

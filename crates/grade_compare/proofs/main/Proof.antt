@@ -1,14 +1,14 @@
--- `grade_compare::main` meets its contract. The loop goes through the models.
+-- `grade_compare::main` meets its contract. The loop goes through the models and their turns.
 use native.Mathlib.Omega.{arith}
 use Prim.Native.Nat.{_-_, _≤_}
 use Rattle.grade_compare.proofs.main.Statement.{statement}
 use Rattle.grade_compare.proofs.main.Tie as tie
 
 abbrev Inv-loop : tie.InvT-loop
-Inv-loop t₀ number₀ t number = number ≤ 5660
+Inv-loop t₀ place₀ t place = place ≤ 89792
 
 abbrev μ-loop : tie.MeasureT-loop
-μ-loop t₀ number₀ t number = 5660 - number
+μ-loop t₀ place₀ t place = 89792 - place
 
 nothing-requires : tie.Need-nothing-requires Inv-loop μ-loop
 nothing-requires c κs = omega arith
@@ -16,17 +16,20 @@ nothing-requires c κs = omega arith
 loop-holds : tie.Need-loop-holds Inv-loop μ-loop
 loop-holds c = omega arith
 
+mul-loop : tie.Need-mul-loop Inv-loop μ-loop
+mul-loop c = omega arith
+
 states-at-requires : tie.Need-states-at-requires Inv-loop μ-loop
 states-at-requires c κs = omega arith
 
-model-at-requires : tie.Need-model-at-requires Inv-loop μ-loop
-model-at-requires c κs = omega arith
+among-its-states-requires : tie.Need-among-its-states-requires Inv-loop μ-loop
+among-its-states-requires c κs = omega arith
 
 compare-model-requires : tie.Need-compare-model-requires Inv-loop μ-loop
 compare-model-requires c κs = omega arith
 
-add-number : tie.Need-add-number Inv-loop μ-loop
-add-number c = omega arith
+add-place : tie.Need-add-place Inv-loop μ-loop
+add-place c = omega arith
 
 loop-less : tie.Need-loop-less Inv-loop μ-loop
 loop-less c = omega arith
@@ -48,10 +51,11 @@ main-spec =
     μ-loop
     nothing-requires
     loop-holds
+    mul-loop
     states-at-requires
-    model-at-requires
+    among-its-states-requires
     compare-model-requires
-    add-number
+    add-place
     loop-less
     loop-again
     print-requires

@@ -1,24 +1,32 @@
--- `grade` meets its contract: refused by the gate with the working table untouched, else the grade of the list, with the
--- working table cleared.
-use mathlib.Core.Path.{sym}
+-- `grade` meets its contract: refused by the gate, which leaves the table as it is to be, else the grade of the list in
+-- the file that passed, with the table cleared.
+use mathlib.Core.Path.{sym, _∙_}
+use native.Mathlib.Omega.{arith}
 use borrow.Author.Needs.{needs}
 use lib.ListN.{length}
+use Rattle.outcomes.proofs.OutcomeLaws.{at-table}
 use Rattle.gate.specs.Gate.{Passed}
-use Rattle.gate.proofs.GateLaws.{gate-refused, gate-passed, work-refused, work-left}
+use Rattle.gate.proofs.GateLaws.{gate-refused, gate-passed, entered-length, work-refused, work-left}
+use Rattle.grader.specs.Grade.{gradeOutcome}
 use Rattle.grader.proofs.GradeLaws.{grade-refused}
 use Rattle.grader.proofs.grade.Statement.{statement}
 use Rattle.grader.proofs.grade.Tie as tie
 
--- the function's start, from the gate
+-- the gate, and the function's start
+abbrev gate : tie.After-slice-known2 → tie.After-enter
+gate c = c .before .before
+
 abbrev start : tie.After-enter → tie.Start
 start c = c .before .before .before .before .before
 
 -- the file has passed the gate, with its header
 passed : (c : tie.After-checked2)
-    → let a = start (c .before .before) .args in Passed (a .file .now) (length (a .work .now)) (c .checked2 .given .0 .0)
+    → let a = start (gate (c .before .before)) .args in
+    Passed (a .file .now) (a .mark-table) (length (a .work .now)) (c .checked2 .given .0 .0)
 passed c =
-    let a = start (c .before .before) .args in
-    gate-passed (a .file .now) (length (a .work .now)) (c .before .before .enter .ensures) (c .checked2 .given .1)
+    let entered = gate (c .before .before) in
+    let a = start entered .args in
+    gate-passed (a .file .now) (a .mark-table) (length (a .work .now)) (entered .enter .ensures .0) (c .checked2 .given .1)
 
 enter-requires : tie.Need-enter-requires
 enter-requires c κs = search needs
@@ -30,7 +38,12 @@ enum-known-checked-2 : tie.Need-enum-known-checked-2
 enum-known-checked-2 c = search needs
 
 grade-of-model-requires : tie.Need-grade-of-model-requires
-grade-of-model-requires c κs = let is = passed (c .before .before) in (is .valid, is .room)
+grade-of-model-requires c κs =
+    let accepted = c .before .before in
+    let entered = gate (accepted .before .before) in
+    let a = start entered .args in
+    let is = passed accepted in
+    (is .valid, omega (arith, is .room, entered-length (a .mark-table) (a .work .now) (entered .enter .ensures .1)))
 
 leave-requires : tie.Need-leave-requires
 leave-requires c κs = search needs
@@ -41,10 +54,12 @@ same-length c = search needs
 returns : tie.Need-returns
 returns c =
     let refused = c .before in
-    let gated = refused .before .before in
-    let a = start gated .args in
-    let broken = gate-refused (a .file .now) (length (a .work .now)) (gated .enter .ensures) (refused .checked .given .1) in
-    (sym (grade-refused (a .file .now) (a .list .now) (a .k) (length (a .work .now)) _ broken), work-refused (a .file .now) _ _ broken)
+    let entered = gate (refused .before .before) in
+    let a = start entered .args in
+    let broken = gate-refused (a .file .now) (a .mark-table) (length (a .work .now)) (entered .enter .ensures .0) (refused .checked .given .1) in (
+      sym (grade-refused (a .file .now) (a .mark-table) (a .list .now) (a .k) (length (a .work .now)) _ broken),
+      work-refused (a .file .now) (a .mark-table) (a .work .now) _ broken (entered .enter .ensures .1),
+    )
 
 same-length-2 : tie.Need-same-length-2
 same-length-2 c = search needs
@@ -52,11 +67,14 @@ same-length-2 c = search needs
 returns-2 : tie.Need-returns-2
 returns-2 c =
     let left = c .before .before in
-    let graded = left .before .before .before .before in
-    let accepted = graded .before .before .before in
-    let a = start (accepted .before .before) .args in (
-      graded .grade-of-model .ensures .0,
-      work-left (a .file .now) (a .work .now) (passed accepted .clear) (graded .grade-of-model .ensures .1) (left .leave .ensures),
+    let done = left .before .before .before .before in
+    let accepted = done .before .before .before in
+    let entered = gate (accepted .before .before) in
+    let a = start entered .args in
+    let is = passed accepted in
+    let same = entered-length (a .mark-table) (a .work .now) (entered .enter .ensures .1) in (
+      at-table (λ t n. gradeOutcome (a .file .now) t (a .list .now) (a .k) n) (done .grade-of-model .ensures .0) (is .named) same,
+      work-left (a .file .now) (a .mark-table) (a .work .now) (is .clear) (done .grade-of-model .ensures .1 ∙ same) (left .leave .ensures),
     )
 
 pub grade-spec : {M : Type 1} → statement M

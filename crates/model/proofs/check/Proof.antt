@@ -1,5 +1,5 @@
 -- `check` meets its contract: a file refused by the rules 1 to 5 is refused by their number, and past them the rules 6 to 11
--- decide, by the total length of a model file.
+-- decide, by the total length of a model file with one mark table and two tables at most.
 use Prim.Native.Nat.{ℕ}
 use mathlib.Core.Path.{sym, ap, ap₂, _∙_}
 use native.Mathlib.Omega.{arith}
@@ -34,13 +34,16 @@ total-of-requires c κs =
 check-tables-requires : tie.Need-check-tables-requires
 check-tables-requires c κs =
     let known = c .before .before in
-    (sym (known .before .before .check-head .ensures) ∙ known .head .given .1, omega (arith, c .total-of .ensures))
+    let h = head known in (
+      sym (known .before .before .check-head .ensures) ∙ known .head .given .1,
+      omega (arith, c .total-of .ensures, header-numbers (now (known .before .before .before .before .args .file)) (h .header)),
+    )
 
 returns : tie.Need-returns
 returns c =
     let f = now (c .before .before .before .before .args .file) in
     let answer = c .before .before .check-head in
-    answer .ensures ∙ head-refuses (totalOf (states f) (edgeCount f)) f _ (sym (answer .ensures) ∙ c .enum-told .given .1)
+    answer .ensures ∙ head-refuses (totalOf (states f) (edgeCount f)) 2 f _ (sym (answer .ensures) ∙ c .enum-told .given .1)
 
 returns-2 : tie.Need-returns-2
 returns-2 c =
@@ -49,7 +52,7 @@ returns-2 c =
     let f = now (known .before .before .before .before .args .file) in
     let numbers = header-numbers f (head known .header) in
     c .check-tables .ensures
-    ∙ ap (λ (t : ℕ). checkWith t f) (at .total-of .ensures ∙ ap₂ totalOf (numbers .0) (numbers .1))
+    ∙ ap (λ (t : ℕ). checkWith t 2 f) (at .total-of .ensures ∙ ap₂ totalOf (numbers .0) (numbers .1))
 
 pub check-spec : {M : Type 1} → statement M
 check-spec =

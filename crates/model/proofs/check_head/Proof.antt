@@ -65,14 +65,14 @@ kept-5 c =
 
 -- the header that is made of the numbers read is the file's own
 header-told : (file : List ℕ) {n m i r : ℕ} → n ≡ states file → m ≡ edgeCount file → i ≡ initial file → r ≡ reserved file
-    → record { states = n; edges = m; start = i; stays = eqb r 1 } ≡ headerOf file
-header-told file en em ei er = λ i. record { states = en i; edges = em i; start = ei i; stays = eqb (er i) 1 }
+    → record { states = n; edges = m; start = i; stays = eqb r 1; table = 0 } ≡ headerOf file 0
+header-told file en em ei er = λ i. record { states = en i; edges = em i; start = ei i; stays = eqb (er i) 1; table = 0 }
 
 returns : tie.Need-returns
 returns c =
     let start = c .before .before in
     let file = checked start in
-    held-refuses (headRules file) file (shortFile file) 1 _ refl (lt-ltb (length file) 24 (c .if1 .taken))
+    held-refuses (headRules file) (headerOf file 0) (shortFile file) 1 _ refl (lt-ltb (length file) 24 (c .if1 .taken))
 
 word-requires : tie.Need-word-requires
 word-requires c κs = search needs
@@ -88,26 +88,26 @@ returns-2 c =
     let first = c .before .before .before .before in
     let start = from1 first in
     let file = checked start in
-    held-refuses (headRules file) file (badStates file) 2 _ (kept-1 first) (rw (eq-eqb (states file) 0 (omega arith)))
+    held-refuses (headRules file) (headerOf file 0) (badStates file) 2 _ (kept-1 first) (rw (eq-eqb (states file) 0 (omega arith)))
 
 returns-3 : tie.Need-returns-3
 returns-3 c =
     let first = c .before .before .before .before .before in
     let start = from1 first in
     let file = checked start in
-    held-refuses (headRules file) file (badStates file) 2 _ (kept-1 first) (rw (ne-eqb (states file) 0 (omega arith), lt-ltb 4096 (states file) (omega arith)))
+    held-refuses (headRules file) (headerOf file 0) (badStates file) 2 _ (kept-1 first) (rw (ne-eqb (states file) 0 (omega arith), lt-ltb 4096 (states file) (omega arith)))
 
 returns-4 : tie.Need-returns-4
 returns-4 c =
     let start = from2 (c .before) in
     let file = checked start in
-    held-refuses (headRules file) file (badEdges file) 3 _ (kept-2 (c .before)) (lt-ltb 8192 (edgeCount file) (omega arith))
+    held-refuses (headRules file) (headerOf file 0) (badEdges file) 3 _ (kept-2 (c .before)) (lt-ltb 8192 (edgeCount file) (omega arith))
 
 returns-5 : tie.Need-returns-5
 returns-5 c =
     let start = from3 (c .before) in
     let file = checked start in
-    held-refuses (headRules file) file (badInitial file) 4 _ (kept-3 (c .before)) (rw (le-ltb (initial file) (states file) (omega arith)))
+    held-refuses (headRules file) (headerOf file 0) (badInitial file) 4 _ (kept-3 (c .before)) (rw (le-ltb (initial file) (states file) (omega arith)))
 
 word-requires-4 : tie.Need-word-requires-4
 word-requires-4 c κs = search needs
@@ -116,13 +116,13 @@ returns-6 : tie.Need-returns-6
 returns-6 c =
     let start = from4 (c .before .before) in
     let file = checked start in
-    held-refuses (headRules file) file (badReserved file) 5 _ (kept-4 (c .before .before)) (lt-ltb 1 (reserved file) (omega arith))
+    held-refuses (headRules file) (headerOf file 0) (badReserved file) 5 _ (kept-4 (c .before .before)) (lt-ltb 1 (reserved file) (omega arith))
 
 returns-7 : tie.Need-returns-7
 returns-7 c =
     let file = checked (from5 c) in
     let read = c .before .before .before .before .before .before in
-    none-accepts (headRules file) file _
+    none-accepts (headRules file) _ (headerOf file 0)
     (header-told file (read .before .before .word .ensures .0) (read .before .word2 .ensures .0) (read .word3 .ensures .0) (c .before .word4 .ensures .0))
     (kept-5 c)
 

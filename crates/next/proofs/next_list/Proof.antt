@@ -54,7 +54,7 @@ in-roll c =
     (list-tested (c .before) ∙ not-false _ (c .if1 .left))
 
 -- the same of the file's graph
-in-file-roll : (c : tie.Else1) → let a = start (c .before) .args in List·Memᴰ (a .earlier .now) (roll (graphOf (a .file .now)))
+in-file-roll : (c : tie.Else1) → let a = start (c .before) .args in List·Memᴰ (a .earlier .now) (roll (graphOf (a .file .now) (a .h .table)))
 in-file-roll c =
     let s = start (c .before) in
     subst (λ (g : Graph). List·Memᴰ (s .args .earlier .now) (roll g)) (valid-graph (s .pre .0 .valid)) (in-roll c)
@@ -67,7 +67,7 @@ kept c = c .to-next .ensures .1 ∙ put c .to-list .ensures .1
 follows : (c : tie.Else3)
     → let adv = c .before .before .before in
     let a = origin adv .args in
-    following (a .earlier .now) (roll (graphOf (a .file .now))) ≡ some (upTo (graphOf (a .file .now)) (adv .to-next .last .1 .1 .1 .0) (a .length .0))
+    following (a .earlier .now) (roll (graphOf (a .file .now) (a .h .table))) ≡ some (upTo (graphOf (a .file .now) (a .h .table)) (adv .to-next .last .1 .1 .1 .0) (a .length .0))
 follows c =
     let adv = c .before .before .before in
     let s = origin adv in
@@ -93,7 +93,7 @@ returns c =
     let apart =
     subst (λ (g : Graph). notShortest g (a .earlier .now) ≡ true) (valid-graph v)
     (notShortest-lasso (graphIn (a .file .now) (a .h)) (valid-well-formed v) (a .length .0) (s .pre .1) (a .earlier .now) (list-tested (c .before) ∙ not-true _ (c .if1 .taken))) in
-    let is = next-not-shortest (a .file .now) (v .accepted) (a .earlier .now) (length (a .answer .now)) (length (a .work .now)) (valid-room v (s .pre .0 .room)) apart in
+    let is = next-not-shortest (a .file .now) (a .h .table) (v .accepted) (v .table-limit) (a .earlier .now) (length (a .answer .now)) (length (a .work .now)) (valid-room v (s .pre .0 .room)) apart in
     (sym (is .outcome-is), (sym (call-answer (a .answer .now) is), refl))
 
 returns-2 : tie.Need-returns-2
@@ -122,7 +122,7 @@ returns-3 c =
     let last =
     subst (λ (g : Graph). following (a .earlier .now) (roll g) ≡ none) (valid-graph v)
     (moved-none (adv .to-next .last .1 .1 .1 .0) (adv .to-next .result) (put adv .to-list .ensures .0) (adv .to-next .ensures .0) (not-true _ (c .if3 .taken))) in
-    let is = next-no-more (a .file .now) (v .accepted) (a .earlier .now) (length (a .answer .now)) (length (a .work .now)) (valid-room v (s .pre .0 .room)) (in-file-roll (tested (put adv))) last in
+    let is = next-no-more (a .file .now) (a .h .table) (v .accepted) (v .table-limit) (a .earlier .now) (length (a .answer .now)) (length (a .work .now)) (valid-room v (s .pre .0 .room)) (in-file-roll (tested (put adv))) last in
     (sym (is .outcome-is), (sym (call-answer (a .answer .now) is), kept adv))
 
 entries-requires : tie.Need-entries-requires
@@ -140,7 +140,7 @@ returns-4 c =
     let a = s .args in
     let v = s .pre .0 .valid in
     let long = length-take-le (a .length .0) (adv .to-next .last .1 .1 .1 .0) (fits adv) in
-    let is = next-no-room (a .file .now) (v .accepted) (a .earlier .now) (length (a .answer .now)) (length (a .work .now)) (valid-room v (s .pre .0 .room)) (in-file-roll (tested (put adv))) _ (follows more) (omega (arith, long, counted .entries .ensures, c .if4 .taken)) in
+    let is = next-no-room (a .file .now) (a .h .table) (v .accepted) (v .table-limit) (a .earlier .now) (length (a .answer .now)) (length (a .work .now)) (valid-room v (s .pre .0 .room)) (in-file-roll (tested (put adv))) _ (follows more) (omega (arith, long, counted .entries .ensures, c .if4 .taken)) in
     (sym (is .outcome-is), (sym (call-answer (a .answer .now) is), kept adv))
 
 write-list-requires : tie.Need-write-list-requires
@@ -172,7 +172,7 @@ returns-5 c =
     let a = s .args in
     let v = s .pre .0 .valid in
     let is =
-    following-written (a .file .now) (v .accepted) (length (a .work .now)) (valid-room v (s .pre .0 .room)) (a .earlier .now) (a .answer .now) _ _ (a .h .start) (a .length .0) (wrote .write-list .result)
+    following-written (a .file .now) (a .h .table) (v .accepted) (v .table-limit) (length (a .work .now)) (valid-room v (s .pre .0 .room)) (a .earlier .now) (a .answer .now) _ _ (a .h .start) (a .length .0) (wrote .write-list .result)
     (in-file-roll (tested (put adv))) (valid-sizes v .start-is) (fits adv) (follows more) (omega (arith, counted .entries .ensures, free .if4 .left))
     (wrote .write-list .ensures .0 .0) (wrote .write-list .ensures .1) in
     (is .0, (is .1, kept adv))

@@ -10,7 +10,7 @@ use Rattle.lasso.specs.Graph.{Graph}
 use Rattle.lasso.specs.Roll.{leastLength}
 use Rattle.model.specs.Model.{graphIn, graphOf}
 use Rattle.model.proofs.Laws.{valid-graph, valid-sizes}
-use Rattle.outcomes.proofs.OutcomeLaws.{call-answer}
+use Rattle.outcomes.proofs.OutcomeLaws.{call-answer, at-length}
 use Rattle.gate.proofs.GateLaws.{valid-room}
 use Rattle.cursor.specs.Cursor.{BegunSays}
 use Rattle.cursor.specs.declared.Begun.{Begun}
@@ -68,10 +68,10 @@ returns-2 c =
     let s = start begun in
     let a = s .args in
     let all = says begun _ _ (begun .begin .ensures .0) (c .enum-told2 .given .1) in
-    let none-least : leastLength (graphOf (a .file .now)) ≡ none =
+    let none-least : leastLength (graphOf (a .file .now) (a .h .table)) ≡ none =
     subst (λ (g : Graph). leastLength g ≡ none) (valid-graph (s .pre .0)) (full-least (s .pre .0) (omega (arith, valid-sizes (s .pre .0))) all) in
-    let none-shortest = notShortest-none (graphOf (a .file .now)) (a .earlier .now) none-least in
-    let is = next-not-shortest (a .file .now) (s .pre .0 .accepted) (a .earlier .now) (length (a .answer .now)) (length (a .work .now)) (valid-room (s .pre .0) (s .pre .1)) none-shortest in
+    let none-shortest = notShortest-none (graphOf (a .file .now) (a .h .table)) (a .earlier .now) none-least in
+    let is = next-not-shortest (a .file .now) (a .h .table) (s .pre .0 .accepted) (s .pre .0 .table-limit) (a .earlier .now) (length (a .answer .now)) (length (a .work .now)) (valid-room (s .pre .0) (s .pre .1)) none-shortest in
     (sym (is .outcome-is), (sym (call-answer (a .answer .now) is), begun .begin .ensures .1 .1))
 
 same-length-3 : tie.Need-same-length-3
@@ -87,9 +87,9 @@ returns-3 c =
     let begun = done (listed .before .before) in
     let a = start begun .args in
     let kept = begun .begin .ensures .1 .1 in (
-      wrote .next-list .ensures .0 ∙ ap (λ (n : ℕ). nextOutcome (a .file .now) (a .earlier .now) (length (a .answer .now)) n) kept,
+      at-length (λ n. nextOutcome (a .file .now) (a .h .table) (a .earlier .now) (length (a .answer .now)) n) (wrote .next-list .ensures .0) kept,
       (
-        wrote .next-list .ensures .1 .0 ∙ ap (λ (n : ℕ). nextAnswer (a .file .now) (a .earlier .now) (a .answer .now) n) kept,
+        at-length (λ n. nextAnswer (a .file .now) (a .h .table) (a .earlier .now) (a .answer .now) n) (wrote .next-list .ensures .1 .0) kept,
         wrote .next-list .ensures .1 .1 ∙ kept,
       ),
     )

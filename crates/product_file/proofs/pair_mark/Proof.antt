@@ -34,7 +34,7 @@ returns-2 c =
     let below : a .c % states f < states f = mod-below (states f) (a .c) (omega (arith, property-facts v .states-range)) in
     let inside : a .c < a .states = omega (arith, c .before .before .if1 .left) in
     c .is-marked .ensures
-    ∙ ap (λ (n : ℕ). markBit f (a .c % n)) size
+    ∙ ap (λ (n : ℕ). markBit f 0 (a .c % n)) size
     ∙ sym (rw (lt-ltb (a .c) (a .states) inside, lt-ltb (a .c % states f) (states f) below))
 
 pub pair-mark-spec : {M : Type 1} → statement M

@@ -1,6 +1,6 @@
--- `check_property` meets its contract: as the check of a model file, with a total length that counts the masks.
+-- `check_property` meets its contract: as the check of a model file, with one mark table and a total length that counts the masks.
 use Prim.Native.Nat.{ℕ, _+_, _*_}
-use mathlib.Core.Path.{sym, ap, ap₂, _∙_}
+use mathlib.Core.Path.{_≡_, sym, ap, ap₂, _∙_}
 use native.Mathlib.Omega.{arith}
 use denote.Ref.{now}
 use borrow.Author.Needs.{needs}
@@ -43,13 +43,17 @@ add-total c =
 check-tables-requires : tie.Need-check-tables-requires
 check-tables-requires c κs =
     let known = c .before .before .before in
-    (sym (known .before .before .check-head .ensures) ∙ known .head .given .1, omega (arith, c .before .total-of .ensures))
+    let h = head known in
+    let numbers = header-numbers (now (known .before .before .before .before .args .file)) (h .header) in (
+      sym (known .before .before .check-head .ensures) ∙ known .head .given .1,
+      omega (arith, c .before .total-of .ensures, numbers),
+    )
 
 returns : tie.Need-returns
 returns c =
     let f = now (c .before .before .before .before .args .file) in
     let answer = c .before .before .check-head in
-    answer .ensures ∙ head-refuses (propertyTotal (states f) (edgeCount f)) f _ (sym (answer .ensures) ∙ c .enum-told .given .1)
+    answer .ensures ∙ head-refuses (propertyTotal (states f) (edgeCount f)) 1 f _ (sym (answer .ensures) ∙ c .enum-told .given .1)
 
 returns-2 : tie.Need-returns-2
 returns-2 c =
@@ -57,8 +61,9 @@ returns-2 c =
     let known = at .before .before in
     let f = now (known .before .before .before .before .args .file) in
     let numbers = header-numbers f (head known .header) in
-    c .check-tables .ensures
-    ∙ ap (λ (t : ℕ). checkWith t f) (ap₂ (λ (t m : ℕ). t + 2 * m) (at .total-of .ensures ∙ ap₂ totalOf (numbers .0) (numbers .1)) (numbers .1))
+    let total : ℕ = at .total-of .result + 2 * known .head .given .0 .0 .edges in
+    let told : c .check-tables .result ≡ checkWith total 1 f = c .check-tables .ensures in
+    told ∙ ap (λ (t : ℕ). checkWith t 1 f) (ap₂ (λ (t m : ℕ). t + 2 * m) (at .total-of .ensures ∙ ap₂ totalOf (numbers .0) (numbers .1)) (numbers .1))
 
 pub check-property-spec : {M : Type 1} → statement M
 check-property-spec =

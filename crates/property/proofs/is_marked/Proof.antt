@@ -1,23 +1,34 @@
--- `is_marked` meets its contract: the mark of a state is its bit, which lies within the file.
+-- `is_marked` meets its contract: the mark of a state is its bit in mark table 0.
+use Prim.Native.Nat.{ℕ, _+_, _/_, _%_}
+use mathlib.Core.Path.{_≡_, ap, ap₂, _∙_}
 use native.Mathlib.Omega.{arith}
+use denote.Ref.{now}
+use lib.ListN.{getD}
+use Rattle.format.specs.Bytes.{bitb}
+use Rattle.format.specs.Layout.{tableAt}
 use Rattle.property.proofs.PropertyLaws.{property-facts, property-numbers}
 use Rattle.property.proofs.is_marked.Statement.{statement}
 use Rattle.property.proofs.is_marked.Tie as tie
 
-marks-at-requires : tie.Need-marks-at-requires
-marks-at-requires c κs =
+table-at-requires : tie.Need-table-at-requires
+table-at-requires c κs =
     let v = c .before .pre .0 in
     omega (arith, property-numbers v, property-facts v)
 
 bit-requires : tie.Need-bit-requires
 bit-requires c κs =
     let v = c .before .before .pre .0 in
-    omega (arith, property-numbers v, property-facts v)
+    omega (arith, c .table-at .ensures, property-numbers v, property-facts v)
 
 returns : tie.Need-returns
 returns c =
-    let numbers = property-numbers (c .before .before .before .pre .0) in
-    rw (c .before .marks-at .ensures, numbers .0, numbers .1) at (c .bit .ensures)
+    let start = c .before .before .before in
+    let a = start .args in
+    let numbers = property-numbers (start .pre .0) in
+    let place : c .before .table-at .result ≡ tableAt (a .h .states) (a .h .edges) 0 = c .before .table-at .ensures in
+    c .bit .ensures
+    ∙ ap (λ (at : ℕ). bitb (getD (now (a .file)) (at + a .q / 8) 0) (a .q % 8))
+    (place ∙ ap₂ (λ (n m : ℕ). tableAt n m 0) (numbers .0) (numbers .1))
 
 pub is-marked-spec : {M : Type 1} → statement M
-is-marked-spec = tie.close (tie.spec marks-at-requires bit-requires returns)
+is-marked-spec = tie.close (tie.spec table-at-requires bit-requires returns)

@@ -75,8 +75,8 @@ returns-3 c =
       ne-eqb (long file 16) (marksAt (states file) (edgeCount file)) (omega arith),
     )
 
-long-requires-4 : tie.Need-long-requires-4
-long-requires-4 c κs = search needs
+total-fits-requires : tie.Need-total-fits-requires
+total-fits-requires c κs = search needs
 
 returns-4 : tie.Need-returns-4
 returns-4 c =
@@ -85,7 +85,7 @@ returns-4 c =
       rows-right (third .before .before .before .before),
       edges-right (third .before .before),
       marks-right third,
-      c .long4 .ensures,
+      c .total-fits .ensures,
     )
 
 pub offsets-broken-spec : {M : Type 1} → statement M
@@ -100,5 +100,5 @@ offsets-broken-spec =
     returns-2
     long-requires-3
     returns-3
-    long-requires-4
+    total-fits-requires
     returns-4)

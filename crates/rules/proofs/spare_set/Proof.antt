@@ -1,58 +1,41 @@
--- `spare_set` meets its contract: the spare bits from s on decide whether one is set.
+-- `spare_set` meets its contract: the tables from t on decide whether a spare bit is set.
 use borrow.Author.Needs.{needs}
 use native.Mathlib.Omega.{arith}
 use Prim.Native.Nat.{_-_}
-use mathlib.Core.Path.{_≡_, sym, _∙_}
+use mathlib.Core.Path.{sym, _∙_}
 use denote.Ref.{now}
-use Rattle.format.specs.Layout.{markBit}
-use Rattle.format.specs.Rules.{badSpare}
-use Rattle.lasso.proofs.Range.{Left, left-from, left-found, left-next, left-none}
+use Rattle.format.specs.Rules.{spareSet, badSpare}
+use Rattle.lasso.proofs.Range.{Left, left-below, left-found, left-next, left-none}
 use Rattle.rules.proofs.spare_set.Statement.{statement}
 use Rattle.rules.proofs.spare_set.Tie as tie
 
 abbrev Inv-loop : tie.InvT-loop
-Inv-loop file n m marks end s₀ s = Left (markBit file) (badSpare file) end s
+Inv-loop file n m tables t₀ t = Left (spareSet file) (badSpare tables file) tables t
 
 abbrev μ-loop : tie.MeasureT-loop
-μ-loop file n m marks end s₀ s = end - s
-
--- the bit that a turn of the loop reads
-bit-read : (c : tie.After-bit Inv-loop μ-loop) →
-    let start = c .before .before .before .before .before .before in
-    c .bit .result ≡ markBit (now (start .args .file)) (c .before .before .loop .s)
-bit-read c =
-    let marks = c .before .before .before .before in
-    let start = marks .before .before in
-    rw (marks .marks-at .ensures, start .pre .states-are, start .pre .edges-are) at (c .bit .ensures)
-
-marks-at-requires : tie.Need-marks-at-requires Inv-loop μ-loop
-marks-at-requires c κs = search needs
-
-mark-bytes-requires : tie.Need-mark-bytes-requires Inv-loop μ-loop
-mark-bytes-requires c κs = search needs
-
-mul-end : tie.Need-mul-end Inv-loop μ-loop
-mul-end c = search needs
+μ-loop file n m tables t₀ t = tables - t
 
 loop-holds : tie.Need-loop-holds Inv-loop μ-loop
-loop-holds c =
-    let start = c .before .before .before in
-    rw (c .mark-bytes .ensures, start .pre .states-are) (left-from (markBit (now (start .args .file))) _ _ (omega arith))
+loop-holds c = let a = c .before .args in left-below (spareSet (now (a .file))) (a .tables)
 
-bit-requires : tie.Need-bit-requires Inv-loop μ-loop
-bit-requires c κs = search needs
+spare-of-table-requires : tie.Need-spare-of-table-requires Inv-loop μ-loop
+spare-of-table-requires c κs = let start = c .before .before .before in (start .pre .0, omega arith)
 
 returns : tie.Need-returns Inv-loop μ-loop
-returns c = sym (left-found (c .before .before .before .loop .inv) (search needs) (sym (bit-read (c .before)) ∙ c .if1 .taken))
+returns c =
+    let turn = c .before in
+    sym (left-found (turn .before .before .loop .inv) (search needs) (sym (turn .spare-of-table .ensures) ∙ c .if1 .taken))
 
-add-s : tie.Need-add-s Inv-loop μ-loop
-add-s c = search needs
+add-t : tie.Need-add-t Inv-loop μ-loop
+add-t c = search needs
 
 loop-less : tie.Need-loop-less Inv-loop μ-loop
 loop-less c = search needs
 
 loop-again : tie.Need-loop-again Inv-loop μ-loop
-loop-again c = left-next (c .before .before .before .loop .inv) (search needs) (sym (bit-read (c .before)) ∙ c .if1 .left)
+loop-again c =
+    let turn = c .before in
+    left-next (turn .before .before .loop .inv) (search needs) (sym (turn .spare-of-table .ensures) ∙ c .if1 .left)
 
 returns-2 : tie.Need-returns-2 Inv-loop μ-loop
 returns-2 c = sym (left-none (c .before .loop .inv) (c .loop-test .left))
@@ -60,16 +43,4 @@ returns-2 c = sym (left-none (c .before .loop .inv) (c .loop-test .left))
 pub spare-set-spec : {M : Type 1} → statement M
 spare-set-spec =
     tie.close
-    (tie.spec
-    Inv-loop
-    μ-loop
-    marks-at-requires
-    mark-bytes-requires
-    mul-end
-    loop-holds
-    bit-requires
-    returns
-    add-s
-    loop-less
-    loop-again
-    returns-2)
+    (tie.spec Inv-loop μ-loop loop-holds spare-of-table-requires returns add-t loop-less loop-again returns-2)

@@ -1,6 +1,6 @@
 -- `first_list` meets its contract: the length is never above 4,096; without room for the list the answer is 15
 -- and nothing is written; else the first of the roll is written with its figures.
-use mathlib.Core.Path.{_≡_, refl, sym, subst}
+use mathlib.Core.Path.{_≡_, refl, sym, ap, subst}
 use mathlib.Core.List.{head?}
 use mathlib.Core.Option.{some, none}
 use native.Mathlib.Omega.{arith}
@@ -10,14 +10,14 @@ use Rattle.lasso.specs.Graph.{Graph}
 use Rattle.lasso.specs.Roll.{leastLength, roll}
 use Rattle.lasso.specs.Rounds.{candidates}
 use Rattle.lasso.proofs.RollLaws.{leastLength-range}
-use Rattle.model.specs.Model.{graphIn}
+use Rattle.model.specs.Model.{graphIn, graphOf}
 use Rattle.model.proofs.Laws.{valid-graph, valid-sizes}
 use Rattle.outcomes.specs.Outcome.{refused}
 use Rattle.outcomes.proofs.OutcomeLaws.{call-answer}
 use Rattle.gate.proofs.GateLaws.{valid-room}
 use Rattle.follow.specs.Follow.{upTo}
 use Rattle.cursor.proofs.RollPlaces.{stands-head}
-use Rattle.search.specs.Search.{WithEnough}
+use Rattle.search.specs.Search.{graphAsked, WithEnough}
 use Rattle.search.proofs.SearchLaws.{SearchIs, search-no-room, first-written}
 use Rattle.search.proofs.first_list.Statement.{statement}
 use Rattle.search.proofs.first_list.Tie as tie
@@ -46,8 +46,12 @@ returns-2 c =
     let v = s .pre .0 .valid in
     let least = subst (λ (g : Graph). leastLength g ≡ some (a .length .0)) (valid-graph v) (s .pre .1 .0) in
     let rounds-are = subst (λ (g : Graph). a .rounds ≡ length (candidates g)) (valid-graph v) (s .pre .1 .1) in
-    let is : WithEnough (a .rounds) (a .length .0) (λ ask. SearchIs (a .file .now) ask (length (a .answer .now)) (length (a .work .now)) (refused 15) none) =
-    λ ask asks. search-no-room (a .file .now) (v .accepted) ask (length (a .answer .now)) (length (a .work .now)) (valid-room v (s .pre .0 .room)) (asks .not-high) (omega (arith, rounds-are, asks .allowed)) (a .length .0) least (asks .within) (omega (arith, counted .entries .ensures, c .if2 .taken)) in (
+    let asked : WithEnough (a .h .table) (a .rounds) (a .length .0) (λ ask.
+    (leastLength (graphAsked (a .file .now) ask) ≡ some (a .length .0)) × (a .rounds ≡ length (candidates (graphAsked (a .file .now) ask)))) =
+    λ ask asks. subst (λ (g : Graph). (leastLength g ≡ some (a .length .0)) × (a .rounds ≡ length (candidates g)))
+    (ap (graphOf (a .file .now)) (sym (asks .named))) (least, rounds-are) in
+    let is : WithEnough (a .h .table) (a .rounds) (a .length .0) (λ ask. SearchIs (a .file .now) ask (length (a .answer .now)) (length (a .work .now)) (refused 15) none) =
+    λ ask asks. search-no-room (a .file .now) (v .accepted) ask (length (a .answer .now)) (length (a .work .now)) (valid-room v (s .pre .0 .room)) (omega (arith, v .table-limit, asks .named)) (asks .not-high) (omega (arith, asked ask asks .1, asks .allowed)) (a .length .0) (asked ask asks .0) (asks .within) (omega (arith, counted .entries .ensures, c .if2 .taken)) in (
       λ ask asks. sym (is ask asks .outcome-is),
       (λ ask asks. sym (call-answer (a .answer .now) (is ask asks)), refl),
     )
@@ -87,7 +91,7 @@ returns-3 c =
     let least = subst (λ (g : Graph). leastLength g ≡ some (a .length .0)) (valid-graph v) (s .pre .1 .0) in
     let first = subst (λ (g : Graph). head? (roll g) ≡ some (upTo g (listed .to-first .last .1 .1 .1 .0) (a .length .0))) (valid-graph v) (stands-head (listed .to-first .ensures .0 .current)) in
     let both =
-    first-written (a .file .now) (v .accepted) (length (a .work .now)) (valid-room v (s .pre .0 .room)) (a .answer .now) _ _ (a .h .start) (a .length .0) (wrote .write-list .result) (a .rounds)
+    first-written (a .file .now) (a .h .table) (v .accepted) (v .table-limit) (length (a .work .now)) (valid-room v (s .pre .0 .room)) (a .answer .now) _ _ (a .h .start) (a .length .0) (wrote .write-list .result) (a .rounds)
     (sizes .start-is) (omega (arith, kept, s .pre .0 .room)) least first (omega (arith, entered .entries .ensures, roomy listed .if2 .left))
     (wrote .write-list .ensures .0 .0) rounds-are (wrote .write-list .ensures .1) in
     (λ ask asks. both ask asks .0, (λ ask asks. both ask asks .1, kept))

@@ -3,21 +3,23 @@
 use mathlib.Core.Path.{_≡_, refl, sym, _∙_, ap, subst}
 use Prim.Native.Nat.{ℕ, _≤_}
 use native.Mathlib.Omega.{arith}
+use mathlib.Core.Option.{none}
 use borrow.Author.Needs.{needs}
 use borrow.Author.Tests.{ltb-true, ltb-false}
 use lib.ListN.{length}
 use Rattle.lasso.specs.Graph.{Graph}
 use Rattle.lasso.specs.Roll.{ofLeast}
 use Rattle.lasso.specs.Rounds.{Record}
-use Rattle.model.specs.Model.{graphIn, graphOf}
-use Rattle.model.proofs.Laws.{valid-graph}
-use Rattle.outcomes.proofs.OutcomeLaws.{call-answer}
-use Rattle.gate.proofs.GateLaws.{valid-room, valid-clear}
+use Rattle.format.specs.Rules.{firstBroken}
+use Rattle.gate.specs.Gate.{namedRules}
+use Rattle.model.specs.Model.{graphIn}
+use Rattle.outcomes.proofs.OutcomeLaws.{call-answer, at-length}
+use Rattle.gate.proofs.GateLaws.{named-graph, valid-room, valid-clear}
 use Rattle.cursor.specs.Cursor.{BegunSays}
 use Rattle.cursor.specs.declared.Begun.{Begun}
 use Rattle.cursor.proofs.CursorLaws.{begun-least}
 use Rattle.outcomes.specs.Outcome.{answered}
-use Rattle.search.specs.Search.{stopped, noneWithin, searchOutcome, searchAnswer, AsksEnough}
+use Rattle.search.specs.Search.{stopped, noneWithin, graphAsked, searchOutcome, searchAnswer, AsksEnough}
 use Rattle.search.proofs.SearchLaws.{search-too-high, search-stopped, search-none}
 use Rattle.search.proofs.search_model.Statement.{statement}
 use Rattle.search.proofs.search_model.Tie as tie
@@ -36,16 +38,30 @@ done c = c .before .before
 not-high : (c : tie.After-begin) → start c .args .ask .ceiling .0 ≤ 4096
 not-high c = ltb-false 4096 _ (sym (low c .before .ceiling-too-high .ensures) ∙ low c .if1 .left)
 
+-- the graph read by the header is the one that the search is about
+asked-graph : (s : tie.Start) → graphIn (s .args .file .now) (s .args .h) ≡ graphAsked (s .args .file .now) (s .args .ask)
+asked-graph s = named-graph (s .pre .0 .0) (s .pre .0 .1)
+
+-- the search names mark table 0 or 1
+asked-one : (s : tie.Start) → s .args .ask .table ≤ 1
+asked-one s = omega (arith, s .pre .0 .0 .table-limit, s .pre .0 .1)
+
 -- what an answer of the rounds says, by its case
 says : (c : tie.After-begin) (r : Begun) → c .begin .result ≡ r
     → BegunSays (graphIn (start c .args .file .now) (start c .args .h)) (start c .args .ask .ceiling .0) (start c .args .ask .allowance) r
 says c r e = rw e at (c .begin .ensures .0)
 
--- the same of the file's graph
+-- the same of the graph of the file that the search is about
 says-file : (c : tie.After-begin) (r : Begun) → c .begin .result ≡ r
-    → BegunSays (graphOf (start c .args .file .now)) (start c .args .ask .ceiling .0) (start c .args .ask .allowance) r
+    → BegunSays (graphAsked (start c .args .file .now) (start c .args .ask)) (start c .args .ask .ceiling .0) (start c .args .ask .allowance) r
 says-file c r e =
-    subst (λ (g : Graph). BegunSays g (start c .args .ask .ceiling .0) (start c .args .ask .allowance) r) (valid-graph (start c .pre .0)) (says c r e)
+    subst (λ (g : Graph). BegunSays g (start c .args .ask .ceiling .0) (start c .args .ask .allowance) r) (asked-graph (start c)) (says c r e)
+
+-- none of 22 and 1 to 12 holds
+asked-clear : (s : tie.Start) → firstBroken (namedRules (s .args .file .now) (s .args .ask .table) (length (s .args .work .now))) ≡ none
+asked-clear s =
+    let work = length (s .args .work .now) in
+    subst (λ (t : ℕ). firstBroken (namedRules (s .args .file .now) t work) ≡ none) (s .pre .0 .1) (valid-clear (s .pre .0 .0) work (s .pre .1))
 
 ceiling-too-high-requires : tie.Need-ceiling-too-high-requires
 ceiling-too-high-requires c κs = search needs
@@ -55,7 +71,7 @@ returns c =
     let s = c .before .before .before .before .before in
     let a = s .args in
     let high = ltb-true 4096 _ (sym (c .before .ceiling-too-high .ensures) ∙ c .if1 .taken) in
-    let is = search-too-high (a .file .now) (a .ask) (length (a .answer .now)) (length (a .work .now)) (valid-clear (s .pre .0) _ (s .pre .1)) high in
+    let is = search-too-high (a .file .now) (a .ask) (length (a .answer .now)) (length (a .work .now)) (asked-clear s) high in
     (sym (is .outcome-is), (sym (call-answer (a .answer .now) is), refl))
 
 begin-requires : tie.Need-begin-requires
@@ -86,7 +102,7 @@ returns-2 c =
     let s = start begun in
     let a = s .args in
     let stop = says-file begun _ (c .before .begun .given .1) in
-    let is = search-stopped (a .file .now) (s .pre .0 .accepted) (a .ask) (length (a .answer .now)) (length (a .work .now)) (valid-room (s .pre .0) (s .pre .1)) (not-high begun) (stop .short) in (
+    let is = search-stopped (a .file .now) (s .pre .0 .0 .accepted) (a .ask) (length (a .answer .now)) (length (a .work .now)) (valid-room (s .pre .0 .0) (s .pre .1)) (asked-one s) (not-high begun) (stop .short) in (
       ap (λ (r : Record). answered (stopped r)) (stop .record-is) ∙ sym (is .outcome-is),
       (sym (call-answer (a .answer .now) is), begun .begin .ensures .1 .1),
     )
@@ -100,8 +116,8 @@ returns-3 c =
     let s = start begun in
     let a = s .args in
     let all = says-file begun _ (c .before .begun2 .given .1) in
-    let none-left = ap (ofLeast (graphOf (a .file .now))) (all .least-is) in
-    let is = search-none (a .file .now) (s .pre .0 .accepted) (a .ask) (length (a .answer .now)) (length (a .work .now)) (valid-room (s .pre .0) (s .pre .1)) (not-high begun) (all .enough) none-left in (
+    let none-left = ap (ofLeast (graphAsked (a .file .now) (a .ask))) (all .least-is) in
+    let is = search-none (a .file .now) (s .pre .0 .0 .accepted) (a .ask) (length (a .answer .now)) (length (a .work .now)) (valid-room (s .pre .0 .0) (s .pre .1)) (asked-one s) (not-high begun) (all .enough) none-left in (
       ap (λ (n : ℕ). answered (noneWithin n)) (all .rounds-are) ∙ sym (is .outcome-is),
       (sym (call-answer (a .answer .now) is), begun .begin .ensures .1 .1),
     )
@@ -120,11 +136,11 @@ returns-4 c =
     let a = start begun .args in
     let all = says begun _ (listed .begun3 .given .1) in
     let kept = begun .begin .ensures .1 .1 in
-    let asks : AsksEnough (listed .begun3 .given .0 .1 .0) (listed .begun3 .given .0 .0 .0) (a .ask) =
-    record { allowed = omega (arith, all .rounds-are, all .enough); within = begun-least all .1; not-high = not-high begun } in (
-      wrote .first-list .ensures .0 (a .ask) asks ∙ ap (λ (n : ℕ). searchOutcome (a .file .now) (a .ask) (length (a .answer .now)) n) kept,
+    let asks : AsksEnough (a .h .table) (listed .begun3 .given .0 .1 .0) (listed .begun3 .given .0 .0 .0) (a .ask) =
+    record { named = sym (start begun .pre .0 .1); allowed = omega (arith, all .rounds-are, all .enough); within = begun-least all .1; not-high = not-high begun } in (
+      at-length (λ n. searchOutcome (a .file .now) (a .ask) (length (a .answer .now)) n) (wrote .first-list .ensures .0 (a .ask) asks) kept,
       (
-        wrote .first-list .ensures .1 .0 (a .ask) asks ∙ ap (λ (n : ℕ). searchAnswer (a .file .now) (a .ask) (a .answer .now) n) kept,
+        at-length (λ n. searchAnswer (a .file .now) (a .ask) (a .answer .now) n) (wrote .first-list .ensures .1 .0 (a .ask) asks) kept,
         wrote .first-list .ensures .1 .1 ∙ kept,
       ),
     )

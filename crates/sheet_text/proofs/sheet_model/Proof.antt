@@ -11,8 +11,8 @@ use Rattle.lasso.specs.Graph.{Graph}
 use Rattle.lasso.specs.Roll.{leastLength}
 use Rattle.lasso.specs.Rounds.{candidates}
 use Rattle.model.specs.Model.{graphIn, graphOf}
-use Rattle.model.proofs.Laws.{valid-graph, valid-sizes}
-use Rattle.gate.proofs.GateLaws.{valid-room}
+use Rattle.model.proofs.Laws.{valid-sizes}
+use Rattle.gate.proofs.GateLaws.{named-graph, valid-room}
 use Rattle.cursor.specs.Cursor.{BegunSays}
 use Rattle.cursor.specs.declared.Begun.{Begun}
 use Rattle.cursor.proofs.CursorLaws.{never-stopped, full-least}
@@ -40,11 +40,11 @@ abbrev none-rounds : tie.After-begun → tie.After-begin
 none-rounds c = done (c .before .before)
 
 -- all of them are done: their number
-none-done : (c : tie.After-begun) → c .begun .given .0 .0 ≡ length (candidates (graphOf (start (none-rounds c) .args .file .now)))
+none-done : (c : tie.After-begun) → c .begun .given .0 .0 ≡ length (candidates (graphOf (start (none-rounds c) .args .file .now) 0))
 none-done c =
     let begun = none-rounds c in
     let all = says begun _ _ (begun .begin .ensures .0) (c .begun .given .1) in
-    subst (λ (g : Graph). c .begun .given .0 .0 ≡ length (candidates g)) (valid-graph (start begun .pre .0)) (all .rounds-are)
+    subst (λ (g : Graph). c .begun .given .0 .0 ≡ length (candidates g)) (named-graph (start begun .pre .0 .0) (start begun .pre .0 .1)) (all .rounds-are)
 
 begin-requires : tie.Need-begin-requires
 begin-requires c κs = search needs
@@ -62,7 +62,7 @@ write-head-requires : tie.Need-write-head-requires
 write-head-requires c κs =
     let told = c .before .before in
     let s = start (none-rounds told) in
-    omega (arith, head-fits (s .pre .0) (none-done told), s .pre .1 .1)
+    omega (arith, head-fits (s .pre .0 .0) (none-done told), s .pre .1 .1)
 
 slice-aggregate-write-bytes : tie.Need-slice-aggregate-write-bytes
 slice-aggregate-write-bytes c = search needs
@@ -73,7 +73,7 @@ write-bytes-requires c κs =
     let told = headed .before .before .before in
     let s = start (none-rounds told) in
     let w = headed .write-head .ensures in
-    omega (arith, head-fits (s .pre .0) (none-done told), s .pre .1 .1, w .place, wrote-length w)
+    omega (arith, head-fits (s .pre .0 .0) (none-done told), s .pre .1 .1, w .place, wrote-length w)
 
 enum-known-begun-2 : tie.Need-enum-known-begun-2
 enum-known-begun-2 c = search needs
@@ -83,7 +83,7 @@ write-shortest-requires c κs =
     let told = c .before .before .before .before in
     let begun = done (told .before .before) in
     let all = says begun _ _ (begun .begin .ensures .0) (told .begun2 .given .1) in
-    (begun .begin .ensures .1 .0, (full-least (start begun .pre .0) (omega (arith, valid-sizes (start begun .pre .0))) all, (all .rounds-are, start begun .pre .1 .1)))
+    ((begun .begin .ensures .1 .0, start begun .pre .0 .1), (full-least (start begun .pre .0 .0) (omega (arith, valid-sizes (start begun .pre .0 .0))) all, (all .rounds-are, start begun .pre .1 .1)))
 
 same-length : tie.Need-same-length
 same-length c = search needs
@@ -91,7 +91,7 @@ same-length c = search needs
 returns : tie.Need-returns
 returns c =
     let begun = done (c .before .before) in
-    absurd (never-stopped (start begun .pre .0) (says begun _ _ (begun .begin .ensures .0) (c .enum-told .given .1)))
+    absurd (never-stopped (start begun .pre .0 .0) (says begun _ _ (begun .begin .ensures .0) (c .enum-told .given .1)))
 
 same-length-2 : tie.Need-same-length-2
 same-length-2 c = search needs
@@ -107,8 +107,8 @@ returns-2 c =
     let begun = none-rounds told in
     let s = start begun in
     let a = s .args in
-    let v = s .pre .0 in
-    let none-least = subst (λ (g : Graph). leastLength g ≡ none) (valid-graph v) (full-least v (omega (arith, valid-sizes v)) (says begun _ _ (begun .begin .ensures .0) (told .begun .given .1))) in
+    let v = s .pre .0 .0 in
+    let none-least = subst (λ (g : Graph). leastLength g ≡ none) (named-graph v (s .pre .0 .1)) (full-least v (omega (arith, valid-sizes v)) (says begun _ _ (begun .begin .ensures .0) (told .begun .given .1))) in
     let is = sheet-none (a .file .now) (v .accepted) (length (a .answer .now)) (length (a .work .now)) (valid-room v (s .pre .1 .0)) none-least in (
       wrote-as (ap (λ (r : List ℕ). r ++ noneLine) (head-is v (none-done told)) ∙ sym (is .text-is)) (wrote-then (head .write-head .ensures) (end .write-bytes .ensures)),
       (sym (sheet-answer (a .answer .now) is), begun .begin .ensures .1 .1),

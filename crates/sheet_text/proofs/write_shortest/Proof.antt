@@ -12,8 +12,8 @@ use Rattle.lasso.specs.Roll.{leastLength, roll}
 use Rattle.lasso.specs.Rounds.{candidates}
 use Rattle.lasso.proofs.RollLaws.{leastLength-range}
 use Rattle.model.specs.Model.{graphOf}
-use Rattle.model.proofs.Laws.{valid-graph, valid-sizes}
-use Rattle.gate.proofs.GateLaws.{valid-room}
+use Rattle.model.proofs.Laws.{valid-sizes}
+use Rattle.gate.proofs.GateLaws.{named-graph, valid-room}
 use Rattle.outcomes.specs.Tables.{written}
 use Rattle.text.specs.Figure.{figure}
 use Rattle.text.proofs.WroteLaws.{wrote-length, wrote-then, wrote-as}
@@ -44,29 +44,29 @@ abbrev figured : tie.After-write-lists → tie.After-write-figure
 figured c = c .before .before .before .before .before .before
 
 -- the length is the least of an accepting path of the file
-least : (s : tie.Start) → leastLength (graphOf (s .args .file .now)) ≡ some (s .args .length .0)
-least s = subst (λ (g : Graph). leastLength g ≡ some (s .args .length .0)) (valid-graph (s .pre .0 .valid)) (s .pre .1 .0)
+least : (s : tie.Start) → leastLength (graphOf (s .args .file .now) 0) ≡ some (s .args .length .0)
+least s = subst (λ (g : Graph). leastLength g ≡ some (s .args .length .0)) (named-graph (s .pre .0 .0 .valid) (s .pre .0 .1)) (s .pre .1 .0)
 
 -- the rounds are as many as the file has candidates
-rounds-are : (s : tie.Start) → s .args .rounds ≡ length (candidates (graphOf (s .args .file .now)))
-rounds-are s = subst (λ (g : Graph). s .args .rounds ≡ length (candidates g)) (valid-graph (s .pre .0 .valid)) (s .pre .1 .1 .0)
+rounds-are : (s : tie.Start) → s .args .rounds ≡ length (candidates (graphOf (s .args .file .now) 0))
+rounds-are s = subst (λ (g : Graph). s .args .rounds ≡ length (candidates g)) (named-graph (s .pre .0 .0 .valid) (s .pre .0 .1)) (s .pre .1 .1 .0)
 
 -- no accepting path is longer than there are states
 length-range : (s : tie.Start) → s .args .length .0 ≤ 4096
 length-range s =
-    let sizes = valid-sizes (s .pre .0 .valid) in
-    omega (arith, leastLength-range (graphOf (s .args .file .now)) (s .args .length .0) (least s))
+    let sizes = valid-sizes (s .pre .0 .0 .valid) in
+    omega (arith, leastLength-range (graphOf (s .args .file .now) 0) (s .args .length .0) (least s))
 
 -- the sheet of a file with lists that have room
 lists-are : (c : tie.Else1) → let a = start (counted c) .args in
     SheetIs (a .file .now) (length (a .answer .now)) (length (a .work .now))
-    (headOf (a .file .now) ++ figure shortestWord (a .length .0) ++ listsText (roll (graphOf (a .file .now))))
-    (lastPrinted (roll (graphOf (a .file .now))))
+    (headOf (a .file .now) ++ figure shortestWord (a .length .0) ++ listsText (roll (graphOf (a .file .now) 0)))
+    (lastPrinted (roll (graphOf (a .file .now) 0)))
 lists-are c =
     let s = start (counted c) in
     let a = s .args in
-    let v = s .pre .0 .valid in
-    sheet-lists (a .file .now) (v .accepted) (length (a .answer .now)) (length (a .work .now)) (valid-room v (s .pre .0 .room)) (a .length .0) (least s)
+    let v = s .pre .0 .0 .valid in
+    sheet-lists (a .file .now) (v .accepted) (length (a .answer .now)) (length (a .work .now)) (valid-room v (s .pre .0 .0 .room)) (a .length .0) (least s)
     (omega (arith, counted c .entries .ensures, c .if1 .left))
 
 entries-requires : tie.Need-entries-requires
@@ -87,14 +87,14 @@ returns c =
     let before = then .before .before .before in
     let s = start before in
     let a = s .args in
-    let v = s .pre .0 .valid in
-    let is = sheet-no-room (a .file .now) (v .accepted) (length (a .answer .now)) (length (a .work .now)) (valid-room v (s .pre .0 .room)) (a .length .0) (least s) (omega (arith, before .entries .ensures, then .if1 .taken)) in
+    let v = s .pre .0 .0 .valid in
+    let is = sheet-no-room (a .file .now) (v .accepted) (length (a .answer .now)) (length (a .work .now)) (valid-room v (s .pre .0 .0 .room)) (a .length .0) (least s) (omega (arith, before .entries .ensures, then .if1 .taken)) in
     (wrote-as (sym (is .text-is)) (done .write-refusal .ensures), (sym (sheet-answer (a .answer .now) is), refl))
 
 write-head-requires : tie.Need-write-head-requires
 write-head-requires c κs =
     let s = start (counted (c .before)) in
-    omega (arith, head-fits (s .pre .0 .valid) (rounds-are s), s .pre .1 .1 .1)
+    omega (arith, head-fits (s .pre .0 .0 .valid) (rounds-are s), s .pre .1 .1 .1)
 
 number-requires : tie.Need-number-requires
 number-requires c κs = search needs
@@ -108,7 +108,7 @@ write-figure-requires c κs =
     let s = origin head in
     let w = head .write-head .ensures in
     let number = c .before .before .number in
-    omega (arith, head-fits (s .pre .0 .valid) (rounds-are s), figure-room shortestWord (number .result) (omega (arith, number .ensures, length-range s)), s .pre .1 .1 .1, w .place, wrote-length w)
+    omega (arith, head-fits (s .pre .0 .0 .valid) (rounds-are s), figure-room shortestWord (number .result) (omega (arith, number .ensures, length-range s)), s .pre .1 .1 .1, w .place, wrote-length w)
 
 write-lists-requires : tie.Need-write-lists-requires
 write-lists-requires c κs =
@@ -119,12 +119,12 @@ write-lists-requires c κs =
     let w = head .write-head .ensures in
     let v = figure .write-figure .ensures in
     let number = figure .before .before .before .number in (
-      s .pre .0,
+      s .pre .0 .0,
       (
         s .pre .1 .0,
         (
           omega (arith, counted else .entries .ensures, else .if1 .left),
-          omega (arith, head-fits (s .pre .0 .valid) (rounds-are s), figure-room shortestWord (number .result) (omega (arith, number .ensures, length-range s)), s .pre .1 .1 .1, w .place, v .place, wrote-length w, wrote-length v),
+          omega (arith, head-fits (s .pre .0 .0 .valid) (rounds-are s), figure-room shortestWord (number .result) (omega (arith, number .ensures, length-range s)), s .pre .1 .1 .1, w .place, v .place, wrote-length w, wrote-length v),
         ),
       ),
     )
@@ -146,11 +146,11 @@ returns-2 c =
     let s = origin head in
     let is = lists-are (head .before .before) in
     let a = s .args in
-    let v = s .pre .0 .valid in
-    let g-is = valid-graph v in
+    let v = s .pre .0 .0 .valid in
+    let g-is = named-graph v (s .pre .0 .1) in
     let same-text = ap (λ (g : Graph). listsText (roll g)) g-is in
     let same-answer = ap (λ (g : Graph). written (lastPrinted (roll g)) (a .answer .now)) g-is in (
-      wrote-as (ap (λ (r : List ℕ). r ++ figure shortestWord (a .length .0) ++ listsText (roll (graphOf (a .file .now)))) (head-is v (rounds-are s)) ∙ sym (is .text-is))
+      wrote-as (ap (λ (r : List ℕ). r ++ figure shortestWord (a .length .0) ++ listsText (roll (graphOf (a .file .now) 0))) (head-is v (rounds-are s)) ∙ sym (is .text-is))
           (wrote-then (wrote-then (head .write-head .ensures) (wrote-as (ap (figure shortestWord) (length-line .before .before .before .number .ensures)) (length-line .write-figure .ensures))) (wrote-as same-text (lists .write-lists .ensures .0))),
       (lists .write-lists .ensures .1 .0 ∙ same-answer ∙ sym (sheet-answer (a .answer .now) is), lists .write-lists .ensures .1 .1),
     )

@@ -42,7 +42,7 @@ returns : tie.Need-returns
 returns c =
     let s = c .before .before .before .before in
     let a = s .args in (
-      step-too-high (a .file .now) (a .ceiling .0) (recordOf (a .so-far)) _ (valid-clear (s .pre .0) _ (s .pre .1))
+      step-too-high (a .file .now) (a .h .table) (a .ceiling .0) (recordOf (a .so-far)) _ (valid-clear (s .pre .0) _ (s .pre .1))
           (ltb-true 4096 _ (sym (c .before .ceiling-too-high .ensures) ∙ c .if1 .taken)),
       refl,
     )
@@ -65,7 +65,7 @@ returns-2 c =
     let s = start counted in
     let a = s .args in
     let none-left : length (candidates (graphIn (a .file .now) (a .h))) ≤ a .so-far .done = omega (arith, counted .count-candidates .ensures, c .if2 .taken) in (
-      step-finished (a .file .now) (a .ceiling .0) (recordOf (a .so-far)) _ (valid-clear (s .pre .0) _ (s .pre .1)) (not-high counted)
+      step-finished (a .file .now) (a .h .table) (a .ceiling .0) (recordOf (a .so-far)) _ (valid-clear (s .pre .0) _ (s .pre .1)) (not-high counted)
           (subst (λ (g : Graph). length (candidates g) ≤ a .so-far .done) (valid-graph (s .pre .0)) none-left),
       started counted .start-distances .ensures .same-length,
     )
@@ -87,7 +87,7 @@ returns-3 c =
     let s = start counted in
     let a = s .args in
     let g-is = valid-graph (s .pre .0) in (
-      step-advanced (a .file .now) (a .ceiling .0) (recordOf (a .so-far)) _ (valid-clear (s .pre .0) _ (s .pre .1)) (not-high counted)
+      step-advanced (a .file .now) (a .h .table) (a .ceiling .0) (recordOf (a .so-far)) _ (valid-clear (s .pre .0) _ (s .pre .1)) (not-high counted)
           (subst (λ (g : Graph). a .so-far .done < length (candidates g)) g-is (left-over else)) _
           (subst (λ (g : Graph). recordOf (done .next-round .result) ≡ afterRound g (a .ceiling .0) (recordOf (a .so-far))) g-is (done .next-round .ensures .0)),
       done .next-round .ensures .1 .same-length ∙ started counted .start-distances .ensures .same-length,

@@ -5,10 +5,10 @@ use Rattle.cases.proofs.sweeps.show_counts.Statement.{statement}
 use Rattle.cases.proofs.sweeps.show_counts.Tie as tie
 
 abbrev Inv-loop : tie.InvT-loop
-Inv-loop counts refusal₀ refusal = refusal ≤ 22
+Inv-loop counts refusal₀ refusal = refusal ≤ 23
 
 abbrev μ-loop : tie.MeasureT-loop
-μ-loop counts refusal₀ refusal = 22 - refusal
+μ-loop counts refusal₀ refusal = 23 - refusal
 
 loop-holds : tie.Need-loop-holds Inv-loop μ-loop
 loop-holds c = search needs

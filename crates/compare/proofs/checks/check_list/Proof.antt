@@ -7,10 +7,10 @@ use Rattle.compare.proofs.checks.check_list.Statement.{statement}
 use Rattle.compare.proofs.checks.check_list.Tie as tie
 
 abbrev Inv-loop : tie.InvT-loop
-Inv-loop t roll file list entries tally₀ turn₀ tally turn = (turn ≤ 9 * entries + 15) × (length tally ≡ length tally₀)
+Inv-loop t roll file markTable list entries tally₀ turn₀ tally turn = (turn ≤ 9 * entries + 15) × (length tally ≡ length tally₀)
 
 abbrev μ-loop : tie.MeasureT-loop
-μ-loop t roll file list entries tally₀ turn₀ tally turn = 9 * entries + 15 - turn
+μ-loop t roll file markTable list entries tally₀ turn₀ tally turn = 9 * entries + 15 - turn
 
 loop-holds : tie.Need-loop-holds Inv-loop μ-loop
 loop-holds c = search needs

@@ -7,10 +7,10 @@ use Rattle.compare.proofs.checks.check_lists.Statement.{statement}
 use Rattle.compare.proofs.checks.check_lists.Tie as tie
 
 abbrev Inv-loop : tie.InvT-loop
-Inv-loop t roll file tally₀ place₀ tally place = (place ≤ length roll) × (length tally ≡ length tally₀)
+Inv-loop t roll file markTable tally₀ place₀ tally place = (place ≤ length roll) × (length tally ≡ length tally₀)
 
 abbrev μ-loop : tie.MeasureT-loop
-μ-loop t roll file tally₀ place₀ tally place = length roll - place
+μ-loop t roll file markTable tally₀ place₀ tally place = length roll - place
 
 loop-holds : tie.Need-loop-holds Inv-loop μ-loop
 loop-holds c = search needs

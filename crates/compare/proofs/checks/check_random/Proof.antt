@@ -7,10 +7,10 @@ use Rattle.compare.proofs.checks.check_random.Statement.{statement}
 use Rattle.compare.proofs.checks.check_random.Tie as tie
 
 abbrev Inv-loop : tie.InvT-loop
-Inv-loop m t roll file tally₀ x₀ turn₀ tally x turn = (turn ≤ 6) × (length tally ≡ length tally₀)
+Inv-loop m t roll file markTable tally₀ x₀ turn₀ tally x turn = (turn ≤ 6) × (length tally ≡ length tally₀)
 
 abbrev μ-loop : tie.MeasureT-loop
-μ-loop m t roll file tally₀ x₀ turn₀ tally x turn = 6 - turn
+μ-loop m t roll file markTable tally₀ x₀ turn₀ tally x turn = 6 - turn
 
 check-next-requires : tie.Need-check-next-requires Inv-loop μ-loop
 check-next-requires c κs = search needs

@@ -7,10 +7,10 @@ use Rattle.compare.proofs.checks.check_searches.Statement.{statement}
 use Rattle.compare.proofs.checks.check_searches.Tie as tie
 
 abbrev Inv-loop : tie.InvT-loop
-Inv-loop t within roll ceiling file tally₀ end turn₀ tally turn = (turn ≤ 5 * (end + 1)) × (length tally ≡ length tally₀)
+Inv-loop t within roll ceiling file markTable tally₀ end turn₀ tally turn = (turn ≤ 5 * (end + 1)) × (length tally ≡ length tally₀)
 
 abbrev μ-loop : tie.MeasureT-loop
-μ-loop t within roll ceiling file tally₀ end turn₀ tally turn = 5 * (end + 1) - turn
+μ-loop t within roll ceiling file markTable tally₀ end turn₀ tally turn = 5 * (end + 1) - turn
 
 rounds-requires : tie.Need-rounds-requires Inv-loop μ-loop
 rounds-requires c κs = search needs

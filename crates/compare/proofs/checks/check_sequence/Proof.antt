@@ -7,10 +7,10 @@ use Rattle.compare.proofs.checks.check_sequence.Statement.{statement}
 use Rattle.compare.proofs.checks.check_sequence.Tie as tie
 
 abbrev Inv-loop : tie.InvT-loop
-Inv-loop t roll file tally₀ s₀ got₀ tally s got = (got ≤ 1000) × (length tally ≡ length tally₀)
+Inv-loop t roll file markTable tally₀ s₀ got₀ tally s got = (got ≤ 1000) × (length tally ≡ length tally₀)
 
 abbrev μ-loop : tie.MeasureT-loop
-μ-loop t roll file tally₀ s₀ got₀ tally s got = 1000 - got
+μ-loop t roll file markTable tally₀ s₀ got₀ tally s got = 1000 - got
 
 check-search-requires : tie.Need-check-search-requires Inv-loop μ-loop
 check-search-requires c κs = search needs

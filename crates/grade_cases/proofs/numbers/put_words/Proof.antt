@@ -7,10 +7,10 @@ use Rattle.grade_cases.proofs.numbers.put_words.Statement.{statement}
 use Rattle.grade_cases.proofs.numbers.put_words.Tie as tie
 
 abbrev Inv-loop : tie.InvT-loop
-Inv-loop words file₀ i₀ file i = (i ≤ 12600) × (length file ≡ length file₀)
+Inv-loop words file₀ i₀ file i = (i ≤ 12850) × (length file ≡ length file₀)
 
 abbrev μ-loop : tie.MeasureT-loop
-μ-loop words file₀ i₀ file i = 12600 - i
+μ-loop words file₀ i₀ file i = 12850 - i
 
 loop-holds : tie.Need-loop-holds Inv-loop μ-loop
 loop-holds c = omega arith

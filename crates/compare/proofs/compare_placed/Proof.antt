@@ -1,18 +1,18 @@
--- `compare::compare_model` meets its contract: the file has as many bytes as its length says.
+-- `compare::compare_placed` meets its contract: the file has as many bytes as its length says.
 use borrow.Author.Needs.{needs}
 use native.Mathlib.Omega.{arith}
 use Prim.Native.Nat.{_≤_}
 use mathlib.Core.Path.{sym}
 use lib.ListN.{length}
 use lib.Seq.{length-take-le}
-use Rattle.compare.proofs.compare_model.Statement.{statement}
-use Rattle.compare.proofs.compare_model.Tie as tie
+use Rattle.compare.proofs.compare_placed.Statement.{statement}
+use Rattle.compare.proofs.compare_placed.Tie as tie
 
-slice-aggregate-write : tie.Need-slice-aggregate-write
-slice-aggregate-write c = search needs
+slice-aggregate-write-placed : tie.Need-slice-aggregate-write-placed
+slice-aggregate-write-placed c = search needs
 
-write-requires : tie.Need-write-requires
-write-requires c κs = search needs
+write-placed-requires : tie.Need-write-placed-requires
+write-placed-requires c κs = search needs
 
 slice-aggregate-explore : tie.Need-slice-aggregate-explore
 slice-aggregate-explore c = search needs
@@ -31,7 +31,7 @@ array-share-prefix-file c = search needs
 
 slice-aggregate-compare-file-2 : tie.Need-slice-aggregate-compare-file-2
 slice-aggregate-compare-file-2 c =
-    let w = c .before .before .before .before .before .before .before .before .before .before .write in
+    let w = c .before .before .before .before .before .before .before .before .before .before .write-placed in
     let fits : w .result ≤ length (w .last .0) = omega arith in
     sym (length-take-le _ _ fits)
 
@@ -44,12 +44,12 @@ same-length c = search needs
 returns : tie.Need-returns
 returns c = search needs
 
-pub compare-model-spec : {M : Type 1} → statement M
-compare-model-spec =
+pub compare-placed-spec : {M : Type 1} → statement M
+compare-placed-spec =
     tie.close
     (tie.spec
-    slice-aggregate-write
-    write-requires
+    slice-aggregate-write-placed
+    write-placed-requires
     slice-aggregate-explore
     explore-requires
     counted-requires

@@ -4,21 +4,30 @@ use mathlib.Core.Path.{_≡_}
 use mathlib.Core.List.{List, [], _∷_, map}
 use mathlib.Core.Option.{Option, some, none}
 use Rattle.format.specs.Layout.{states}
-use Rattle.outcomes.specs.Outcome.{Outcome, answered}
+use Rattle.outcomes.specs.Outcome.{Outcome, refused, answered}
 use Rattle.grader.specs.Grade.{Said, accepting, shortest, Grade, gradeOutcome}
-use Rattle.sequence.specs.Examples.{fileA, fileA1, fileB, fileD, fileH}
+use Rattle.examples.specs.Examples.{fileA, fileA1, fileB, fileD, fileD2, fileH}
 
--- A row of the table: a file, a list with a claimed k, the verdict expected, and the first place expected to break, if any.
+-- A row of the table: a file, a mark table, a list with a claimed k, and the answer expected.
 pub record GradeRow : Type 0 where
   pub file : List ℕ
+  pub table : ℕ
   pub list : List ℕ
   pub k : ℕ
-  pub verdict : Said
-  pub place : Option ℕ
+  pub answer : Outcome Grade
 
--- the row of a list
+-- the row of a list by a mark table: the verdict, and the first place that breaks, if any
+abbrev pub gradesNaming : List ℕ → (t : ℕ) → List ℕ → ℕ → Said → Option ℕ → GradeRow
+gradesNaming f t xs k v p =
+    record { file = f; table = t; list = xs; k = k; answer = answered (record { verdict = v; place = p }) }
+
+-- the row of a list by table 0
 abbrev pub grades : List ℕ → List ℕ → ℕ → Said → Option ℕ → GradeRow
-grades f xs k v p = record { file = f; list = xs; k = k; verdict = v; place = p }
+grades f xs k v p = gradesNaming f 0 xs k v p
+
+-- the row of a list by table 2, which is refused
+abbrev pub gradeRefused : List ℕ → List ℕ → ℕ → GradeRow
+gradeRefused f xs k = record { file = f; table = 2; list = xs; k = k; answer = refused 22 }
 
 -- the lists graded
 abbrev pub gradeRows : List GradeRow
@@ -52,16 +61,21 @@ gradeRows =
     grades fileB (0 ∷ 0 ∷ []) 0 shortest none ∷
     -- A with 1 and with 0 in bytes 6–7
     grades fileA1 (0 ∷ 0 ∷ []) 0 shortest none ∷
-    grades fileA (0 ∷ 0 ∷ []) 0 Said.false (some 1) ∷ []
+    grades fileA (0 ∷ 0 ∷ []) 0 Said.false (some 1) ∷
+    -- D with two tables: table 0 marks both lists, table 1 the first alone
+    gradesNaming fileD2 0 (0 ∷ 2 ∷ 3 ∷ 2 ∷ []) 1 shortest none ∷
+    gradesNaming fileD2 1 (0 ∷ 1 ∷ 3 ∷ 1 ∷ []) 1 shortest none ∷
+    gradesNaming fileD2 1 (0 ∷ 2 ∷ 3 ∷ 2 ∷ []) 1 Said.false none ∷
+    -- D with one table: table 1 holds no marks
+    gradesNaming fileD 1 (0 ∷ 1 ∷ 3 ∷ 1 ∷ []) 1 Said.false none ∷
+    -- table 2, also with an empty file
+    gradeRefused fileD (0 ∷ 1 ∷ 3 ∷ 1 ∷ []) 1 ∷
+    gradeRefused [] [] 0 ∷ []
 
 -- what the grader answers at a row, with 6 × N working entries
 abbrev pub gradeGiven : GradeRow → Outcome Grade
-gradeGiven r = gradeOutcome (r .file) (r .list) (r .k) (6 * states (r .file))
-
--- the grade of a row
-abbrev pub gradeExpected : GradeRow → Outcome Grade
-gradeExpected r = answered (record { verdict = r .verdict; place = r .place })
+gradeGiven r = gradeOutcome (r .file) (r .table) (r .list) (r .k) (6 * states (r .file))
 
 -- every row is graded as expected
 abbrev pub GradesHold : Type 0
-GradesHold = map gradeGiven gradeRows ≡ map gradeExpected gradeRows
+GradesHold = map gradeGiven gradeRows ≡ map (λ (r : GradeRow). r .answer) gradeRows

@@ -8,11 +8,12 @@ use Rattle.lasso.specs.Lists.{memb}
 use Rattle.lasso.specs.Graph.{Graph}
 use Rattle.format.specs.Layout.{states}
 use Rattle.writer.specs.File.{word16, fileOf}
-use Rattle.gate.specs.Gate.{asking}
+use Rattle.gate.specs.declared.Ask.{Ask}
+use Rattle.gate.specs.Gate.{asking, zeros}
 use Rattle.outcomes.specs.Outcome.{Outcome, refused, answered}
 use Rattle.search.specs.Search.{Searched, stopped, noneWithin}
 use Rattle.next.specs.Next.{Followed, noMore}
 use Rattle.sequence.specs.Calls.{Call, search, next, Answer, ofSearch, ofNext, Result, finderAt}
 
 -- the model with the initial state, the successors of each state, and the marked states
 abbrev pub graphWith : ℕ → List (List ℕ) → List ℕ → Graph
@@ -59,14 +60,22 @@ fileG = fileOf (graphWith 0 ((1 ∷ []) ∷ (1 ∷ []) ∷ []) (1 ∷ []))
 abbrev pub fileH : List ℕ
 fileH = fileOf (graphWith 0 ((1 ∷ 5 ∷ []) ∷ (2 ∷ []) ∷ (3 ∷ []) ∷ (4 ∷ []) ∷ (1 ∷ []) ∷ (6 ∷ []) ∷ (6 ∷ []) ∷ []) (1 ∷ 6 ∷ []))
 
--- D's bytes as the paper gives them: header, offsets and total, rows, targets, mark byte
-abbrev pub bytesD : List ℕ
-bytesD =
+-- D's bytes with a total and marks: header, offsets and total, rows, targets, marks
+abbrev pub bytesWith : (total : ℕ) → (marks : List ℕ) → List ℕ
+bytesWith total marks =
     5 ∷ 0 ∷ 7 ∷ 0 ∷ 0 ∷ 0 ∷ 0 ∷ 0 ∷
-    24 ∷ 0 ∷ 0 ∷ 0 ∷ 36 ∷ 0 ∷ 0 ∷ 0 ∷ 50 ∷ 0 ∷ 0 ∷ 0 ∷ 51 ∷ 0 ∷ 0 ∷ 0 ∷
+    24 ∷ 0 ∷ 0 ∷ 0 ∷ 36 ∷ 0 ∷ 0 ∷ 0 ∷ 50 ∷ 0 ∷ 0 ∷ 0 ∷ total ∷ 0 ∷ 0 ∷ 0 ∷
     0 ∷ 0 ∷ 2 ∷ 0 ∷ 3 ∷ 0 ∷ 4 ∷ 0 ∷ 6 ∷ 0 ∷ 7 ∷ 0 ∷
     1 ∷ 0 ∷ 2 ∷ 0 ∷ 3 ∷ 0 ∷ 3 ∷ 0 ∷ 1 ∷ 0 ∷ 2 ∷ 0 ∷ 4 ∷ 0 ∷
-    24 ∷ []
+    marks
+
+-- D's bytes as the paper gives them
+abbrev pub bytesD : List ℕ
+bytesD = bytesWith 51 (24 ∷ [])
+
+-- D with a second mark table, which marks state 1
+abbrev pub fileD2 : List ℕ
+fileD2 = bytesWith 52 (24 ∷ 2 ∷ [])
 
 -- A row of the table: a file, the call on it, the answer expected, and the list expected to be written, empty if none is.
 pub record Row : Type 0 where
@@ -83,23 +92,36 @@ lentAnswer = replicate 8 9
 abbrev pub lentWork : List ℕ → List ℕ
 lentWork f = replicate (6 * states f) 9
 
--- a search of the file with a ceiling and an allowance
-abbrev pub searchOf : List ℕ → (ceiling allowance : ℕ) → Call
-searchOf f ceiling allowance = search (asking ceiling allowance) lentAnswer (lentWork f)
+-- the row of a search that asks so
+abbrev pub rowAsking : List ℕ → Ask → Outcome Searched → List ℕ → Row
+rowAsking f ask o list =
+    record { file = f; call = search ask lentAnswer (lentWork f); answer = ofSearch o; list = list }
 
--- the row of a search with a ceiling that is not refused
+-- the row of a search of table 0 with a ceiling that is not refused
 abbrev pub rowWithin : List ℕ → (ceiling allowance : ℕ) → Searched → List ℕ → Row
-rowWithin f ceiling allowance s list =
-    record { file = f; call = searchOf f ceiling allowance; answer = ofSearch (answered s); list = list }
+rowWithin f ceiling allowance s list = rowAsking f (asking 0 ceiling allowance) (answered s) list
 
--- the row of a search with the greatest ceiling
+-- the row of a search of table 0 with the greatest ceiling
 abbrev pub searchRow : List ℕ → (allowance : ℕ) → Searched → List ℕ → Row
 searchRow f allowance s list = rowWithin f 4096 allowance s list
 
--- the row of a next after an earlier list
+-- the row of a search that names a table, with the greatest ceiling
+abbrev pub searchNaming : List ℕ → (t allowance : ℕ) → Outcome Searched → List ℕ → Row
+searchNaming f t allowance o list = rowAsking f (asking t 4096 allowance) o list
+
+-- the row of a next that names a table, after an earlier list
+abbrev pub nextNaming : List ℕ → (t : ℕ) → List ℕ → Outcome Followed → List ℕ → Row
+nextNaming f t earlier o list =
+    record { file = f; call = next t earlier lentAnswer (lentWork f); answer = ofNext o; list = list }
+
+-- the row of a next of table 0 after an earlier list
 abbrev pub nextRow : List ℕ → List ℕ → Outcome Followed → List ℕ → Row
-nextRow f earlier o list =
-    record { file = f; call = next earlier lentAnswer (lentWork f); answer = ofNext o; list = list }
+nextRow f earlier o list = nextNaming f 0 earlier o list
+
+-- the row of a search that names table 2, lent so many working entries: refused with 22
+abbrev pub tableTwo : List ℕ → (work : ℕ) → Row
+tableTwo f work =
+    record { file = f; call = search (asking 2 4096 65535) lentAnswer (replicate work 9); answer = ofSearch (refused 22); list = [] }
 
 -- H's row for an allowance that suffices
 abbrev pub rowH : ℕ → Row
@@ -141,11 +163,33 @@ examples =
     rowWithin fileH 3 2 (Searched.found 3 2 2) (0 ∷ 5 ∷ 6 ∷ 6 ∷ []) ∷
     rowWithin fileH 2 2 (noneWithin 2) [] ∷
     -- H1 with ceiling 4
-    rowWithin fileH 4 1 (stopped (record { done = 1; best = none })) [] ∷ []
+    rowWithin fileH 4 1 (stopped (record { done = 1; best = none })) [] ∷
+    -- D with two tables: table 0 is D's
+    searchNaming fileD2 0 65535 (answered (Searched.found 3 1 1)) (0 ∷ 1 ∷ 3 ∷ 1 ∷ []) ∷
+    nextNaming fileD2 0 (0 ∷ 1 ∷ 3 ∷ 1 ∷ []) (answered (Followed.found 3 1)) (0 ∷ 2 ∷ 3 ∷ 2 ∷ []) ∷
+    nextNaming fileD2 0 (0 ∷ 2 ∷ 3 ∷ 2 ∷ []) (answered noMore) [] ∷
+    -- its table 1, which marks no state of the second list
+    searchNaming fileD2 1 65535 (answered (Searched.found 3 1 1)) (0 ∷ 1 ∷ 3 ∷ 1 ∷ []) ∷
+    nextNaming fileD2 1 (0 ∷ 1 ∷ 3 ∷ 1 ∷ []) (answered noMore) [] ∷
+    nextNaming fileD2 1 (0 ∷ 2 ∷ 3 ∷ 2 ∷ []) (refused 13) [] ∷
+    -- D with one table: table 1 holds no marks
+    searchNaming fileD 1 0 (answered (noneWithin 0)) [] ∷
+    searchNaming fileD 1 65535 (answered (noneWithin 0)) [] ∷
+    nextNaming fileD 1 (0 ∷ 1 ∷ 3 ∷ 1 ∷ []) (refused 13) [] ∷
+    -- table 2: with D, with a working table that is too short, and with an empty file
+    nextNaming fileD 2 (0 ∷ 1 ∷ 3 ∷ 1 ∷ []) (refused 22) [] ∷
+    tableTwo fileD 30 ∷
+    tableTwo fileD 29 ∷
+    tableTwo [] 3 ∷ []
 
 -- what the finder does at a row's call
 abbrev pub given : Row → Result
 given r = finderAt (r .file) (r .call)
+
+-- the working table lent with a call
+abbrev pub workLent : Call → List ℕ
+workLent (search ask a w) = w
+workLent (next t earlier a w) = w
 
 -- what is expected: the row's answer; its list from entry 0 of the answer table on, later entries as they were lent; and
 -- the working table all zero
@@ -154,7 +198,7 @@ expected r =
     record {
       answer = r .answer;
       table = r .list ++ replicate (8 - length (r .list)) 9;
-      work = replicate (6 * states (r .file)) 0;
+      work = zeros (workLent (r .call));
     }
 
 -- The examples hold: each row gives what is expected; H does with any allowance from 2 on; and the file of D is the

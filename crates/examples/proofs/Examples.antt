@@ -10,14 +10,14 @@ use Rattle.outcomes.specs.Outcome.{Outcome, answered}
 use Rattle.outcomes.proofs.OutcomeLaws.{call-answer}
 use Rattle.search.specs.Search.{Searched, searchAnswer}
 use Rattle.search.proofs.SearchLaws.{SearchIs, search-found}
 use Rattle.sequence.specs.Calls.{ofSearch}
-use Rattle.sequence.specs.Examples.{fileH, lentAnswer, rowH, given, expected, ExamplesHold}
+use Rattle.examples.specs.Examples.{fileH, lentAnswer, rowH, given, expected, ExamplesHold}
 
 -- a search of H with allowance 2 or more finds the list with its figures
 H-found : (allowance : ℕ) → 2 ≤ allowance
-    → SearchIs fileH (asking 4096 allowance) 8 42 (answered (Searched.found 3 2 2)) (some (0 ∷ 5 ∷ 6 ∷ 6 ∷ []))
+    → SearchIs fileH (asking 0 4096 allowance) 8 42 (answered (Searched.found 3 2 2)) (some (0 ∷ 5 ∷ 6 ∷ 6 ∷ []))
 H-found allowance h =
-    search-found fileH refl (asking 4096 allowance) 8 42 (omega arith) (omega arith) h (0 ∷ 5 ∷ 6 ∷ 6 ∷ []) refl (omega arith)
+    search-found fileH refl (asking 0 4096 allowance) 8 42 (omega arith) (omega arith) (omega arith) h (0 ∷ 5 ∷ 6 ∷ 6 ∷ []) refl (omega arith)
 
 -- so it gives what is expected
 H-given : (allowance : ℕ) → 2 ≤ allowance → given (rowH allowance) ≡ expected (rowH allowance)
@@ -25,7 +25,7 @@ H-given allowance h =
     let s = H-found allowance h in
     let zeros : List ℕ = replicate 42 0 in
     ap
-    (λ (o : Outcome Searched). record { answer = ofSearch o; table = searchAnswer fileH (asking 4096 allowance) lentAnswer 42; work = zeros })
+    (λ (o : Outcome Searched). record { answer = ofSearch o; table = searchAnswer fileH (asking 0 4096 allowance) lentAnswer 42; work = zeros })
     (s .outcome-is)
     ∙ ap
     (λ (t : List ℕ). record { answer = ofSearch (answered (Searched.found 3 2 2)); table = t; work = zeros })

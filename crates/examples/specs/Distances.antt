@@ -6,7 +6,7 @@ use lib.ListN.{length, drop}
 use Rattle.format.specs.Layout.{states}
 use Rattle.outcomes.specs.Outcome.{Outcome, answered}
 use Rattle.distances.specs.Distances.{distancesOutcome, distancesOutput}
-use Rattle.sequence.specs.Examples.{fileA, fileA1, fileD, fileH, lentAnswer}
+use Rattle.examples.specs.Examples.{fileA, fileA1, fileD, fileH, lentAnswer}
 
 -- A row of the table: a file, a ceiling, and the entries expected, one for each state.
 pub record DistanceRow : Type 0 where
