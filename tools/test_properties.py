@@ -10,8 +10,8 @@ import tempfile
 
 from modelfile import ALL_LETTERS, Model, Property, below, combine, decode, decode_letters, decode_property
 from modelfile import edges_of, encode, encode_property, random_model, random_property
-from testing import COMBINED_BYTES, D_BYTES, PROPERTY_BYTES, PROPERTY_TEXT, RULE_BYTES, RULE_LETTERS, RULE_TEXT
-from testing import TOOLS, expect, expect_failure, expect_refused, expect_round_trip, made
+from testing import COMBINED_BYTES, D_BYTES, PROPERTY_BYTES, PROPERTY_TEXT, RULE_BYTES, RULE_LETTERS, RULE_TEXT, TOOLS
+from testing import TWO_BYTES, expect, expect_failure, expect_refused, expect_round_trip, made
 
 FORMAT = os.path.join(os.path.dirname(TOOLS), "docs/FORMAT.md")
 MAX_PROPERTY_BYTES = 41498
@@ -147,7 +147,7 @@ def test_format_page():
         page = file.read()
     dumps = re.findall(r"```\n((?:[0-9a-f]{8}: .*\n)+)```", page)
     found = [bytes.fromhex("".join(re.findall(r"^[0-9a-f]{8}: (.*)$", dump, re.MULTILINE))) for dump in dumps]
-    expect("the hex dumps", found == [D_BYTES, PROPERTY_BYTES], found)
+    expect("the hex dumps", found == [D_BYTES, TWO_BYTES, PROPERTY_BYTES], found)
     commands = re.findall(r"^(printf .*) > \w+$", page, re.MULTILINE)
     found = [subprocess.run(["sh", "-c", command], stdout=subprocess.PIPE, timeout=60).stdout for command in commands]
     expect("the printf lines", found == [D_BYTES, PROPERTY_BYTES, RULE_LETTERS], found)

@@ -46,14 +46,15 @@ fn long<A: Access>(file: &[u8], at: usize) -> usize {
     word::<A>(file, at) + 65536 * word::<A>(file, at + 2)
 }
 
-/// Bit s of the bytes from a place on; past the end of the file no bit is set.
 #[inline]
 pub fn bit<A: Access>(file: &[u8], at: usize, s: usize) -> bool {
-    let byte = at + s / 8;
-    if file.len() <= byte {
-        return false;
-    }
-    (A::get(file, byte) >> (s % 8)) % 2 == 1
+    (A::get(file, at + s / 8) >> (s % 8)) % 2 == 1
+}
+
+/// The same bit, where the byte may be past the end of the file: there no bit is set.
+#[inline]
+fn bit_if_there<A: Access>(file: &[u8], at: usize, s: usize) -> bool {
+    at + s / 8 < file.len() && bit::<A>(file, at, s)
 }
 
 /// The offset of the edge table.
@@ -196,7 +197,7 @@ fn order_broken<A: Access>(file: &[u8], n: usize) -> bool {
 
 fn spare_of_table<A: Access>(file: &[u8], n: usize, m: usize, t: usize) -> bool {
     let at = table_at(n, m, t);
-    (n..8 * mark_bytes(n)).any(|s| bit::<A>(file, at, s))
+    (n..8 * mark_bytes(n)).any(|s| bit_if_there::<A>(file, at, s))
 }
 
 fn spare_set<A: Access>(file: &[u8], n: usize, m: usize, tables: usize) -> bool {
@@ -278,9 +279,12 @@ pub fn has_edge<A: Access>(file: &[u8], h: Header, s: usize, t: usize) -> bool {
     false
 }
 
-/// State s is marked in the mark table that the header names.
+/// State s is marked in the mark table that the header names: no state is if the file has no such table.
 #[inline]
 pub fn is_marked<A: Access>(file: &[u8], h: Header, s: usize) -> bool {
     let at = table_at(h.states, h.edges, h.table);
+    if file.len() < at + mark_bytes(h.states) {
+        return false;
+    }
     bit::<A>(file, at, s)
 }

@@ -33,7 +33,7 @@ pub record Refuses {A : Type 0} (reasons : List Reason) (numbers : List ℕ) (o 
 abbrev pub AnswerKept : {A : Type 0} → Outcome A → List ℕ → List ℕ → Type 0
 AnswerKept o a a' = (n : ℕ) → o ≡ refused n → a' ≡ a
 
--- the working table is untouched after 1 to 12; after every later number and after every answer all its entries are zero,
+-- the working table is untouched after 1 to 12; after every other number and after every answer all its entries are zero,
 -- however long it is
 pub record WorkLeft {A : Type 0} (o : Outcome A) (w w' : List ℕ) : Type 0 where
   pub untouched : (n : ℕ) → o ≡ refused n → n ≤ 12 → w' ≡ w

@@ -106,8 +106,8 @@ SearchPassesExactly =
     (f : List ℕ) (ask : Ask) (answer work : ℕ)
     → NoneHolds (searchReasons f ask answer work) ↔ SearchPasses f ask answer work
 
--- condition 2: for every search, whatever its file, mark table, ceiling, allowance, answer table and working table, for which no reason
--- holds
+-- condition 2: for every search, whatever its file, mark table, ceiling, allowance, answer table and working table, for
+-- which no reason holds
 abbrev pub Condition2Holds : Type 0
 Condition2Holds =
     (f : List ℕ) (ask : Ask) (a : List ℕ) (work : ℕ) → NoneHolds (searchReasons f ask (length a) work)

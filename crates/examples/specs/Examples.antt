@@ -4,7 +4,8 @@ use mathlib.Core.Path.{_≡_}
 use mathlib.Core.List.{List, [], _∷_, _++_, map}
 use mathlib.Core.Option.{some, none}
 use lib.ListN.{length, getD, take, drop, replicate}
-use Rattle.lasso.specs.Lists.{memb}
+use lib.Dec.{leb}
+use Rattle.lasso.specs.Lists.{memb, pick}
 use Rattle.lasso.specs.Graph.{Graph}
 use Rattle.format.specs.Layout.{states}
 use Rattle.writer.specs.File.{word16, fileOf}
@@ -74,8 +75,12 @@ abbrev pub bytesD : List ℕ
 bytesD = bytesWith 51 (24 ∷ [])
 
 -- D with a second mark table, which marks state 1
-abbrev pub fileD2 : List ℕ
-fileD2 = bytesWith 52 (24 ∷ 2 ∷ [])
+abbrev pub fileTwo : List ℕ
+fileTwo = bytesWith 52 (24 ∷ 2 ∷ [])
+
+-- D with a second mark table, which marks state 4, that no path reaches
+abbrev pub fileUnreached : List ℕ
+fileUnreached = bytesWith 52 (24 ∷ 16 ∷ [])
 
 -- A row of the table: a file, the call on it, the answer expected, and the list expected to be written, empty if none is.
 pub record Row : Type 0 where
@@ -165,13 +170,21 @@ examples =
     -- H1 with ceiling 4
     rowWithin fileH 4 1 (stopped (record { done = 1; best = none })) [] ∷
     -- D with two tables: table 0 is D's
-    searchNaming fileD2 0 65535 (answered (Searched.found 3 1 1)) (0 ∷ 1 ∷ 3 ∷ 1 ∷ []) ∷
-    nextNaming fileD2 0 (0 ∷ 1 ∷ 3 ∷ 1 ∷ []) (answered (Followed.found 3 1)) (0 ∷ 2 ∷ 3 ∷ 2 ∷ []) ∷
-    nextNaming fileD2 0 (0 ∷ 2 ∷ 3 ∷ 2 ∷ []) (answered noMore) [] ∷
-    -- its table 1, which marks no state of the second list
-    searchNaming fileD2 1 65535 (answered (Searched.found 3 1 1)) (0 ∷ 1 ∷ 3 ∷ 1 ∷ []) ∷
-    nextNaming fileD2 1 (0 ∷ 1 ∷ 3 ∷ 1 ∷ []) (answered noMore) [] ∷
-    nextNaming fileD2 1 (0 ∷ 2 ∷ 3 ∷ 2 ∷ []) (refused 13) [] ∷
+    searchNaming fileTwo 0 65535 (answered (Searched.found 3 1 1)) (0 ∷ 1 ∷ 3 ∷ 1 ∷ []) ∷
+    nextNaming fileTwo 0 (0 ∷ 1 ∷ 3 ∷ 1 ∷ []) (answered (Followed.found 3 1)) (0 ∷ 2 ∷ 3 ∷ 2 ∷ []) ∷
+    nextNaming fileTwo 0 (0 ∷ 2 ∷ 3 ∷ 2 ∷ []) (answered noMore) [] ∷
+    -- its table 1, which marks no state of the second list's loop
+    searchNaming fileTwo 1 65535 (answered (Searched.found 3 1 1)) (0 ∷ 1 ∷ 3 ∷ 1 ∷ []) ∷
+    nextNaming fileTwo 1 (0 ∷ 1 ∷ 3 ∷ 1 ∷ []) (answered noMore) [] ∷
+    nextNaming fileTwo 1 (0 ∷ 2 ∷ 3 ∷ 2 ∷ []) (refused 13) [] ∷
+    -- a table 1 that marks a state which is not reached
+    searchNaming fileUnreached 1 65535 (answered (noneWithin 0)) [] ∷
+    searchNaming fileUnreached 0 65535 (answered (Searched.found 3 1 1)) (0 ∷ 1 ∷ 3 ∷ 1 ∷ []) ∷
+    -- a spare bit of the second table, by both; the totals with no table and with three
+    searchNaming (bytesWith 52 (24 ∷ 32 ∷ [])) 0 65535 (refused 11) [] ∷
+    nextNaming (bytesWith 52 (24 ∷ 32 ∷ [])) 1 (0 ∷ 1 ∷ 3 ∷ 1 ∷ []) (refused 11) [] ∷
+    searchNaming (bytesWith 50 []) 1 65535 (refused 6) [] ∷
+    searchNaming (bytesWith 53 (24 ∷ 2 ∷ 2 ∷ [])) 1 65535 (refused 6) [] ∷
     -- D with one table: table 1 holds no marks
     searchNaming fileD 1 0 (answered (noneWithin 0)) [] ∷
     searchNaming fileD 1 65535 (answered (noneWithin 0)) [] ∷
@@ -191,14 +204,21 @@ abbrev pub workLent : Call → List ℕ
 workLent (search ask a w) = w
 workLent (next t earlier a w) = w
 
+-- the working table after an answer: untouched after the refusals 1 to 12, else all zero
+abbrev pub workLeft : Answer → List ℕ → List ℕ
+workLeft (ofSearch (refused n)) w = pick (leb n 12) w (zeros w)
+workLeft (ofSearch (answered s)) w = zeros w
+workLeft (ofNext (refused n)) w = pick (leb n 12) w (zeros w)
+workLeft (ofNext (answered s)) w = zeros w
+
 -- what is expected: the row's answer; its list from entry 0 of the answer table on, later entries as they were lent; and
--- the working table all zero
+-- the working table as is due after that answer
 abbrev pub expected : Row → Result
 expected r =
     record {
       answer = r .answer;
       table = r .list ++ replicate (8 - length (r .list)) 9;
-      work = zeros (workLent (r .call));
+      work = workLeft (r .answer) (workLent (r .call));
     }
 
 -- The examples hold: each row gives what is expected; H does with any allowance from 2 on; and the file of D is the

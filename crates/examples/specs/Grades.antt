@@ -6,7 +6,7 @@ use mathlib.Core.Option.{Option, some, none}
 use Rattle.format.specs.Layout.{states}
 use Rattle.outcomes.specs.Outcome.{Outcome, refused, answered}
 use Rattle.grader.specs.Grade.{Said, accepting, shortest, Grade, gradeOutcome}
-use Rattle.examples.specs.Examples.{fileA, fileA1, fileB, fileD, fileD2, fileH}
+use Rattle.examples.specs.Examples.{fileA, fileA1, fileB, fileD, fileTwo, fileH}
 
 -- A row of the table: a file, a mark table, a list with a claimed k, and the answer expected.
 pub record GradeRow : Type 0 where
@@ -63,9 +63,9 @@ gradeRows =
     grades fileA1 (0 ∷ 0 ∷ []) 0 shortest none ∷
     grades fileA (0 ∷ 0 ∷ []) 0 Said.false (some 1) ∷
     -- D with two tables: table 0 marks both lists, table 1 the first alone
-    gradesNaming fileD2 0 (0 ∷ 2 ∷ 3 ∷ 2 ∷ []) 1 shortest none ∷
-    gradesNaming fileD2 1 (0 ∷ 1 ∷ 3 ∷ 1 ∷ []) 1 shortest none ∷
-    gradesNaming fileD2 1 (0 ∷ 2 ∷ 3 ∷ 2 ∷ []) 1 Said.false none ∷
+    gradesNaming fileTwo 0 (0 ∷ 2 ∷ 3 ∷ 2 ∷ []) 1 shortest none ∷
+    gradesNaming fileTwo 1 (0 ∷ 1 ∷ 3 ∷ 1 ∷ []) 1 shortest none ∷
+    gradesNaming fileTwo 1 (0 ∷ 2 ∷ 3 ∷ 2 ∷ []) 1 Said.false none ∷
     -- D with one table: table 1 holds no marks
     gradesNaming fileD 1 (0 ∷ 1 ∷ 3 ∷ 1 ∷ []) 1 Said.false none ∷
     -- table 2, also with an empty file

@@ -7,7 +7,7 @@ use Rattle.lasso.specs.Rounds.{Record}
 use Rattle.format.specs.Layout.{states}
 use Rattle.outcomes.specs.Outcome.{Outcome, refused, answered}
 use Rattle.step.specs.Step.{Stepped, finished, advanced, stepOutcome}
-use Rattle.examples.specs.Examples.{fileD, fileD2, fileH}
+use Rattle.examples.specs.Examples.{fileD, fileTwo, fileUnreached, fileH}
 
 -- A row of the table: a file, a mark table, a ceiling, a record, and the answer expected of a step from that record.
 pub record StepRow : Type 0 where
@@ -46,8 +46,11 @@ stepRows =
     stepRow 0 (after 2 (some 9)) (answered (finished (after 2 (some 9)))) ∷
     stepRow 4097 (after 2 (some 9)) (refused 21) ∷
     -- D with two tables: the round of table 0 and that of table 1
-    stepNaming fileD2 0 (after 0 none) (answered (advanced (after 1 (some 3)))) ∷
-    stepNaming fileD2 1 (after 0 none) (answered (advanced (after 1 (some 3)))) ∷
+    stepNaming fileTwo 0 (after 0 none) (answered (advanced (after 1 (some 3)))) ∷
+    stepNaming fileTwo 1 (after 0 none) (answered (advanced (after 1 (some 3)))) ∷
+    -- a table 1 that marks a state which is not reached
+    stepNaming fileUnreached 0 (after 0 none) (answered (advanced (after 1 (some 3)))) ∷
+    stepNaming fileUnreached 1 (after 0 none) (answered (finished (after 0 none))) ∷
     -- D with one table: table 1 holds no marks
     stepNaming fileD 1 (after 0 none) (answered (finished (after 0 none))) ∷
     -- table 2, also with an empty file

@@ -1,20 +1,36 @@
--- What the definitions say of a file's mark tables: statements, each proved for every file, accepted or not.
-use Prim.Native.Nat.{ℕ, _+_}
+-- What the reasons say of a file's mark tables: statements, each proved for every file, accepted or not.
+use Prim.Native.Nat.{ℕ, _+_, _*_, _≤_, _<_}
 use mathlib.Core.Path.{_≡_}
 use mathlib.Core.Logic.{_↔_, _⊎_}
-use mathlib.Core.Bool.{false}
-use mathlib.Core.List.{List}
+use mathlib.Core.Bool.{Bool, false}
+use mathlib.Core.List.{List, [], _∷_}
 use lib.ListN.{length}
-use lib.Dec.{T}
+use lib.Dec.{eqb}
+use Rattle.lasso.specs.Lists.{pick}
 use Rattle.format.specs.Bytes.{long}
-use Rattle.format.specs.Layout.{states, edgeCount, markBytes, totalOf, markBit}
-use Rattle.format.specs.Rules.{totalFits}
+use Rattle.format.specs.Layout.{states, edgeCount, rowsAt, edgesAt, marksAt, markBytes, totalOf, markBit}
+use Rattle.format.specs.Rules.{Reason, rules}
 
--- Reason 6 allows the total with one mark table or with two, and no other.
-abbrev pub OneOrTwoTotals : Type 0
-OneOrTwoTotals = (f : List ℕ) →
+-- the reason with number n in a table of reasons holds
+abbrev pub holdsIn : List Reason → (n : ℕ) → Bool
+holdsIn [] n = false
+holdsIn (r ∷ rs) n = pick (eqb (r .number) n) (r .holds) (holdsIn rs n)
+
+-- the total length is the one that N and M give with one mark table, or the one with two
+abbrev pub OneOrTwoTables : List ℕ → Type 0
+OneOrTwoTables f =
     let one = totalOf (states f) (edgeCount f) in
-    T (totalFits one 2 f) ↔ ((long f 20 ≡ one) ⊎ (long f 20 ≡ one + markBytes (states f)))
+    (long f 20 ≡ one) ⊎ (long f 20 ≡ one + markBytes (states f))
+
+-- Reason 6 allows the total with one mark table or with two, and no other; the offsets are those that N and M give.
+abbrev pub OneOrTwoTotals : Type 0
+OneOrTwoTotals = (f : List ℕ) → (holdsIn (rules f) 6 ≡ false) ↔
+    ((long f 8 ≡ rowsAt) × (long f 12 ≡ edgesAt (states f)) × (long f 16 ≡ marksAt (states f) (edgeCount f)) × OneOrTwoTables f)
+
+-- Reason 11 covers both tables: it does not hold exactly if no spare bit is set, in neither of them.
+abbrev pub SpareOfBothTables : Type 0
+SpareOfBothTables = (f : List ℕ) → (holdsIn (rules f) 11 ≡ false) ↔
+    ((t : ℕ) → t ≤ 1 → (s : ℕ) → states f ≤ s → s < 8 * markBytes (states f) → markBit f t s ≡ false)
 
 -- In a file with one table, table 1 holds no marks.
 abbrev pub OneTableNoMarks : Type 0

@@ -29,14 +29,21 @@ pub fn long(file: &[u8], at: usize) -> usize
     word(file, at) + 65536 * word(file, at + 2)
 }
 
-// Bit s of the bytes from a place on, eight to a byte, bit 0 worth 1; past the end of the file no bit is set.
+// Bit s of the bytes from a place on, eight to a byte, bit 0 worth 1.
 pub fn bit(file: &[u8], at: usize, s: usize) -> bool
+    requires { ⌜ at + s / 8 < length (now file) ⌝ }
+    ensures { λ r. ⌜ r ≡ bitb (getD (now (file .entry)) (at + s / 8) 0) (s % 8) ⌝ }
+{
+    (file[at + s / 8] >> (s % 8)) % 2 == 1
+}
+
+// The same bit, where the byte may be past the end of the file: there no bit is set.
+pub fn bit_if_there(file: &[u8], at: usize, s: usize) -> bool
     requires { ⌜ (at ≤ 65535) × (s ≤ 65535) ⌝ }
     ensures { λ r. ⌜ r ≡ bitb (getD (now (file .entry)) (at + s / 8) 0) (s % 8) ⌝ }
 {
-    let byte = at + s / 8;
-    if file.len() <= byte {
+    if file.len() <= at + s / 8 {
         return false;
     }
-    (file[byte] >> (s % 8)) % 2 == 1
+    bit(file, at, s)
 }

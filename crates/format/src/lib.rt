@@ -3,6 +3,7 @@ mod bytes;
 mod layout;
 
 pub use bytes::bit;
+pub use bytes::bit_if_there;
 pub use bytes::entry_at;
 pub use bytes::long;
 pub use bytes::word;

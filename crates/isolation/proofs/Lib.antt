@@ -1,5 +1,4 @@
 -- The laws of files that differ in the marks of one table.
-pub mod ReadAlike
 pub mod SameButLaws
 pub mod TreatedAlike
 pub mod IsolatedLaws

@@ -2,7 +2,7 @@
 -- whatever stands in place of those marks, it is such a file.
 use Prim.Native.Nat.{ℕ, zero, suc, _+_, _*_, _-_, _/_, _%_, _≤_, _<_}
 use mathlib.Core.Path.{_≡_, refl, sym, ap, _∙_}
-use mathlib.Core.Bool.{Bool, _&&_, false}
+use mathlib.Core.Bool.{Bool, _&&_, _||_, false}
 use mathlib.Core.Logic.{inl, inr}
 use mathlib.Core.List.{List, _++_}
 use native.Mathlib.Omega.{arith}
@@ -10,14 +10,15 @@ use lib.ListN.{length, getD, length-append, List·getD-append}
 use lib.Seq.{getD-append-add}
 use lib.Dec.{eqb, ltb}
 use borrow.Author.Tests.{le-ltb}
+use Rattle.lasso.specs.Lists.{anyb, upFrom}
 use Rattle.lasso.proofs.Tests.{lt-or-ge, T-false}
 use Rattle.format.specs.Bytes.{word, bitb}
 use Rattle.format.specs.Layout.{states, edgeCount, reserved, rowsAt, edgesAt, marksAt, markBytes, tableAt, totalOf, rowTargets, markBit}
-use Rattle.format.specs.Rules.{badRows, rules}
+use Rattle.format.specs.Rules.{badRows, spareSet, badSpare, rules}
 use Rattle.format.proofs.Reasons.{none-clear}
 use Rattle.model.specs.Model.{listIf, withImplied}
 use Rattle.isolation.specs.SameBut.{SameBut, OtherMarksFree, SameRefusal, SameGraph}
-use Rattle.isolation.proofs.ReadAlike.{ReadAlike, row-alike, first-alike}
+use Rattle.format.proofs.ReadAlike.{ReadAlike, anyb-alike, row-alike, first-alike}
 
 module _ {other : ℕ} {f f' : List ℕ} (same : SameBut other f f') where
   -- the bytes before the marks are the same
@@ -76,25 +77,38 @@ apart (suc zero) size k l m from to = omega arith
 apart (suc (suc t)) size k l m from to = omega arith
 
 module _ {t : ℕ} (limit : t ≤ 1) {f f' : List ℕ} (same : SameBut (1 - t) f f') where
-  -- a byte of table t that holds marks of states is the same
-  same-mark-byte : (s : ℕ) → s < states f
-      → let at = tableAt (states f) (edgeCount f) t + s / 8 in getD f at 0 ≡ getD f' at 0
-  same-mark-byte s l =
-      same .same-bytes _ (λ (from, to). apart t (markBytes (states f)) (s / 8) limit (omega arith) (omega arith) (omega arith))
+  -- a byte of table t is the same
+  same-mark-byte : (k : ℕ) → k < markBytes (states f) → let at = tableAt (states f) (edgeCount f) t + k in getD f at 0 ≡ getD f' at 0
+  same-mark-byte k l =
+      same .same-bytes _ (λ (from, to). apart t (markBytes (states f)) k limit l (omega arith) (omega arith))
 
-  -- so is the mark of a state there
-  same-bit : (s : ℕ) → s < states f → markBit f t s ≡ markBit f' t s
+  -- so is each bit there
+  same-bit : (s : ℕ) → s < 8 * markBytes (states f) → markBit f t s ≡ markBit f' t s
   same-bit s l =
-      ap (λ (byte : ℕ). bitb byte (s % 8)) (same-mark-byte s l)
+      ap (λ (byte : ℕ). bitb byte (s % 8)) (same-mark-byte (s / 8) (omega arith))
       ∙ (λ i. bitb (getD f' (tableAt (same-states same i) (same-edges same i) t + s / 8) 0) (s % 8))
+
+  -- both or neither have a spare bit set there
+  same-spare : spareSet f t ≡ spareSet f' t
+  same-spare =
+      anyb-alike (markBit f t) (markBit f' t) (states f) (8 * markBytes (states f) - states f) (λ s a b. same-bit s (omega arith))
+      ∙ ap (λ (n : ℕ). anyb (markBit f' t) (upFrom n (8 * markBytes n - n))) (same-states same)
 
   -- the marks of all numbers in the model are the same
   same-marked : (s : ℕ) → (ltb s (states f) && markBit f t s) ≡ (ltb s (states f') && markBit f' t s)
-  same-marked s = on-states same _&&_ (λ x y. refl) s (markBit f t s) (markBit f' t s) (same-bit s)
+  same-marked s = on-states same _&&_ (λ x y. refl) s (markBit f t s) (markBit f' t s) (λ l. same-bit s (omega arith))
+
+-- both or neither break rule 11: the other's table has no spare bit set in either
+eleven-alike : (t : ℕ) → t ≤ 1 → {f f' : List ℕ} → SameBut (1 - t) f f' → badSpare 2 f ≡ badSpare 2 f'
+eleven-alike zero limit same =
+    let clear = same .spare-clear ∙ sym (same .spare-clear') in λ i. same-spare limit same i || (clear i || false)
+eleven-alike (suc zero) limit same =
+    let clear = same .spare-clear ∙ sym (same .spare-clear') in λ i. clear i || (same-spare limit same i || false)
+eleven-alike (suc (suc t)) limit same = absurd (omega arith)
 
 pub same-refusal : SameRefusal
-same-refusal other f f' same =
-    first-alike (read-alike same) totalOf 2 (λ i. ltb 1 (same-reserved same i)) (same .spare-clear ∙ sym (same .spare-clear'))
+same-refusal t limit f f' same =
+    first-alike (read-alike same) totalOf 2 (λ i. ltb 1 (same-reserved same i)) (eleven-alike t limit same)
 
 pub same-graph : SameGraph
 same-graph t limit f f' same accepted =

@@ -22,7 +22,7 @@ module _ {t : ℕ} (limit : t ≤ 1) {f f' : List ℕ} (same : SameBut (1 - t) f
   pub treated-alike : {A : Type 0} (later : Graph → List Reason) (answer : Option ℕ → Graph → A) → RefusalTellsNothing answer
       → answer (firstBroken (rules f ++ later (graphOf f t))) (graphOf f t)
       ≡ answer (firstBroken (rules f' ++ later (graphOf f' t))) (graphOf f' t)
-  treated-alike later answer silent = go (firstBroken (rules f)) refl (sym (same-refusal (1 - t) f f' same))
+  treated-alike later answer silent = go (firstBroken (rules f)) refl (sym (same-refusal t limit f f' same))
     where
       g : Graph
       g = graphOf f t

@@ -5,7 +5,7 @@ use mathlib.Core.Bool.{false}
 use mathlib.Core.List.{List, _++_}
 use lib.ListN.{length, getD}
 use Rattle.format.specs.Layout.{states, edgeCount, markBytes, tableAt}
-use Rattle.format.specs.Rules.{firstBroken, badSpare, rules, Accepted}
+use Rattle.format.specs.Rules.{firstBroken, spareSet, rules, Accepted}
 use Rattle.model.specs.Model.{graphOf}
 
 -- the byte at place i is one of mark table t
@@ -14,26 +14,28 @@ InMarks f t i =
     let at = tableAt (states f) (edgeCount f) t in
     (at ≤ i) × (i < at + markBytes (states f))
 
--- Two files of the same length that differ only in the marks of the other department, while all spare bits are zero.
+-- Two files of the same length that differ only in the marks of the other department, while its spare bits are zero; those
+-- of the department's own table are the same in both, and need not be zero.
 pub record SameBut (other : ℕ) (f f' : List ℕ) : Type 0 where
   pub same-length : length f ≡ length f'
   pub same-bytes : (i : ℕ) → (InMarks f other i → ⊥) → getD f i 0 ≡ getD f' i 0
-  pub spare-clear : badSpare 2 f ≡ false
-  pub spare-clear' : badSpare 2 f' ≡ false
+  pub spare-clear : spareSet f other ≡ false
+  pub spare-clear' : spareSet f' other ≡ false
 
--- Such files are refused alike: with the same number of 1 to 11, or neither is.
+-- The department's marks are in table t, the other's in table 1 − t. Such files are refused alike: with the same number of 1
+-- to 11, or neither is.
 abbrev pub SameRefusal : Type 0
-SameRefusal = (other : ℕ) (f f' : List ℕ) → SameBut other f f' → firstBroken (rules f) ≡ firstBroken (rules f')
+SameRefusal = (t : ℕ) → t ≤ 1 → (f f' : List ℕ) → SameBut (1 - t) f f' → firstBroken (rules f) ≡ firstBroken (rules f')
 
--- The department whose marks are in table t sees the same model in both, if they are accepted; the other's table is 1 − t.
+-- The department sees the same model in both, if they are accepted.
 abbrev pub SameGraph : Type 0
 SameGraph = (t : ℕ) → t ≤ 1 → (f f' : List ℕ) → SameBut (1 - t) f f' → Accepted f → graphOf f t ≡ graphOf f' t
 
--- The other's marks are free: a file in which other bytes, as many, stand in their place is one of these, if both keep the
+-- The other's marks are free: a file in which other bytes, as many, stand in their place is one of these, if both keep its
 -- spare bits zero.
 abbrev pub OtherMarksFree : Type 0
 OtherMarksFree = (other : ℕ) (before marks marks' after : List ℕ) →
     let f = before ++ (marks ++ after) in
     let f' = before ++ (marks' ++ after) in
     length before ≡ tableAt (states f) (edgeCount f) other → length marks ≡ markBytes (states f) → length marks' ≡ length marks
-    → badSpare 2 f ≡ false → badSpare 2 f' ≡ false → SameBut other f f'
+    → spareSet f other ≡ false → spareSet f' other ≡ false → SameBut other f f'

@@ -1,5 +1,5 @@
 -- What an accepted file is, for the layers above: the facts of its tables, and that the graph it holds is well formed.
-use Prim.Native.Nat.{ℕ, _+_, _*_, _-_, _≤_, _<_}
+use Prim.Native.Nat.{ℕ, zero, suc, _+_, _*_, _-_, _≤_, _<_}
 use mathlib.Core.Path.{_≡_, refl, sym, ap, subst, _∙_}
 use mathlib.Core.Bool.{true, false, not}
 use mathlib.Core.List.{List, [], List·Memᴰ, Memᴰ·of-map}
@@ -15,7 +15,7 @@ use Rattle.lasso.specs.Graph.{WellFormed, edgeb, ascendingb}
 use Rattle.lasso.proofs.Tests.{and-true, and-false, lt-or-ge, memb-mem, upFrom-range}
 use Rattle.lasso.proofs.BelowLaws.{upFrom-length}
 use Rattle.format.specs.Bytes.{words}
-use Rattle.format.specs.Layout.{states, edgeCount, initial, stays, markBytes, totalOf, rowEntry, target, rowTargets, markBit}
+use Rattle.format.specs.Layout.{states, edgeCount, initial, stays, marksAt, markBytes, totalOf, tableAt, rowEntry, target, rowTargets, markBit}
 use Rattle.format.specs.Rules.{firstBroken, rulesWith, Accepted}
 use Rattle.model.specs.Model.{rowGraph, withImplied, graphIn, graphOf, stepsOf, listIf}
 use Rattle.model.specs.declared.Header.{Header}
@@ -67,6 +67,20 @@ kept-length total tables f a =
 -- an accepted file's facts
 pub accepted-facts : (f : List ℕ) → Accepted f → Facts f
 accepted-facts f a = kept-facts (totalOf (states f) (edgeCount f)) 2 f (le-refl _) (omega arith) a
+
+-- a file with u tables behind the first ends where table t starts, if it ends before the end of table t
+short-of-table : (base size t u : ℕ) → t ≤ 1 → base + size + u * size < base + t * size + size → base + size + u * size ≤ base + t * size
+short-of-table base size zero u l m = omega arith
+short-of-table base size (suc zero) zero l m = omega arith
+short-of-table base size (suc zero) (suc u) l m = omega arith
+short-of-table base size (suc (suc t)) u l m = omega arith
+
+-- an accepted file has the whole of a mark table or nothing of it
+pub no-part-of-table : (f : List ℕ) → Accepted f → (t : ℕ) → t ≤ 1 → let at = tableAt (states f) (edgeCount f) t in
+    length f < at + markBytes (states f) → length f ≤ at
+no-part-of-table f a t l m =
+    let (u, among, e) = kept-length (totalOf (states f) (edgeCount f)) 2 f a in
+    omega (arith, short-of-table (marksAt (states f) (edgeCount f)) (markBytes (states f)) t u l (omega arith))
 
 -- a row ends within the edge table
 pub row-end-le : {f : List ℕ} → Facts f → (s : ℕ) → s < states f → rowEntry f (s + 1) ≤ edgeCount f

@@ -11,6 +11,7 @@ ghost use Rattle.model.specs.Values.{naming, Valid, headOf, checkWith, c
 ghost use Rattle.model.specs.declared.Checked.the-variants.{Accept};
 use format::bit;
 use format::long;
+use format::mark_bytes;
 use format::row;
 use format::table_at;
 use format::total_of;
@@ -211,7 +212,7 @@ pub fn has_edge(file: &[u8], h: Header, s: usize, t: usize) -> bool
     false
 }
 
-// State s is marked in the mark table that the header names.
+// State s is marked in the mark table that the header names: no state is if the file has no such table.
 pub fn is_marked(file: &[u8], h: Header, s: usize) -> bool
     requires { ⌜ Valid (now file) h ⌝ }
     requires { ⌜ s < h .states ⌝ }
@@ -220,5 +221,8 @@ pub fn is_marked(file: &[u8], h: Header, s: usize) -> bool
     let states = h.states;
     let edges = h.edges;
     let at = table_at(states, edges, h.table);
+    if file.len() < at + mark_bytes(states) {
+        return false;
+    }
     bit(file, at, s)
 }

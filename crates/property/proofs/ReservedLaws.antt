@@ -1,16 +1,16 @@
 -- Of a property file bytes 6–7 are read by reason 5 alone.
 use Prim.Native.Nat.{ℕ, _+_, _*_, _-_, _/_, _%_, _≤_, _<_}
 use mathlib.Core.Path.{_≡_}
-use mathlib.Core.Bool.{_&&_, _||_, not}
+use mathlib.Core.Bool.{_&&_, _||_}
 use mathlib.Core.Logic.{inl, inr}
-use mathlib.Core.List.{List, [], _∷_, map}
+use mathlib.Core.List.{List, map}
 use native.Mathlib.Omega.{arith}
 use lib.Dec.{eqb, ltb}
 use Rattle.lasso.specs.Lists.{anyb, isSome, upFrom, below}
-use Rattle.lasso.specs.Graph.{ascendingb}
 use Rattle.format.specs.Bytes.{word, long, bitb}
-use Rattle.format.specs.Layout.{states, edgeCount, initial, rowsAt, edgesAt, marksAt, markBytes, tableAt, rowEntry, target, rowTargets, markBit}
-use Rattle.format.specs.Rules.{firstBroken, badReserved}
+use Rattle.format.specs.Layout.{states, edgeCount, initial, rowsAt, edgesAt, markBytes, tableAt, rowEntry, target, rowTargets, markBit}
+use Rattle.format.specs.Rules.{firstBroken, badReserved, badSpare}
+use Rattle.format.proofs.ReadAlike.{ReadAlike, first-alike}
 use Rattle.model.specs.Model.{listIf}
 use Rattle.property.specs.Property.{masksAt, propertyTotal, maskAt, propertyRules, zeroMask, badProperty, propertyOf, SameButReserved}
 
@@ -59,33 +59,26 @@ module _ {p p' : List ℕ} (same : SameButReserved p p') where
   same-mask : (e : ℕ) → maskAt p e ≡ maskAt p' e
   same-mask e = λ i. same-word (masksAt (same-states i) (same-edges i) + 2 * e) (omega arith) i
 
-  -- if both or neither break rule 5, so it is with each of 1 to 11
-  same-rules : badReserved p ≡ badReserved p' → propertyRules p ≡ propertyRules p'
-  same-rules five = λ i.
-      let n : ℕ = same-states i in
-      let m : ℕ = same-edges i in
-      record { number = 1; holds = ltb (same .same-length i) 24 } ∷
-      record { number = 2; holds = eqb n 0 || ltb 4096 n } ∷
-      record { number = 3; holds = ltb 8192 m } ∷
-      record { number = 4; holds = not (ltb (same-initial i) n) } ∷
-      record { number = 5; holds = five i } ∷
+  -- what the rules read is the same, but for bytes 6–7
+  read-alike : ReadAlike p p'
+  read-alike =
       record {
-        number = 6;
-        holds = not (eqb (same-long 8 (omega arith) i) rowsAt) ||
-            (not (eqb (same-long 12 (omega arith) i) (edgesAt n)) ||
-            (not (eqb (same-long 16 (omega arith) i) (marksAt n m)) ||
-            not (anyb (λ t. eqb (same-long 20 (omega arith) i) (propertyTotal n m + t * markBytes n)) (below 1))));
-      } ∷
-      record { number = 7; holds = not (eqb (same .same-length i) (same-long 20 (omega arith) i)) } ∷
-      record {
-        number = 8;
-        holds = not (eqb (same-entry 0 i) 0) ||
-            (anyb (λ s. ltb (same-entry (s + 1) i) (same-entry s i)) (below n) ||
-            not (eqb (same-entry n i) m));
-      } ∷
-      record { number = 9; holds = anyb (λ e. not (ltb (same-target e i) n)) (below m) } ∷
-      record { number = 10; holds = anyb (λ s. not (ascendingb (same-row s i))) (below n) } ∷
-      record { number = 11; holds = anyb (λ t. anyb (λ s. same-mark t s i) (upFrom n (8 * markBytes n - n))) (below 1) } ∷ []
+        same-length = same .same-length;
+        same-states = same-states;
+        same-edges = same-edges;
+        same-initial = same-initial;
+        same-offset = λ at a b. same-long at a;
+        same-entry = λ s l. same-entry s;
+        same-target = λ e l. same-target e;
+      }
+
+  -- both or neither break rule 11
+  same-spare : badSpare 1 p ≡ badSpare 1 p'
+  same-spare = λ i. anyb (λ t. anyb (λ s. same-mark t s i) (upFrom (same-states i) (8 * markBytes (same-states i) - same-states i))) (below 1)
+
+  -- if both or neither break rule 5, the first rule that each breaks is the same
+  same-first : badReserved p ≡ badReserved p' → firstBroken (propertyRules p) ≡ firstBroken (propertyRules p')
+  same-first five = first-alike read-alike propertyTotal 1 five same-spare
 
   -- both or neither have a zero mask
   same-zero-mask : zeroMask p ≡ zeroMask p'
@@ -108,4 +101,4 @@ module _ {p p' : List ℕ} (same : SameButReserved p p') where
 pub same-property : {p p' : List ℕ} → SameButReserved p p' → badReserved p ≡ badReserved p'
     → (badProperty p ≡ badProperty p') × (propertyOf p ≡ propertyOf p')
 same-property same five =
-    ((λ i. isSome (firstBroken (same-rules same five i)) || same-zero-mask same i), same-held same)
+    ((λ i. isSome (same-first same five i) || same-zero-mask same i), same-held same)

@@ -7,7 +7,7 @@ ghost use Rattle.lasso.specs.Graph.{ascendingb};
 ghost use Rattle.format.specs.Bytes.{words};
 ghost use Rattle.format.specs.Layout.{states, edgeCount, HasTables};
 ghost use Rattle.format.specs.Rules.{totalFits, badOffsets, badRows, badTargets, badOrder, spareSet, badSpare};
-use format::bit;
+use format::bit_if_there;
 use format::edges_at;
 use format::entry_at;
 use format::long;
@@ -136,7 +136,7 @@ fn spare_of_table(file: &[u8], n: usize, m: usize, t: usize) -> bool
     let end = 8 * mark_bytes(n);
     let mut s = n;
     while s < end {
-        if bit(file, at, s) {
+        if bit_if_there(file, at, s) {
             return true;
         }
         s += 1;

@@ -29,8 +29,8 @@ abbrev pub textOf : Option ℕ → List ℕ → List ℕ
 textOf none f = head (states f) (edgeCount f) (length (candidates (graphOf f 0))) ++ rollText (roll (graphOf f 0))
 textOf (some n) f = figure refusedWord n
 
--- what the sheet's search asks: mark table 0, ceiling 4,096, which no shortest accepting path is above, and allowance 65,535; there are
--- never more than 4,096 candidates
+-- what the sheet's search asks: mark table 0, ceiling 4,096, which no shortest accepting path is above, and allowance
+-- 65,535; there are never more than 4,096 candidates
 abbrev pub sheetAsk : Ask
 sheetAsk = asking 0 4096 65535
 

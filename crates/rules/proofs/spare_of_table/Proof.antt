@@ -18,13 +18,13 @@ abbrev μ-loop : tie.MeasureT-loop
 μ-loop file n m t at end s₀ s = end - s
 
 -- the bit that a turn of the loop reads
-bit-read : (c : tie.After-bit Inv-loop μ-loop) →
+bit-read : (c : tie.After-bit-if-there Inv-loop μ-loop) →
     let start = c .before .before .before .before .before .before in
-    c .bit .result ≡ markBit (now (start .args .file)) (start .args .t) (c .before .before .loop .s)
+    c .bit-if-there .result ≡ markBit (now (start .args .file)) (start .args .t) (c .before .before .loop .s)
 bit-read c =
     let marks = c .before .before .before .before in
     let start = marks .before .before in
-    rw (marks .table-at .ensures, start .pre .0 .states-are, start .pre .0 .edges-are) at (c .bit .ensures)
+    rw (marks .table-at .ensures, start .pre .0 .states-are, start .pre .0 .edges-are) at (c .bit-if-there .ensures)
 
 table-at-requires : tie.Need-table-at-requires Inv-loop μ-loop
 table-at-requires c κs = search needs
@@ -40,8 +40,8 @@ loop-holds c =
     let start = c .before .before .before in
     rw (c .mark-bytes .ensures, start .pre .0 .states-are) (left-from (markBit (now (start .args .file)) (start .args .t)) _ _ (omega arith))
 
-bit-requires : tie.Need-bit-requires Inv-loop μ-loop
-bit-requires c κs =
+bit-if-there-requires : tie.Need-bit-if-there-requires Inv-loop μ-loop
+bit-if-there-requires c κs =
     let marks = c .before .before .before in
     let start = marks .before .before in
     let within : marks .table-at .result ≤ 65535 =
@@ -73,7 +73,7 @@ spare-of-table-spec =
     mark-bytes-requires
     mul-end
     loop-holds
-    bit-requires
+    bit-if-there-requires
     returns
     add-s
     loop-less

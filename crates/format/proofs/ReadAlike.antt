@@ -10,14 +10,14 @@ use lib.ListN.{length}
 use lib.Dec.{T, eqb, ltb}
 use Rattle.lasso.specs.Lists.{anyb, upFrom, below, someIf}
 use Rattle.lasso.specs.Graph.{ascendingb}
 use Rattle.format.specs.Bytes.{long}
 use Rattle.format.specs.Layout.{states, edgeCount, initial, rowsAt, edgesAt, marksAt, markBytes, rowEntry, target, rowTargets}
 use Rattle.format.specs.Rules.{firstBroken, badReserved, badOffsets, badRows, badTargets, badOrder, badSpare, rulesWith}
 use Rattle.format.proofs.Reasons.{false-not}
 use Rattle.format.proofs.Kept.{rows-ascend-kept, row-last-kept, row-end-within}
 
 -- tests that agree on a range find a number of it alike
-anyb-alike : (p q : ℕ → Bool) (a n : ℕ) → ((x : ℕ) → a ≤ x → x < a + n → p x ≡ q x) → anyb p (upFrom a n) ≡ anyb q (upFrom a n)
+pub anyb-alike : (p q : ℕ → Bool) (a n : ℕ) → ((x : ℕ) → a ≤ x → x < a + n → p x ≡ q x) → anyb p (upFrom a n) ≡ anyb q (upFrom a n)
 anyb-alike p q a zero same = refl
 anyb-alike p q a (suc n) same =
     let rest : anyb p (upFrom (suc a) n) ≡ anyb q (upFrom (suc a) n) =
