@@ -153,7 +153,8 @@ uint16_t fahkelo_next(const uint8_t *file, size_t file_len,
  * The list leaves the model at a place if the entry there is no state or, past place 0, if no edge and no implied step leads
  * to it from the entry before. If there is such a place, out[0] is 1, place[0] is the first one, counted from 0, and the
  * grade is FAHKELO_FALSE; else out[0] is 0 and place is not changed. The place does not depend on the marks.
- * Returns a refusal (22, 1 to 12, in this order), FAHKELO_FALSE, FAHKELO_ACCEPTING, FAHKELO_SHORTEST or FAHKELO_OUT_TOO_SHORT.
+ * Returns a refusal (22, 1 to 12, in this order), FAHKELO_FALSE, FAHKELO_ACCEPTING, FAHKELO_SHORTEST or
+ * FAHKELO_OUT_TOO_SHORT.
  */
 uint16_t fahkelo_grade(const uint8_t *file, size_t file_len,
                        uint16_t mark_table,

@@ -36,19 +36,32 @@ fn outcomes(
             all.push((said, answer, work));
         };
     for ceiling in [0, 2, 3, 4096, 4097] {
-        for (done, best) in [(0, None), (1, Some(4)), (3, Some(1)), (65535, None)] {
+        for (done, best, short) in [
+            (0, None, 0),
+            (1, Some(4), 0),
+            (1, Some(4), 1),
+            (3, Some(1), 0),
+            (65535, None, 0),
+        ] {
             let so_far = Record { done, best };
-            call(0, usize::from(ceiling == 2), &|_, work| {
+            call(0, short, &|_, work| {
                 format!("{:?}", finder.step(file, mark_table, ceiling, so_far, work))
             });
         }
-        for (allowance, entries) in [(0, 1), (2, states + 1), (65535, states + 1), (65535, 1)] {
+        for (allowance, entries, short) in [
+            (0, 1, 0),
+            (1, states + 1, 0),
+            (2, states + 1, 0),
+            (2, states + 1, 1),
+            (65535, states + 1, 0),
+            (65535, 1, 0),
+        ] {
             let ask = Ask {
                 mark_table,
                 ceiling,
                 allowance,
             };
-            call(entries, usize::from(allowance == 2), &|answer, work| {
+            call(entries, short, &|answer, work| {
                 format!("{:?}", finder.search(file, ask, answer, work))
             });
         }

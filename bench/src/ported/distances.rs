@@ -6,6 +6,9 @@ use super::model::Header;
 use super::rounds::start_distances;
 use crate::fahkelo::{DistancesAnswer, NOT_REACHED};
 
+/// The mark table of a call that names none. Distances do not depend on marks.
+const TABLE_NOT_NAMED: u16 = 0;
+
 /// The entry of a state, from what the working table holds for it: one more than its distance, or 0 if it has none.
 #[inline]
 fn entry_for(stored: u16, ceiling: u16) -> u16 {
@@ -49,7 +52,7 @@ pub fn distances<A: Access>(
     output: &mut [u16],
     work: &mut [u16],
 ) -> DistancesAnswer {
-    let h = match enter::<A>(file, work) {
+    let h = match enter::<A>(file, TABLE_NOT_NAMED, work) {
         Err(number) => return DistancesAnswer::Refused(number),
         Ok(h) => h,
     };

@@ -1,7 +1,7 @@
 //! The three operations, with every refusal in order.
 
 use super::access::{Access, Phase};
-use super::gate::{ceiling_too_high, enter_naming};
+use super::gate::{ceiling_too_high, enter};
 use super::model::Header;
 use super::paths::is_lasso;
 use super::places::{advance, first, write_list};
@@ -18,7 +18,7 @@ pub fn step<A: Access>(
     so_far: Record,
     work: &mut [u16],
 ) -> StepAnswer {
-    let h = match enter_naming::<A>(file, mark_table, work) {
+    let h = match enter::<A>(file, mark_table, work) {
         Err(number) => return StepAnswer::Refused(number),
         Ok(h) => h,
     };
@@ -53,7 +53,7 @@ pub fn search<A: Access>(
     answer: &mut [u16],
     work: &mut [u16],
 ) -> SearchAnswer {
-    let h = match enter_naming::<A>(file, ask.mark_table, work) {
+    let h = match enter::<A>(file, ask.mark_table, work) {
         Err(number) => return SearchAnswer::Refused(number),
         Ok(h) => h,
     };
@@ -123,7 +123,7 @@ pub fn next<A: Access>(
     answer: &mut [u16],
     work: &mut [u16],
 ) -> NextAnswer {
-    let h = match enter_naming::<A>(file, mark_table, work) {
+    let h = match enter::<A>(file, mark_table, work) {
         Err(number) => return NextAnswer::Refused(number),
         Ok(h) => h,
     };

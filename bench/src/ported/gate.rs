@@ -4,29 +4,19 @@
 use super::access::Access;
 use super::model::{check, Header};
 
-/// The header, or the number of the first of the reasons 1 to 12 that holds.
-#[inline]
-pub fn enter<A: Access>(file: &[u8], work: &[u16]) -> Result<Header, u16> {
-    let h = check::<A>(file)?;
-    if work.len() < 6 * h.states {
-        return Err(12);
-    }
-    Ok(h)
-}
-
 /// The header, with the mark table that is named, or the number of the first reason that holds: 22, whatever the file,
 /// behind which the working table is zero, or 1 to 12.
 #[inline]
-pub fn enter_naming<A: Access>(
-    file: &[u8],
-    mark_table: u16,
-    work: &mut [u16],
-) -> Result<Header, u16> {
+pub fn enter<A: Access>(file: &[u8], mark_table: u16, work: &mut [u16]) -> Result<Header, u16> {
     if 1 < mark_table {
         work.fill(0);
         return Err(22);
     }
-    Ok(enter::<A>(file, work)?.naming(mark_table as usize))
+    let h = check::<A>(file)?;
+    if work.len() < 6 * h.states {
+        return Err(12);
+    }
+    Ok(h.naming(mark_table as usize))
 }
 
 /// The ceiling is above 4,096: reason 21, which is applied behind 12.

@@ -1,7 +1,7 @@
 //! The grade of a list with a claimed k, with every refusal in order.
 
 use super::access::Access;
-use super::gate::enter_naming;
+use super::gate::enter;
 use super::model::Header;
 use super::paths::{closes_at, first_break};
 use super::rounds::{count_candidates, run_rounds, start_distances};
@@ -93,7 +93,7 @@ pub fn grade<A: Access>(
     k: u16,
     work: &mut [u16],
 ) -> GradeAnswer {
-    let h = match enter_naming::<A>(file, mark_table, work) {
+    let h = match enter::<A>(file, mark_table, work) {
         Err(number) => return GradeAnswer::Refused(number),
         Ok(h) => h,
     };

@@ -17,7 +17,8 @@ pub fn step(file: &[u8], mark_table: u16, ceiling: u16, done: u16, best: u64, ro
     }
 }
 
-// A search by the marks of a table and under a ceiling, with room for so many entries in the answer table and in the working table.
+// A search by the marks of a table and under a ceiling, with room for so many entries in the answer table and in the
+// working table.
 pub fn search(
     file: &[u8],
     mark_table: u16,

@@ -33,4 +33,4 @@ H-given allowance h =
 
 -- the starred examples
 pub examples-hold : ExamplesHold
-examples-hold = record { rows = refl; more-allowance = H-given; bytes = refl }
+examples-hold = record { rows = refl; more-allowance = H-given; bytes = refl; two-tables = refl }

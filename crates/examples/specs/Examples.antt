@@ -1,5 +1,5 @@
 -- The starred examples: one table, and one claim about its rows.
-use Prim.Native.Nat.{ℕ, _*_, _-_, _≤_}
+use Prim.Native.Nat.{ℕ, _+_, _*_, _-_, _≤_}
 use mathlib.Core.Path.{_≡_}
 use mathlib.Core.List.{List, [], _∷_, _++_, map}
 use mathlib.Core.Option.{some, none}
@@ -78,9 +78,13 @@ bytesD = bytesWith 51 (24 ∷ [])
 abbrev pub fileTwo : List ℕ
 fileTwo = bytesWith 52 (24 ∷ 2 ∷ [])
 
--- D with a second mark table, which marks state 4, that no path reaches
-abbrev pub fileUnreached : List ℕ
-fileUnreached = bytesWith 52 (24 ∷ 16 ∷ [])
+-- a file with a second mark table behind it, of these bytes, which its total length counts
+abbrev pub withSecond : List ℕ → (marks : List ℕ) → List ℕ
+withSecond f marks = take 20 f ++ word16 (length f + length marks) ++ drop 22 f ++ marks
+
+-- B with a second mark table, which marks nothing
+abbrev pub fileBare : List ℕ
+fileBare = withSecond fileB (0 ∷ [])
 
 -- A row of the table: a file, the call on it, the answer expected, and the list expected to be written, empty if none is.
 pub record Row : Type 0 where
@@ -177,17 +181,17 @@ examples =
     searchNaming fileTwo 1 65535 (answered (Searched.found 3 1 1)) (0 ∷ 1 ∷ 3 ∷ 1 ∷ []) ∷
     nextNaming fileTwo 1 (0 ∷ 1 ∷ 3 ∷ 1 ∷ []) (answered noMore) [] ∷
     nextNaming fileTwo 1 (0 ∷ 2 ∷ 3 ∷ 2 ∷ []) (refused 13) [] ∷
-    -- a table 1 that marks a state which is not reached
-    searchNaming fileUnreached 1 65535 (answered (noneWithin 0)) [] ∷
-    searchNaming fileUnreached 0 65535 (answered (Searched.found 3 1 1)) (0 ∷ 1 ∷ 3 ∷ 1 ∷ []) ∷
+    -- B with two tables, by both: table 1 marks nothing
+    searchNaming fileBare 0 65535 (answered (Searched.found 1 0 1)) (0 ∷ 0 ∷ []) ∷
+    searchNaming fileBare 1 65535 (answered (noneWithin 0)) [] ∷
     -- a spare bit of the second table, by both; the totals with no table and with three
     searchNaming (bytesWith 52 (24 ∷ 32 ∷ [])) 0 65535 (refused 11) [] ∷
     nextNaming (bytesWith 52 (24 ∷ 32 ∷ [])) 1 (0 ∷ 1 ∷ 3 ∷ 1 ∷ []) (refused 11) [] ∷
     searchNaming (bytesWith 50 []) 1 65535 (refused 6) [] ∷
     searchNaming (bytesWith 53 (24 ∷ 2 ∷ 2 ∷ [])) 1 65535 (refused 6) [] ∷
-    -- D with one table: table 1 holds no marks
-    searchNaming fileD 1 0 (answered (noneWithin 0)) [] ∷
-    searchNaming fileD 1 65535 (answered (noneWithin 0)) [] ∷
+    -- B and D with one table: table 1 holds no marks
+    searchNaming fileB 1 0 (answered (noneWithin 0)) [] ∷
+    searchNaming fileB 1 65535 (answered (noneWithin 0)) [] ∷
     nextNaming fileD 1 (0 ∷ 1 ∷ 3 ∷ 1 ∷ []) (refused 13) [] ∷
     -- table 2: with D, with a working table that is too short, and with an empty file
     nextNaming fileD 2 (0 ∷ 1 ∷ 3 ∷ 1 ∷ []) (refused 22) [] ∷
@@ -221,9 +225,10 @@ expected r =
       work = workLeft (r .answer) (workLent (r .call));
     }
 
--- The examples hold: each row gives what is expected; H does with any allowance from 2 on; and the file of D is the
--- paper's.
+-- The examples hold: each row gives what is expected; H does with any allowance from 2 on; the file of D is the paper's; and
+-- D with two tables is D with a second one behind it.
 pub record ExamplesHold : Type 0 where
   pub rows : map given examples ≡ map expected examples
   pub more-allowance : (allowance : ℕ) → 2 ≤ allowance → given (rowH allowance) ≡ expected (rowH allowance)
   pub bytes : fileD ≡ bytesD
+  pub two-tables : withSecond fileD (2 ∷ []) ≡ fileTwo

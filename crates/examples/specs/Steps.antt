@@ -7,7 +7,7 @@ use Rattle.lasso.specs.Rounds.{Record}
 use Rattle.format.specs.Layout.{states}
 use Rattle.outcomes.specs.Outcome.{Outcome, refused, answered}
 use Rattle.step.specs.Step.{Stepped, finished, advanced, stepOutcome}
-use Rattle.examples.specs.Examples.{fileD, fileTwo, fileUnreached, fileH}
+use Rattle.examples.specs.Examples.{fileD, fileTwo, fileBare, fileH}
 
 -- A row of the table: a file, a mark table, a ceiling, a record, and the answer expected of a step from that record.
 pub record StepRow : Type 0 where
@@ -48,9 +48,9 @@ stepRows =
     -- D with two tables: the round of table 0 and that of table 1
     stepNaming fileTwo 0 (after 0 none) (answered (advanced (after 1 (some 3)))) ∷
     stepNaming fileTwo 1 (after 0 none) (answered (advanced (after 1 (some 3)))) ∷
-    -- a table 1 that marks a state which is not reached
-    stepNaming fileUnreached 0 (after 0 none) (answered (advanced (after 1 (some 3)))) ∷
-    stepNaming fileUnreached 1 (after 0 none) (answered (finished (after 0 none))) ∷
+    -- B with two tables: table 1 marks nothing
+    stepNaming fileBare 0 (after 0 none) (answered (advanced (after 1 (some 1)))) ∷
+    stepNaming fileBare 1 (after 0 none) (answered (finished (after 0 none))) ∷
     -- D with one table: table 1 holds no marks
     stepNaming fileD 1 (after 0 none) (answered (finished (after 0 none))) ∷
     -- table 2, also with an empty file
