@@ -98,12 +98,14 @@ module _ {t : ℕ} (limit : t ≤ 1) {f f' : List ℕ} (same : SameBut (1 - t) f
   same-marked : (s : ℕ) → (ltb s (states f) && markBit f t s) ≡ (ltb s (states f') && markBit f' t s)
   same-marked s = on-states same _&&_ (λ x y. refl) s (markBit f t s) (markBit f' t s) (λ l. same-bit s (omega arith))
 
--- both or neither break rule 11: the other's table has no spare bit set in either
+-- neither has a spare bit set in the other's table
+other-clear : {other : ℕ} {f f' : List ℕ} → SameBut other f f' → spareSet f other ≡ spareSet f' other
+other-clear same = same .spare-clear ∙ sym (same .spare-clear')
+
+-- both or neither break rule 11
 eleven-alike : (t : ℕ) → t ≤ 1 → {f f' : List ℕ} → SameBut (1 - t) f f' → badSpare 2 f ≡ badSpare 2 f'
-eleven-alike zero limit same =
-    let clear = same .spare-clear ∙ sym (same .spare-clear') in λ i. same-spare limit same i || (clear i || false)
-eleven-alike (suc zero) limit same =
-    let clear = same .spare-clear ∙ sym (same .spare-clear') in λ i. clear i || (same-spare limit same i || false)
+eleven-alike zero limit same = λ i. same-spare limit same i || (other-clear same i || false)
+eleven-alike (suc zero) limit same = λ i. other-clear same i || (same-spare limit same i || false)
 eleven-alike (suc (suc t)) limit same = absurd (omega arith)
 
 pub same-refusal : SameRefusal
