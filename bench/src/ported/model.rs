@@ -46,6 +46,7 @@ fn long<A: Access>(file: &[u8], at: usize) -> usize {
     word::<A>(file, at) + 65536 * word::<A>(file, at + 2)
 }
 
+/// Bit s of the bytes from a place on, eight to a byte.
 #[inline]
 pub fn bit<A: Access>(file: &[u8], at: usize, s: usize) -> bool {
     (A::get(file, at + s / 8) >> (s % 8)) % 2 == 1

@@ -27,7 +27,7 @@ abbrev pub OneOrTwoTotals : Type 0
 OneOrTwoTotals = (f : List ℕ) → (holdsIn (rules f) 6 ≡ false) ↔
     ((long f 8 ≡ rowsAt) × (long f 12 ≡ edgesAt (states f)) × (long f 16 ≡ marksAt (states f) (edgeCount f)) × OneOrTwoTables f)
 
--- Reason 11 covers both tables: it does not hold exactly if no spare bit is set, in neither of them.
+-- Reason 11 covers both tables: it fails to hold exactly if every spare bit of both is zero.
 abbrev pub SpareOfBothTables : Type 0
 SpareOfBothTables = (f : List ℕ) → (holdsIn (rules f) 11 ≡ false) ↔
     ((t : ℕ) → t ≤ 1 → (s : ℕ) → states f ≤ s → s < 8 * markBytes (states f) → markBit f t s ≡ false)
