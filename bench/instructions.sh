@@ -18,15 +18,15 @@ count() {
 
 searches() {
     local family proved safe unchecked textbook
-    echo "| family | proved | safe | unchecked | textbook | proved/safe | proved/unchecked |"
-    echo "|---|---|---|---|---|---|---|"
+    echo "| family | proved | safe | unchecked | textbook | proved/safe | proved/unchecked | proved/textbook |"
+    echo "|---|---|---|---|---|---|---|---|"
     for family in $("$program" families); do
         proved=$(count search_once once proved "$family" "$1")
         safe=$(count search_once once safe "$family" "$1")
         unchecked=$(count search_once once unchecked "$family" "$1")
         textbook=$(count textbook_once once textbook "$family" "$1")
-        awk -v f="$family" -v p="$proved" -v s="$safe" -v u="$unchecked" -v t="$textbook" \
-            'BEGIN { printf "| %s | %d | %d | %d | %d | %.2f | %.2f |\n", f, p, s, u, t, p / s, p / u }'
+        awk -v f="$family" -v p="$proved" -v s="$safe" -v u="$unchecked" -v t="$textbook" 'BEGIN {
+            printf "| %s | %.0f | %.0f | %.0f | %.0f | %.2f | %.2f | %.2f |\n", f, p, s, u, t, p / s, p / u, p / t }'
     done
 }
 

@@ -72,6 +72,14 @@ pub const FAMILIES: &[Family] = &[
         name: "sinks",
         make: sinks,
     },
+    Family {
+        name: "nested",
+        make: nested,
+    },
+    Family {
+        name: "marks-before-dead-ends",
+        make: marks_before_dead_ends,
+    },
 ];
 
 /// The family of a name.
@@ -298,6 +306,38 @@ fn sinks(n: usize) -> Model {
         }
         model.edge(s, half + s);
         model.marks[half + s] = half / 2 <= s;
+    }
+    model
+}
+
+/// A way of two thirds of the states; from each of its states an edge leads back to the start. Its end is marked and leads
+/// to all others, so that each of them can start the loop, and the first list passes them all.
+fn nested(n: usize) -> Model {
+    let mut model = Model::new(n);
+    let end = 2 * n / 3 - 2;
+    for s in 0..end {
+        model.edge(s, s + 1);
+        model.edge(s, 0);
+        model.edge(end, s);
+    }
+    model.marks[end] = true;
+    model
+}
+
+/// The start leads to half of the states, which are marked and stand in rings of four. Each of them can start the loop,
+/// and leads to a hub of dead ends too: a search along the edges enters these, one against the edges does not.
+fn marks_before_dead_ends(n: usize) -> Model {
+    let mut model = Model::new(n);
+    let half = n / 2;
+    let hub = 1;
+    for s in hub + 1..half {
+        model.edge(hub, s);
+    }
+    for s in half..n {
+        model.edge(0, s);
+        model.edge(s, hub);
+        model.edge(s, s / 4 * 4 + (s + 1) % 4);
+        model.marks[s] = true;
     }
     model
 }

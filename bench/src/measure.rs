@@ -334,7 +334,7 @@ pub fn count_work(file: &[u8], states: usize, ceiling: u16) -> Work {
     Counting::take()
 }
 
-/// Prints the work of a search on each family at one size: spreads done and edges looked at, by phase.
+/// Prints the work of a search on each family at one size: spreads and passes done and edges looked at, by phase.
 pub fn print_counts(states: usize) {
     println!("| family | spreads: rounds | prepare | list | edges: rounds | prepare | list |");
     println!("|---|---|---|---|---|---|---|");

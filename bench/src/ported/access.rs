@@ -26,11 +26,11 @@ pub trait Access {
     #[inline(always)]
     fn phase(_: Phase) {}
 
-    /// A spread is done.
+    /// A spread is done, or a pass back over its queue.
     #[inline(always)]
     fn spread() {}
 
-    /// An edge is looked at by a spread.
+    /// An edge is looked at by a spread, or a step by a pass.
     #[inline(always)]
     fn edge() {}
 
@@ -131,8 +131,8 @@ impl Access for Unchecked {
     }
 }
 
-/// The work of one call: for each phase, spreads done, and edges looked at by them; edges looked for in rows, the looks
-/// at places of rows for them, all and the most for one edge.
+/// The work of one call: for each phase, spreads and passes done, and edges looked at by them; edges looked for in rows,
+/// the looks at places of rows for them, all and the most for one edge.
 #[derive(Clone, Copy, Debug, Default, PartialEq, Eq)]
 pub struct Work {
     pub spreads: [u64; 3],

@@ -7,7 +7,7 @@ use super::paths::is_lasso;
 use super::places::{advance, first, write_list};
 use super::rounds::{after_round, candidate_at, count_candidates, run_rounds, start_distances};
 use super::spread::{get, put};
-use super::starts::prepare;
+use super::stems::prepare;
 use crate::fahkelo::{Ask, NextAnswer, Record, SearchAnswer, StepAnswer, FULL_CEILING};
 
 /// The record after one more round under a ceiling, for the marks of a table.

@@ -1,4 +1,5 @@
-//! Which state may stand at the next place of the list.
+//! Whether a state may stand at the next place of the list and close at a loop start that the list has passed, by a
+//! search from that state.
 
 use super::access::Access;
 use super::model::{is_marked, Header};
@@ -11,17 +12,6 @@ pub fn list_at<A: Access>(h: Header, work: &[u16], place: usize) -> usize {
         return h.start;
     }
     get::<A>(work, place - 1)
-}
-
-fn starts_ahead<A: Access>(work: &[u16], n: usize, left: usize) -> bool {
-    for s in 0..n {
-        let loop_entry = get::<A>(work, n + s);
-        let level = get::<A>(work, 2 * n + s);
-        if loop_entry != 0 && level != 0 && level + loop_entry <= left + 2 {
-            return true;
-        }
-    }
-    false
 }
 
 fn closes_marked<A: Access>(
@@ -53,15 +43,16 @@ fn closes_start<A: Access>(h: Header, work: &[u16], place: usize, left: usize) -
     for k in 0..=place {
         let s = list_at::<A>(h, work, k);
         let level = get::<A>(work, 2 * n + s);
-        if get::<A>(work, n + s) != 0 && level != 0 && level <= left + 1 {
+        if get::<A>(work, n + s) % 2 == 1 && level != 0 && level <= left + 1 {
             return true;
         }
     }
     false
 }
 
-/// State t may stand after the list up to a place.
-pub fn may_follow<A: Access>(
+/// From state t after the list up to a place, the list can close in time at a loop start that it has passed, with a mark
+/// passed since then or ahead.
+pub fn may_close<A: Access>(
     file: &[u8],
     h: Header,
     work: &mut [u16],
@@ -72,9 +63,6 @@ pub fn may_follow<A: Access>(
     let n = h.states;
     let left = length - (place + 1);
     distances::<A>(file, h, work, t, left + 1);
-    if starts_ahead::<A>(work, n, left) {
-        return true;
-    }
     if closes_marked::<A>(file, h, work, place, left) {
         return true;
     }

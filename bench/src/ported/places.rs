@@ -1,9 +1,11 @@
 //! The first list, the list after a given one, and writing a list to the answer table.
 
 use super::access::Access;
-use super::follow::{list_at, may_follow};
+use super::follow::list_at;
 use super::model::{degree, row_part, successor, Header};
+use super::passed::{pass, retreat, Passed};
 use super::spread::{get, put};
+use super::tested::may_follow;
 
 fn least_follower<A: Access>(
     file: &[u8],
@@ -12,12 +14,13 @@ fn least_follower<A: Access>(
     length: usize,
     place: usize,
     bound: usize,
+    passed: &mut Passed,
 ) -> Option<usize> {
     let s = list_at::<A>(h, work, place);
     let part = row_part::<A>(file, h, s);
     for k in 0..degree(part, h) {
         let t = successor::<A>(part, s, k);
-        if bound <= t && may_follow::<A>(file, h, work, length, place, t) {
+        if bound <= t && may_follow::<A>(file, h, work, length, place, t, passed) {
             return Some(t);
         }
     }
@@ -30,13 +33,14 @@ fn first_follower<A: Access>(
     work: &mut [u16],
     length: usize,
     place: usize,
+    passed: &mut Passed,
 ) -> usize {
     let s = list_at::<A>(h, work, place);
     let part = row_part::<A>(file, h, s);
     let mut tried = 0;
     while tried + 1 < degree(part, h) {
         let t = successor::<A>(part, s, tried);
-        if may_follow::<A>(file, h, work, length, place, t) {
+        if may_follow::<A>(file, h, work, length, place, t, passed) {
             return t;
         }
         tried += 1;
@@ -44,25 +48,39 @@ fn first_follower<A: Access>(
     successor::<A>(part, s, tried)
 }
 
-fn complete<A: Access>(file: &[u8], h: Header, work: &mut [u16], length: usize, from: usize) {
+fn complete<A: Access>(
+    file: &[u8],
+    h: Header,
+    work: &mut [u16],
+    length: usize,
+    from: usize,
+    passed: Passed,
+) {
+    let mut passed = passed;
     for place in from..length {
-        let t = first_follower::<A>(file, h, work, length, place);
+        let t = first_follower::<A>(file, h, work, length, place, &mut passed);
         put::<A>(work, place, t);
+        passed = pass::<A>(file, h, work, place, passed);
     }
 }
 
 /// Puts the first of the shortest accepting paths into region 0.
 pub fn first<A: Access>(file: &[u8], h: Header, work: &mut [u16], length: usize) {
-    complete::<A>(file, h, work, length, 0);
+    let passed = retreat::<A>(file, h, work, 0, Passed::unknown(0));
+    complete::<A>(file, h, work, length, 0, passed);
 }
 
 /// Puts the path after the one in region 0 there; false if that one is the last.
 pub fn advance<A: Access>(file: &[u8], h: Header, work: &mut [u16], length: usize) -> bool {
+    let mut passed = Passed::unknown(length);
     for place in (0..length).rev() {
         let bound = get::<A>(work, place) + 1;
-        if let Some(t) = least_follower::<A>(file, h, work, length, place, bound) {
+        passed = retreat::<A>(file, h, work, place, passed);
+        let next = least_follower::<A>(file, h, work, length, place, bound, &mut passed);
+        if let Some(t) = next {
             put::<A>(work, place, t);
-            complete::<A>(file, h, work, length, place + 1);
+            let passed = pass::<A>(file, h, work, place, passed);
+            complete::<A>(file, h, work, length, place + 1, passed);
             return true;
         }
     }

@@ -2,14 +2,14 @@
 
 use super::access::Access;
 use super::model::{is_marked, Header};
-use super::spread::{distances, get, put, spread};
+use super::spread::{copy, distances, get, put, spread};
 use crate::fahkelo::Record;
 
 /// Puts the distances from the start into region 0.
 pub fn start_distances<A: Access>(file: &[u8], h: Header, work: &mut [u16]) {
     let n = h.states;
     distances::<A>(file, h, work, h.start, n);
-    A::part_mut(work, 0, 3 * n).copy_within(2 * n.., 0);
+    copy::<A>(work, 2 * n, 0, n);
 }
 
 fn is_candidate<A: Access>(file: &[u8], h: Header, work: &[u16], s: usize) -> bool {
@@ -58,7 +58,8 @@ fn round<A: Access>(
     }
     distances::<A>(file, h, work, r, limit);
     add_start_distances::<A>(work, h.states);
-    spread::<A>(file, h, work, limit, r).map(|length| length as u16)
+    let answer = spread::<A>(file, h, work, limit, r);
+    answer.length().map(|length| length as u16)
 }
 
 fn lower(a: usize, b: usize) -> usize {

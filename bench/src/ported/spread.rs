@@ -1,6 +1,7 @@
 //! The one search there is: breadth-first by levels, from sources that start at levels of their own. The working table
-//! is six regions of n entries: 0 distances from the start, 1 loop lengths, 2 levels, 3 queue, 4 first source of a
-//! level, 5 next source. An entry 0 stands for nothing; a level l stands as l + 1, a source s as s + 1.
+//! is six regions of n entries: 0 distances from the start, 1 stems, 2 levels, 3 queue, 4 first source of a level, 5 next
+//! source. An entry 0 stands for nothing; a level l stands as l + 1, a source s as s + 1. While a list is made, region 0
+//! holds it, regions 2 and 5 hold the tables behind its last loop start, and region 4 flags of ends.
 
 use super::access::Access;
 use super::model::{degree, edge_count, edge_target, is_marked, row_part, successor, Header};
@@ -21,6 +22,40 @@ pub fn put<A: Access>(table: &mut [u16], at: usize, value: usize) {
 #[inline]
 pub fn clear<A: Access>(table: &mut [u16], from: usize, to: usize) {
     A::part_mut(table, from, to).fill(0);
+}
+
+/// Copies n entries from one place to another; the two parts are apart.
+#[inline]
+pub fn copy<A: Access>(table: &mut [u16], from: usize, to: usize, n: usize) {
+    let first = from.min(to);
+    let both = A::part_mut(table, first, from.max(to) + n);
+    both.copy_within(from - first..from - first + n, to - first);
+}
+
+/// The answer of a search: the length at which an edge into the target was found, or that there is none, with the number
+/// of states reached.
+#[derive(Clone, Copy)]
+pub enum SpreadAnswer {
+    Length(usize),
+    Nothing(usize),
+}
+
+impl SpreadAnswer {
+    /// The length, if one was found.
+    pub fn length(self) -> Option<usize> {
+        match self {
+            SpreadAnswer::Length(length) => Some(length),
+            SpreadAnswer::Nothing(_) => None,
+        }
+    }
+
+    /// The number of states reached by a search without a target.
+    pub fn count(self) -> usize {
+        match self {
+            SpreadAnswer::Length(_) => 0,
+            SpreadAnswer::Nothing(count) => count,
+        }
+    }
 }
 
 fn list_source<A: Access>(work: &mut [u16], n: usize, level: usize, s: usize) {
@@ -61,15 +96,14 @@ fn admit<A: Access>(work: &mut [u16], n: usize, level: usize, tail: usize) -> us
     end
 }
 
-/// The search by the edges of the file, from listed sources; the length at which an edge into the target was found, if
-/// there is one.
+/// The search by the edges of the file, from listed sources.
 fn search_edges<A: Access>(
     file: &[u8],
     h: Header,
     work: &mut [u16],
     limit: usize,
     target: usize,
-) -> Option<usize> {
+) -> SpreadAnswer {
     A::spread();
     let n = h.states;
     let mut at = 3 * n;
@@ -84,14 +118,14 @@ fn search_edges<A: Access>(
                 A::edge();
                 let t = edge_target::<A>(part, k);
                 if t == target {
-                    return Some(level + 1);
+                    return SpreadAnswer::Length(level + 1);
                 }
                 tail = reach::<A>(work, n, t, level + 1, tail);
             }
             at += 1;
         }
     }
-    None
+    SpreadAnswer::Nothing(tail - 3 * n)
 }
 
 /// State s is in the list of a level.
@@ -133,12 +167,15 @@ fn search_planned<A: Access>(
     work: &mut [u16],
     limit: usize,
     target: usize,
-) -> Option<usize> {
+) -> SpreadAnswer {
     let bound = search_bound::<A>(file, h, work, limit, target);
     if limit <= bound {
         return search_edges::<A>(file, h, work, limit, target);
     }
-    search_edges::<A>(file, h, work, bound, target).or(Some(bound + 1))
+    match search_edges::<A>(file, h, work, bound, target) {
+        SpreadAnswer::Length(length) => SpreadAnswer::Length(length),
+        SpreadAnswer::Nothing(_) => SpreadAnswer::Length(bound + 1),
+    }
 }
 
 /// Searches from the sources whose start levels stand in region 2, below the limit.
@@ -148,7 +185,7 @@ pub fn spread<A: Access>(
     work: &mut [u16],
     limit: usize,
     target: usize,
-) -> Option<usize> {
+) -> SpreadAnswer {
     plan::<A>(work, h.states, limit);
     search_planned::<A>(file, h, work, limit, target)
 }
@@ -168,11 +205,17 @@ fn keep_marked<A: Access>(file: &[u8], h: Header, work: &mut [u16]) {
     }
 }
 
-/// Puts the distances from x, up to the limit, into region 2.
-pub fn distances<A: Access>(file: &[u8], h: Header, work: &mut [u16], x: usize, limit: usize) {
+/// Puts the distances from x, up to the limit, into region 2; how many states have one.
+pub fn distances<A: Access>(
+    file: &[u8],
+    h: Header,
+    work: &mut [u16],
+    x: usize,
+    limit: usize,
+) -> usize {
     let n = h.states;
     start_at::<A>(work, n, x, limit);
-    search_edges::<A>(file, h, work, limit, n);
+    search_edges::<A>(file, h, work, limit, n).count()
 }
 
 /// Searches on from the marked states, at the levels that region 2 holds for them.
@@ -182,7 +225,7 @@ pub fn from_marks<A: Access>(
     work: &mut [u16],
     limit: usize,
     target: usize,
-) -> Option<usize> {
+) -> SpreadAnswer {
     keep_marked::<A>(file, h, work);
     spread::<A>(file, h, work, limit, target)
 }
@@ -196,5 +239,5 @@ pub fn loop_length<A: Access>(
     limit: usize,
 ) -> Option<usize> {
     distances::<A>(file, h, work, x, limit);
-    from_marks::<A>(file, h, work, limit, x)
+    from_marks::<A>(file, h, work, limit, x).length()
 }

@@ -29,9 +29,9 @@ pub entry-zero : (n : ℕ) (w : List ℕ) (s : ℕ) → entry 0 n w s ≡ getD w
 entry-zero n w s = let e : 0 * n + s ≡ s = omega arith in ap (λ (i : ℕ). getD w i 0) e
 
 -- the distances from the start, found in region 2 and copied to region 0
-pub start-distances-put : {g : Graph} {n x : ℕ} {w w₁ w' : List ℕ} → n ≡ g .size → x ≡ g .start
-    → DistancesWithin g x n w w₁ → Copied (2 * n) 0 n w₁ w' → StartDistancesPut g w w'
-start-distances-put {g} {n} {x} {w} {w₁} {w'} en ex found copied =
+pub start-distances-put : {g : Graph} {n x count : ℕ} {w w₁ w' : List ℕ} → n ≡ g .size → x ≡ g .start
+    → DistancesWithin g x n w w₁ count → Copied (2 * n) 0 n w₁ w' → StartDistancesPut g w w'
+start-distances-put {g} {n} {x} {count} {w} {w₁} {w'} en ex found copied =
     record {
       same-length = copied .others .same-length ∙ found .outside .same-length;
       start-distances = record { distances = at };
@@ -41,7 +41,7 @@ start-distances-put {g} {n} {x} {w} {w₁} {w'} en ex found copied =
   where
     at : (t : ℕ) → t < g .size → entry 0 (g .size) w' t ≡ entryOf (dist g (g .start) t)
     at t l =
-        let d : DistancesWithin g (g .start) (g .size) w w₁ = rw (en, ex) at found in
+        let d : DistancesWithin g (g .start) (g .size) w w₁ count = rw (en, ex) at found in
         let all : under (suc (g .size)) (dist g (g .start) t) ≡ dist g (g .start) t =
         under-all (suc (g .size)) (dist g (g .start) t) (λ k e. omega (arith, dist-below g (g .start) t k e)) in
         let c : Copied (2 * g .size) 0 (g .size) w₁ w' = rw en at copied in

@@ -8,7 +8,7 @@ ghost use Rattle.model.specs.Model.{graphIn};
 ghost use Rattle.candidates.specs.Promises.{StartDistancesPut, RoundsReady};
 use model::Header;
 use model::is_marked;
-use table::copy_down;
+use table::copy;
 use table::get;
 use walks::distances;
 
@@ -21,7 +21,7 @@ pub fn start_distances(file: &[u8], h: Header, work: &mut [u16])
     let n = h.states;
     let start = h.start;
     distances(file, h, work, start, n);
-    copy_down(work, 2 * n, 0, n);
+    copy(work, 2 * n, 0, n);
 }
 
 // The state is a candidate: marked, and reached from the start.

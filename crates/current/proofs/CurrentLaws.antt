@@ -1,7 +1,7 @@
 -- The current list by places, writing it to the front of a table, first up to a place and then from there on, and the
 -- first place of its last entry.
 use Prim.Native.Nat.{ℕ, zero, suc, _+_, _-_, _≤_, _<_}
-use mathlib.Core.Path.{_≡_, sym, _∙_, ap}
+use mathlib.Core.Path.{_≡_, refl, sym, _∙_, ap}
 use mathlib.Core.Logic.{inl, inr}
 use mathlib.Core.List.{List, [], _∷_, _++_, append-assoc, append-nil}
 use native.Mathlib.Numerals.{add-one}
@@ -13,11 +13,17 @@ use Rattle.lasso.specs.Lists.{placeOf}
 use Rattle.lasso.specs.Graph.{loopStart}
 use Rattle.lasso.proofs.Tests.{eq-or-apart, lt-or-ge}
 use Rattle.lasso.proofs.Lasso.{placeOf-first}
+use Rattle.table.specs.Changes.{SameOutside}
 
 -- the states of the list from place 1 on are the table's entries from 0 on
 pub list-place : (start : ℕ) (w : List ℕ) (i : ℕ) → 1 ≤ i → getD (start ∷ w) i 0 ≡ getD w (i - 1) 0
 list-place start w zero l = absurd (omega arith)
 list-place start w (suc i) l = let e : i ≡ suc i - 1 = omega arith in ap (λ (j : ℕ). getD w j 0) e
+
+-- a change behind a place of the list keeps its state
+pub list-kept : {from to : ℕ} {w w' : List ℕ} (start k : ℕ) → SameOutside from to w w' → k ≤ from → getD (start ∷ w') k 0 ≡ getD (start ∷ w) k 0
+list-kept start zero same h = refl
+list-kept start (suc k) same h = same .same-before k (omega arith)
 
 -- a store behind the entries of s that stand in front takes in the next one
 pub front-more : (s d : List ℕ) (i : ℕ) → i < length s → i < length d

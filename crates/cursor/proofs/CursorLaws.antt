@@ -20,7 +20,7 @@ use Rattle.model.specs.Model.{graphIn}
 use Rattle.model.specs.Values.{Valid}
 use Rattle.model.proofs.Laws.{valid-sizes}
 use Rattle.candidates.specs.Promises.{RoundsReady}
-use Rattle.starts.specs.LoopStarts.{StartLoops}
+use Rattle.stems.specs.Stems.{StemEntries}
 use Rattle.follow.specs.Follow.{Prepared, upTo}
 use Rattle.listing.specs.Places.{Kept, Replaced}
 use Rattle.listing.proofs.PlacesTable.{prepared-kept}
@@ -57,11 +57,11 @@ full-least {f} {h} {ceiling} valid full all =
     let sizes = valid-sizes valid in
     sym (least-full (graphIn f h) ceiling (omega arith)) ∙ all .least-is
 
--- the loop lengths are there: the table is prepared
+-- the stems are there: the table is prepared
 pub prepared-start : {f : List ℕ} {h : Header} {l : ℕ} {w w' : List ℕ} → RoundsReady f h w → leastLength (graphIn f h) ≡ some l
-    → StartLoops (graphIn f h) l w' → length w' ≡ length w → Prepared f h w' l
-prepared-start r e loops same =
-    record { valid = r .valid; room = omega (arith, r .room); least = e; start-loops = loops }
+    → StemEntries (graphIn f h) l w' → length w' ≡ length w → Prepared f h w' l
+prepared-start r e stems same =
+    record { valid = r .valid; room = omega (arith, r .room); least = e; stems = stems }
 
 -- the table is at the first list
 pub at-first : {f : List ℕ} {h : Header} {l : ℕ} {w : List ℕ} → Prepared f h w l

@@ -14,7 +14,8 @@ use Rattle.model.specs.declared.Header.{Header}
 use Rattle.model.specs.Model.{graphIn}
 use Rattle.model.proofs.Laws.{valid-sizes}
 use Rattle.candidates.specs.Promises.{RoundsReady}
-use Rattle.starts.specs.LoopStarts.{StartLoops}
+use Rattle.stems.specs.Stems.{StemEntries}
+use Rattle.stems.proofs.StemTable.{stems-kept}
 use Rattle.follow.specs.Follow.{Prepared, upTo}
 use Rattle.cursor.proofs.LoadLaws.{loaded, loaded-list, loaded-after, loaded-length}
 
@@ -51,9 +52,9 @@ module _ {f : List ℕ} {h : Header} {w : List ℕ} (ready : RoundsReady f h w) 
       ∙ same
 
   -- a prepared table is prepared with a list of the roll in region 0
-  pub prepared-loaded : (w₁ w₂ : List ℕ) → length w₁ ≡ length w → StartLoops (graphIn f h) l w₁ → (xs : List ℕ)
+  pub prepared-loaded : (w₁ w₂ : List ℕ) → length w₁ ≡ length w → StemEntries (graphIn f h) l w₁ → (xs : List ℕ)
       → List·Memᴰ xs (roll (graphIn f h)) → w₂ ≡ loaded xs w₁ → Prepared f h w₂ l
-  prepared-loaded w₁ w₂ same loops xs m e =
+  prepared-loaded w₁ w₂ same stems xs m e =
       let g : Graph = graphIn f h in
       let sizes = valid-sizes (ready .valid) in
       let long : length xs ≡ suc l = roll-length g l least xs m in
@@ -61,10 +62,7 @@ module _ {f : List ℕ} {h : Header} {w : List ℕ} (ready : RoundsReady f h w) 
         valid = ready .valid;
         room = omega (arith, ready .room, loaded-kept w₁ w₂ same xs m e);
         least = least;
-        start-loops = record {
-          loops = λ s low.
-              ap (λ (z : List ℕ). getD z (1 * g .size + s) 0) e
-              ∙ loaded-after xs w₁ (1 * g .size + s) (omega arith) (omega (arith, least-fits))
-              ∙ loops .loops s low;
-        };
+        stems = stems-kept (λ s low.
+            ap (λ (z : List ℕ). getD z (1 * g .size + s) 0) e
+            ∙ loaded-after xs w₁ (1 * g .size + s) (omega arith) (omega (arith, least-fits))) stems;
       }

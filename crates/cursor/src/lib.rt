@@ -21,7 +21,7 @@ use lasso::Transitions;
 use listing::first;
 use model::Header;
 use rounds::run_rounds;
-use starts::prepare;
+use stems::prepare;
 use table::get;
 use table::put;
 

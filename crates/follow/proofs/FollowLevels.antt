@@ -31,7 +31,7 @@ levels-value {n} {limit} {w} {f} levels s k inside l e =
     level-entry limit (entry 2 n w s) (f s) k (levels .below s inside) l .0 e
 
 -- after the search from t
-module _ {g : Graph} {t limit : ℕ} {w v : List ℕ} (d : DistancesWithin g t limit w v) where
+module _ {g : Graph} {t limit count : ℕ} {w v : List ℕ} (d : DistancesWithin g t limit w v count) where
   -- the distances from t
   pub distances-levels : LevelsBelow (g .size) limit v (dist g t)
   distances-levels =

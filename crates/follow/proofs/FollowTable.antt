@@ -1,7 +1,7 @@
--- What is asked of a next state, and what the working table then holds after each search: the list, the loop
--- lengths, and the levels.
-use Prim.Native.Nat.{ℕ, zero, suc, _+_, _*_, _-_, _≤_, _<_}
-use mathlib.Core.Path.{_≡_, refl, sym, _∙_, ap}
+-- What is asked of a next state, and what the working table then holds after each search: the list, the stems, and the
+-- levels.
+use Prim.Native.Nat.{ℕ, zero, suc, _+_, _*_, _-_, _/_, _≤_, _<_}
+use mathlib.Core.Path.{_≡_, refl, sym, _∙_, ap, subst}
 use mathlib.Core.Bool.{Bool}
 use mathlib.Core.List.{List, [], _∷_, _++_}
 use mathlib.Core.Option.{Option}
@@ -9,34 +9,52 @@ use native.Mathlib.Omega.{arith}
 use lib.ListN.{length, getD}
 use lib.Seq.{length-take-le, getD-take}
 use lib.Dec.{T}
+use Rattle.lasso.specs.Decides.{Decides}
 use Rattle.lasso.specs.Graph.{Graph, pathb}
 use Rattle.lasso.specs.Distance.{dist}
 use Rattle.lasso.proofs.RollLaws.{leastLength-range}
+use Rattle.lasso.proofs.Extend.{Ahead}
 use Rattle.model.specs.declared.Header.{Header}
 use Rattle.model.specs.Model.{graphIn}
 use Rattle.model.proofs.Laws.{Sizes, valid-sizes, valid-well-formed}
 use Rattle.table.specs.Changes.{SameOutside}
-use Rattle.table.proofs.Laws.{sameOutside-trans}
+use Rattle.table.proofs.Laws.{sameOutside-refl, sameOutside-trans}
 use Rattle.spread.specs.declared.SpreadAnswer.{SpreadAnswer}
 use Rattle.spread.specs.Promises.{SpreadFrom}
 use Rattle.walks.specs.Through.{markedSources, DistancesWithin}
 use Rattle.spread.proofs.SearchLaws.{spread-sameOutside}
-use Rattle.starts.specs.LoopStarts.{StartLoops}
-use Rattle.follow.specs.Follow.{Prepared, Decides, upTo, StatesTo, StartsAhead, ClosesMarked, ClosesStart, MayFollow}
+use Rattle.stems.specs.Stems.{StemEntries}
+use Rattle.stems.proofs.StemTable.{stems-kept}
+use Rattle.current.specs.Current.{stateAt}
+use Rattle.current.proofs.CurrentLaws.{list-kept}
+use Rattle.follow.specs.Follow.{Prepared, upTo, StatesTo, OnStem, ClosesMarked, ClosesStart, MayFollow}
 use Rattle.follow.proofs.FollowLevels.{LevelsBelow, distances-levels, marks-levels}
-use Rattle.follow.proofs.FollowLaws.{Beginning, Holds, place-state, starts-extends, marked-extends, closes-not-extends, closes-decides}
+use Rattle.follow.proofs.FollowLaws.{Beginning, Holds, next-state, place-state, ahead-stem, stem-extends, marked-extends, closes-not-extends, closes-decides}
 
--- a search changes neither the loop lengths nor the list
+-- a search changes neither the stems nor the list
 module _ (g : Graph) (w v : List ℕ) (same : SameOutside (2 * g .size) (6 * g .size) w v) where
-  -- the loop lengths stand as before
-  startLoops-same : (l : ℕ) → StartLoops g l w → StartLoops g l v
-  startLoops-same l loops =
-      record { loops = λ s h. same .same-before (1 * g .size + s) (omega arith) ∙ loops .loops s h }
+  -- the stems stand as before
+  stems-same : (l : ℕ) → StemEntries g l w → StemEntries g l v
+  stems-same l stems =
+      stems-kept (λ s h. same .same-before (1 * g .size + s) (omega arith)) stems
 
   -- the states of the list stand as before
   list-same : (place : ℕ) → place ≤ g .size → (k : ℕ) → k ≤ place → getD (g .start ∷ v) k 0 ≡ getD (upTo g w place) k 0
-  list-same place b zero h = refl
-  list-same place b (suc k) h = same .same-before k (omega arith) ∙ sym (getD-take place w k 0 (omega arith))
+  list-same place b k h = list-kept (g .start) k same (omega arith) ∙ in-front k h
+    where
+      in-front : (k : ℕ) → k ≤ place → getD (g .start ∷ w) k 0 ≡ getD (upTo g w place) k 0
+      in-front zero i = refl
+      in-front (suc k) i = sym (getD-take place w k 0 (omega arith))
+
+-- a search keeps what is prepared
+pub prepared-same : {f : List ℕ} {h : Header} {w w' : List ℕ} {l : ℕ} → Prepared f h w l → SameOutside (2 * h .states) (6 * h .states) w w' → Prepared f h w' l
+prepared-same {f} {h} {w} {w'} {l} p same =
+    record {
+      valid = p .valid;
+      room = omega (arith, p .room, same .same-length);
+      least = p .least;
+      stems = stems-same (graphIn f h) w w' same l (p .stems);
+    }
 
 -- what is asked of state t after the list up to a place: the two are a path
 pub record Asked (f : List ℕ) (h : Header) (w : List ℕ) (l place t : ℕ) : Type 0 where
@@ -68,7 +86,7 @@ module _ {f : List ℕ} {h : Header} {w : List ℕ} {l place t : ℕ} (asked : A
   pub asked-holds : {φ : ℕ → Option ℕ} (v : List ℕ) → SameOutside (2 * graphIn f h .size) (6 * graphIn f h .size) w v → LevelsBelow (graphIn f h .size) (l - (place + 1) + 1) v φ → Holds (graphIn f h) l place (upTo (graphIn f h) w place) φ v
   asked-holds v same levels =
       record {
-        loops = startLoops-same (graphIn f h) w v same l (asked .prepared .start-loops);
+        stems = stems-same (graphIn f h) w v same l (asked .prepared .stems);
         states = list-same (graphIn f h) w v same place (omega (arith, asked-sizes, asked .within));
         levels = levels;
       }
@@ -82,15 +100,23 @@ module _ {f : List ℕ} {h : Header} {w : List ℕ} {l place t : ℕ} (asked : A
   pub asked-same : (v : List ℕ) → SameOutside (2 * graphIn f h .size) (6 * graphIn f h .size) w v → SameOutside (2 * h .states) (6 * h .states) w v
   asked-same v same = same
 
+  -- t on a stem at its place: t may follow
+  pub stem-follows : OnStem (h .states) w place t → MayFollow (graphIn f h) l w place t
+  stem-follows x = stem-extends asked-beginning (asked .prepared .stems) x
+
+  -- the states of the list by their places
+  pub asked-at : (k : ℕ) → k ≤ place → stateAt h w k ≡ getD (upTo (graphIn f h) w place) k 0
+  asked-at = list-same (graphIn f h) w w (sameOutside-refl _ _ w) place (omega (arith, asked-sizes, asked .within))
+
+  -- t on no stem: the loop start is not ahead
+  pub not-ahead : (OnStem (h .states) w place t → ⊥) → Ahead (graphIn f h) l (upTo (graphIn f h) w place) t → ⊥
+  not-ahead no-stem x = no-stem (ahead-stem asked-beginning (asked .prepared .stems) x)
+
   -- after the search from t
-  module _ (v : List ℕ) (D : DistancesWithin (graphIn f h) t (l - (place + 1) + 1) w v) where
+  module _ {count : ℕ} (v : List ℕ) (D : DistancesWithin (graphIn f h) t (l - (place + 1) + 1) w v count) where
     -- the table holds the distances from t
     near : Holds (graphIn f h) l place (upTo (graphIn f h) w place) (dist (graphIn f h) t) v
     near = asked-holds v (D .outside) (distances-levels D)
-
-    -- a loop start ahead: t may follow
-    pub starts-follows : StartsAhead (h .states) v (l - (place + 1)) → MayFollow (graphIn f h) l w place t
-    starts-follows x = starts-extends asked-beginning near x
 
     -- a loop start and a mark passed: t may follow
     pub marked-follows : ClosesMarked (graphIn f h) (h .states) (h .start) v place (l - (place + 1)) → MayFollow (graphIn f h) l w place t
@@ -105,15 +131,20 @@ module _ {f : List ℕ} {h : Header} {w : List ℕ} {l place t : ℕ} (asked : A
     searched-outside u r sp =
         sameOutside-trans (D .outside) (spread-sameOutside (graphIn f h) (markedSources (graphIn f h) (l - (place + 1) + 1) v) (l - (place + 1) + 1) (h .states) r sp)
 
+    -- t is on no stem after the search either
+    stem-same : (OnStem (h .states) w place t → ⊥) → OnStem (h .states) v place t → ⊥
+    stem-same never x =
+        never (subst (λ (e : ℕ). e / 2 ≡ place + 2) (D .outside .same-before (1 * h .states + t) (omega (arith, next-state asked-beginning))) x)
+
     -- when both are ruled out
-    module _ (no-start : StartsAhead (h .states) v (l - (place + 1)) → ⊥) (no-mark : ClosesMarked (graphIn f h) (h .states) (h .start) v place (l - (place + 1)) → ⊥) where
+    module _ (no-stem : OnStem (h .states) w place t → ⊥) (no-mark : ClosesMarked (graphIn f h) (h .states) (h .start) v place (l - (place + 1)) → ⊥) where
       -- no state of the list that can start the loop is near enough: t may not follow
       pub far-not-follows : (ClosesStart (h .states) (h .start) v place (l - (place + 1)) → ⊥) → MayFollow (graphIn f h) l w place t → ⊥
       far-not-follows far =
-          closes-not-extends asked-beginning near no-start no-mark far
+          closes-not-extends asked-beginning near (stem-same no-stem) no-mark far
 
       -- the search on from the marked states decides whether t may follow
       pub via-decides : (u : List ℕ) (r : SpreadAnswer) → SearchedOn u r → (b : Bool) → Decides (ClosesStart (h .states) (h .start) u place (l - (place + 1))) b → Decides (MayFollow (graphIn f h) l w place t) b
       via-decides u r sp b known =
           let levels = marks-levels D (asked-beginning .well-formed) u r sp in
-          closes-decides asked-beginning near no-start no-mark (asked-holds u (searched-outside u r sp) levels) b known
+          closes-decides asked-beginning near (stem-same no-stem) no-mark (asked-holds u (searched-outside u r sp) levels) b known

@@ -8,9 +8,9 @@ use native.Mathlib.Omega.{arith}
 use lib.ListN.{getD}
 use lib.Dec.{T}
 use Rattle.lasso.specs.Graph.{Graph}
-use Rattle.lasso.proofs.Tests.{lt-or-ge}
+use Rattle.lasso.specs.Decides.{Decides}
+use Rattle.lasso.proofs.Tests.{lt-or-ge, decides-iff}
 use Rattle.frontier.specs.Regions.{entry}
-use Rattle.follow.specs.Follow.{Decides}
 
 -- what the code reads for a state in region 1 is its entry
 pub read-one : (n : ℕ) (w : List ℕ) (s x : ℕ) → s ≡ x → getD w (n + s) 0 ≡ entry 1 n w x
@@ -19,11 +19,6 @@ read-one n w s x e = let q : n + s ≡ 1 * n + x = omega arith in ap (λ (j : �
 -- what the code reads for a state in region 2 is its entry
 pub read-two : (n : ℕ) (w : List ℕ) (s x : ℕ) → s ≡ x → getD w (2 * n + s) 0 ≡ entry 2 n w x
 read-two n w s x e = ap (entry 2 n w) e
-
--- what an answer decides, it decides for an equivalent statement
-pub decides-iff : {P Q : Type 0} → (P → Q) → (Q → P) → (b : Bool) → Decides P b → Decides Q b
-decides-iff to back true p = to p
-decides-iff to back false n = λ q. n (back q)
 
 -- what holds from k on and at the place before holds from there on
 pub from-more : (P : ℕ → Type 0) (k : ℕ) → 1 ≤ k → ((x : ℕ) → k ≤ x → P x) → P (k - 1) → (x : ℕ) → k - 1 ≤ x → P x

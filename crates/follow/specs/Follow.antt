@@ -1,7 +1,6 @@
 -- The list in the working table, and which state may stand at its next place.
-use Prim.Native.Nat.{ℕ, suc, _+_, _*_, _≤_, _<_}
+use Prim.Native.Nat.{ℕ, suc, _+_, _*_, _/_, _%_, _≤_, _<_}
 use mathlib.Core.Path.{_≡_}
-use mathlib.Core.Bool.{Bool, true, false}
 use mathlib.Core.List.{List, [], _∷_, _++_}
 use mathlib.Core.Option.{some}
 use lib.ListN.{length, getD, take}
@@ -14,7 +13,7 @@ use Rattle.model.specs.Values.{Valid}
 use Rattle.model.specs.Model.{graphIn}
 use Rattle.frontier.specs.Regions.{entry}
 use Rattle.current.specs.Current.{stateAt}
-use Rattle.starts.specs.LoopStarts.{StartLoops}
+use Rattle.stems.specs.Stems.{StemEntries}
 
 -- the list up to a place: the start, and then what region 0 holds
 abbrev pub upTo : Graph → List ℕ → ℕ → List ℕ
@@ -25,22 +24,20 @@ abbrev pub StatesTo : Header → List ℕ → ℕ → Type 0
 StatesTo h w place = (k : ℕ) → k ≤ place → stateAt h w k < h .states
 
 -- what is prepared for the lists: an accepted file with its header, room for the regions, the least length of an
--- accepting path, and the loop lengths in region 1
+-- accepting path, and the stems in region 1
 pub record Prepared (f : List ℕ) (h : Header) (w : List ℕ) (l : ℕ) : Type 0 where
   pub valid : Valid f h
   pub room : 6 * h .states ≤ length w
   pub least : leastLength (graphIn f h) ≡ some l
-  pub start-loops : StartLoops (graphIn f h) l w
+  pub stems : StemEntries (graphIn f h) l w
 
--- the test's answer is right: true if P holds, false if it does not
-abbrev pub Decides : Type 0 → Bool → Type 0
-Decides P true = P
-Decides P false = P → ⊥
+-- region 1 says that state t stands on a stem at the place after the given one
+abbrev pub OnStem : ℕ → List ℕ → ℕ → ℕ → Type 0
+OnStem n w place t = entry 1 n w t / 2 ≡ place + 2
 
--- a state that can start the loop is reached soon enough: b is the length of its loop, a the way to it
-abbrev pub StartsAhead : ℕ → List ℕ → ℕ → Type 0
-StartsAhead n w left =
-    (s : ℕ) × (a : ℕ) × (b : ℕ) × (s < n) × (entry 1 n w s ≡ suc b) × (entry 2 n w s ≡ suc a) × (a + b ≤ left)
+-- region 1 says that state s can start the loop
+abbrev pub Starts : ℕ → List ℕ → ℕ → Type 0
+Starts n w s = entry 1 n w s % 2 ≡ 1
 
 -- the state at a place k of the list is reached soon enough, and the one at a place r from k on is marked
 abbrev pub ClosesMarked : Graph → ℕ → ℕ → List ℕ → ℕ → ℕ → Type 0
@@ -51,7 +48,7 @@ ClosesMarked g n start w place left =
 -- the state at a place k of the list can start the loop and is reached soon enough
 abbrev pub ClosesStart : ℕ → ℕ → List ℕ → ℕ → ℕ → Type 0
 ClosesStart n start w place left =
-    (k : ℕ) × (a : ℕ) × (k ≤ place) × (1 ≤ entry 1 n w (getD (start ∷ w) k 0))
+    (k : ℕ) × (a : ℕ) × (k ≤ place) × Starts n w (getD (start ∷ w) k 0)
     × (entry 2 n w (getD (start ∷ w) k 0) ≡ suc a) × (a ≤ left)
 
 -- state t may stand after the list up to a place: the two begin a lasso with l transitions

@@ -1,14 +1,14 @@
-// Which state may stand at the next place of the list.
+// Which state may stand at the next place of the list, if no loop start lies ahead of it: a search from the state tells.
 ghost use mathlib.Core.List.{[], _∷_, _++_};
 ghost use Prim.Native.Nat.{_*_, _≤_, _<_};
 ghost use lib.ListN.{length};
 ghost use lib.Dec.{T};
+ghost use Rattle.lasso.specs.Decides.{Decides};
 ghost use Rattle.lasso.specs.Graph.{pathb};
 ghost use Rattle.model.specs.Model.{graphIn};
 ghost use Rattle.model.specs.Values.{Valid};
 ghost use Rattle.table.specs.Changes.{SameOutside};
-ghost use Rattle.follow.specs.Follow.{upTo, StatesTo, Prepared, Decides};
-ghost use Rattle.follow.specs.Follow.{StartsAhead, ClosesMarked, ClosesStart, MayFollow};
+ghost use Rattle.follow.specs.Follow.{upTo, StatesTo, Prepared, OnStem, ClosesMarked, ClosesStart, MayFollow};
 use current::list_at;
 use lasso::Transitions;
 use model::Header;
@@ -16,28 +16,6 @@ use model::is_marked;
 use table::get;
 use walks::distances;
 use walks::from_marks;
-
-// A state that can start the loop of a shortest lasso is reached soon enough.
-fn starts_ahead(work: &[u16], n: usize, left: usize) -> bool
-    requires { ⌜ 3 * n ≤ length (now work) ⌝ }
-    requires { ⌜ left ≤ n ⌝ }
-    ensures { λ r. ⌜ Decides (StartsAhead n (now (work .entry)) left) r ⌝ }
-{
-    let mut s = 0;
-    while s < n {
-        let loop_entry = get(work, n + s);
-        let level = get(work, 2 * n + s);
-        if loop_entry != 0 {
-            if level != 0 {
-                if level + loop_entry <= left + 2 {
-                    return true;
-                }
-            }
-        }
-        s += 1;
-    }
-    false
-}
 
 // A state of the list, up to a place, is reached soon enough, and a mark stands from it on.
 fn closes_marked(file: &[u8], h: Header, work: &[u16], place: usize, left: usize) -> bool
@@ -83,7 +61,7 @@ fn closes_start(h: Header, work: &[u16], place: usize, left: usize) -> bool
     while k <= place {
         let s = list_at(h, work, k);
         let level = get(work, 2 * n + s);
-        if get(work, n + s) != 0 {
+        if get(work, n + s) % 2 == 1 {
             if level != 0 {
                 if level <= left + 1 {
                     return true;
@@ -95,9 +73,9 @@ fn closes_start(h: Header, work: &[u16], place: usize, left: usize) -> bool
     false
 }
 
-// State t may stand after the list up to a place: the two begin some shortest lasso. Either the loop's start is ahead,
-// or it is passed, and then a mark is passed with it or is ahead.
-pub fn may_follow(
+// State t, on no stem at the next place, may stand after the list up to a place: the two begin some shortest lasso. Its
+// loop start is passed, and then a mark is passed with it or is ahead.
+pub fn may_close(
     file: &[u8],
     h: Header,
     work: &mut [u16],
@@ -109,15 +87,13 @@ pub fn may_follow(
     requires { ⌜ place < length .0 ⌝ }
     requires { ⌜ t < h .states ⌝ }
     requires { ⌜ T (pathb (graphIn (now file) h) (upTo (graphIn (now file) h) (now work) place ++ t ∷ [])) ⌝ }
+    requires { ⌜ (OnStem (h .states) (now work) place t → ⊥) ⌝ }
     ensures { λ r. ⌜ Decides (MayFollow (graphIn (now (file .entry)) h) (length .0) (now (work .entry)) place t) r ⌝ }
     ensures same { λ r. ⌜ SameOutside (2 * h .states) (6 * h .states) (now (work .entry)) (now (work .exit)) ⌝ }
 {
     let n = h.states;
     let left = length.number() - (place + 1);
     distances(file, h, work, t, left + 1);
-    if starts_ahead(work, n, left) {
-        return true;
-    }
     if closes_marked(file, h, work, place, left) {
         return true;
     }

@@ -9,7 +9,8 @@ use lib.ListN.{length, getD, set, take, drop, length-set, length-drop}
 use lib.Seq.{getD-set-same, getD-set-other, getD-take, getD-drop, length-take-le}
 use Rattle.lasso.proofs.Tests.{lt-or-ge, places-different}
 use Rattle.lasso.proofs.Different.{length-different-places}
-use Rattle.table.proofs.Laws.{sameOutside-widen, sameOutside-set, sameOutside-trans, set-sameOutside}
+use Rattle.table.specs.Changes.{SameOutside}
+use Rattle.table.proofs.Laws.{sameOutside-refl, sameOutside-widen, sameOutside-set, sameOutside-trans, set-sameOutside}
 use Rattle.frontier.specs.Regions.{entry}
 use Rattle.frontier.specs.Buckets.{sources}
 use Rattle.frontier.specs.Search.{Queue, Hit, ReachedBy, State, Pushed, Reached, before, first}
@@ -171,6 +172,11 @@ module _ {n limit target v at end count : ℕ} {succs : ℕ → List ℕ} {w₀ 
               | inr m ↦ let j : i ≡ count = omega arith in rw (j, queued-last) q
             ];
       }
+
+-- reaching a state changes the levels and the queue only
+pub reach-outside : {n t v count r : ℕ} {w w' : List ℕ} → Reached n t v count w w' r → SameOutside (2 * n) (4 * n) w w'
+reach-outside {n} {w = w} (before old same k) = rw same (sameOutside-refl (2 * n) (4 * n) w)
+reach-outside (first new P k) = P .outside
 
 module _ {n limit target v at end count r : ℕ} {succs : ℕ → List ℕ} {w₀ w w' : List ℕ} (t e : ℕ) (S : State n succs limit target w₀ v at end count w) (l : t < n) where
   -- reaching a state hit at the level of v keeps the state of the search

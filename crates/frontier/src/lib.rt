@@ -1,10 +1,12 @@
 // The frontier of a search: its sources, listed by the levels at which they start, and the states that it has reached.
 // The working table is six regions of n entries, n the number of states, at the multiples of n:
-//   0 distances from the start   1 loop lengths   2 levels   3 queue   4 first source of a level   5 next source
-// An entry 0 stands for nothing; a level l stands as l + 1, a state s in a list of sources as s + 1.
+//   0 distances from the start   1 stems   2 levels   3 queue   4 first source of a level   5 next source
+// An entry 0 stands for nothing; a level l stands as l + 1, a state s in a list of sources as s + 1. Between searches the
+// listing has other uses for some: the list in 0, flags of ends in 4, the tables behind a loop start in 2 and 5.
 ghost use mathlib.Core.Path.{_≡_};
 ghost use Prim.Native.Nat.{_+_, _*_, _≤_, _<_};
 ghost use lib.ListN.{length};
+ghost use Rattle.table.specs.Changes.{SameOutside};
 ghost use Rattle.frontier.specs.Regions.{entry, queued};
 ghost use Rattle.frontier.specs.Buckets.{withSource, Planned};
 ghost use Rattle.frontier.specs.Search.{Reached, LevelReady, Admitted};
@@ -85,6 +87,7 @@ pub fn admit(work: &mut [u16], n: usize, level: usize, tail: usize) -> usize
     requires { ⌜ LevelReady n level (queued n tail) (now work) ⌝ }
     ensures change { λ r. ⌜ Admitted n level (queued n tail) (now (work .entry)) (now (work .exit)) (queued n r) ⌝ }
     ensures grows { λ r. ⌜ tail ≤ r ⌝ }
+    ensures same { λ _. ⌜ SameOutside (2 * n) (4 * n) (now (work .entry)) (now (work .exit)) ⌝ }
 {
     let mut cursor = get(work, 4 * n + level);
     let mut end = tail;

@@ -9,7 +9,9 @@ use mathlib.Core.Option.{some}
 use native.Mathlib.Omega.{arith}
 use lib.ListN.{length, getD}
 use lib.Dec.{T, eqb, ltb, eqb→eq, eqb-refl, ltb→lt, nltb→le, T-not}
+use borrow.Author.Count.{below-more}
 use Rattle.lasso.specs.Lists.{memb, differentb, anyb, consIf, keep, upFrom, below}
+use Rattle.lasso.specs.Decides.{Decides}
 
 -- the first part of a conjunction
 pub fst : (a b : Bool) → T (a && b) → T a
@@ -54,6 +56,11 @@ and-false false = refl
 pub ruleset parts = (fst, snd)
 
 pub ruleset join = (both, or-l, or-r)
+
+-- what an answer decides, it decides for an equivalent statement
+pub decides-iff : {P Q : Type 0} → (P → Q) → (Q → P) → (b : Bool) → Decides P b → Decides Q b
+decides-iff to back true p = to p
+decides-iff to back false n = λ q. n (back q)
 
 -- a test passes or its negation does
 pub decide : (b : Bool) → T b ⊎ T (not b)
@@ -106,6 +113,21 @@ pub at-memb : (xs : List ℕ) (j : ℕ) → j < length xs → T (memb (getD xs j
 at-memb [] j h = absurd (omega arith)
 at-memb (x ∷ xs) zero h = or-l (eqb x x) (memb x xs) (eqb-refl x)
 at-memb (x ∷ xs) (suc j) h = let a : ℕ = getD xs j 0 in or-r (eqb a x) (memb a xs) (at-memb xs j (omega arith))
+
+-- none of the first k entries of a list has the property
+abbrev pub NoneOf : (ℕ → Type 0) → List ℕ → ℕ → Type 0
+NoneOf P xs k = (j : ℕ) → j < k → P (getD xs j 0) → ⊥
+
+-- the next entry does not have it either
+pub noneOf-more : (P : ℕ → Type 0) (xs : List ℕ) (k x : ℕ) → NoneOf P xs k → x ≡ getD xs k 0 → (P x → ⊥) → NoneOf P xs (k + 1)
+noneOf-more P xs k x before at never =
+    below-more (λ j. P (getD xs j 0) → ⊥) k before (subst (λ (y : ℕ). P y → ⊥) at never)
+
+-- no entry has it
+pub noneOf-all : (P : ℕ → Type 0) (xs : List ℕ) (k x : ℕ) → length xs ≤ k → NoneOf P xs k → T (memb x xs) → P x → ⊥
+noneOf-all P xs k x long never m p =
+    let (j, h, at) = memb-at x xs m in
+    never j (omega arith) (subst P (sym at) p)
 
 -- what the test finds is an entry
 pub memb-mem : (x : ℕ) (xs : List ℕ) → T (memb x xs) → List·Memᴰ x xs

@@ -1,5 +1,6 @@
 -- What a reader has to believe about paths and rounds, in the order of the contract: plain functions on lists and numbers.
 pub mod Lists
+pub mod Decides
 pub mod Least
 pub mod Limit
 pub mod Graph

@@ -3,7 +3,7 @@
 use Prim.Native.Nat.{ℕ, _*_, _≤_, _<_}
 use native.Mathlib.Omega.{arith}
 use mathlib.Core.Path.{_≡_, sym, _∙_, subst}
-use mathlib.Core.Bool.{Bool}
+use mathlib.Core.Bool.{Bool, true, false}
 use mathlib.Core.List.{List, [], _∷_, _++_}
 use lib.ListN.{length, getD, take}
 use lib.Seq.{length-take-le}
@@ -11,12 +11,13 @@ use lib.Dec.{T}
 use Rattle.lasso.specs.Graph.{WellFormed, edgeb, pathb}
 use Rattle.lasso.proofs.Tests.{at-memb}
 use Rattle.lasso.proofs.Walk.{path-states}
+use Rattle.lasso.specs.Decides.{Decides}
 use Rattle.lasso.specs.Extends.{Extends}
 use Rattle.model.specs.declared.Header.{Header}
 use Rattle.model.specs.Model.{graphIn}
 use Rattle.model.proofs.Laws.{Sizes, valid-sizes, valid-well-formed}
 use Rattle.table.specs.Changes.{SameOutside}
-use Rattle.follow.specs.Follow.{Prepared, Decides, upTo}
+use Rattle.follow.specs.Follow.{Prepared, upTo}
 use Rattle.listing.proofs.PlacesExtend.{path-snoc}
 use Rattle.listing.proofs.PlacesTable.{length-fits, prepared-kept, same-kept, same-take, upTo-last}
 
@@ -77,3 +78,14 @@ pub test-answers : {f w w' : List ℕ} {h : Header} {l place s : ℕ} (t : ℕ) 
     → Decides (Extends (graphIn f h) l (upTo (graphIn f h) w place ++ t ∷ [])) b
 test-answers {f} {h = h} {l = l} {place = place} t b r same d =
     subst (λ (xs : List ℕ). Decides (Extends (graphIn f h) l (graphIn f h .start ∷ xs ++ t ∷ [])) b) (same-take (h .states) place same (omega (arith, r .inside, r .fits))) d
+
+-- the answer of a test that passed the bound
+pub try-decides : (P : Type 0) (bound t : ℕ) → bound ≤ t → (b : Bool) → Decides P b → Decides ((bound ≤ t) × P) b
+try-decides P bound t i true p = (i, p)
+try-decides P bound t i false n = λ (j, p). n p
+
+-- the answer of a test with a bound is about the list as it was before other tests
+pub try-answers : {f w w' : List ℕ} {h : Header} {l place s : ℕ} (bound t : ℕ) (b : Bool) → StateRead f h w l place s → SameOutside (2 * h .states) (6 * h .states) w w' → Decides ((bound ≤ t) × Extends (graphIn f h) l (upTo (graphIn f h) w' place ++ t ∷ [])) b
+    → Decides ((bound ≤ t) × Extends (graphIn f h) l (upTo (graphIn f h) w place ++ t ∷ [])) b
+try-answers {f} {h = h} {l = l} {place = place} bound t b r same d =
+    subst (λ (xs : List ℕ). Decides ((bound ≤ t) × Extends (graphIn f h) l (graphIn f h .start ∷ xs ++ t ∷ [])) b) (same-take (h .states) place same (omega (arith, r .inside, r .fits))) d

@@ -11,33 +11,34 @@ use Rattle.model.specs.declared.Header.{Header}
 use Rattle.model.specs.Model.{graphIn}
 use Rattle.model.proofs.Laws.{Sizes, valid-sizes}
 use Rattle.table.specs.Changes.{SameOutside}
+use Rattle.stems.proofs.StemTable.{stems-kept}
 use Rattle.follow.specs.Follow.{Prepared}
 use Rattle.listing.specs.Places.{Kept, LeastFollower}
 
 -- a table keeps what it holds
 pub kept-refl : (n : ℕ) (w : List ℕ) → Kept n w w
-kept-refl n w = record { same-length = refl; same-loops = λ i p q. refl; same-after = λ i p. refl }
+kept-refl n w = record { same-length = refl; same-stems = λ i p q. refl; same-after = λ i p. refl }
 
 -- what two changes keep, both together keep
 pub kept-trans : {n : ℕ} {u v w : List ℕ} → Kept n u v → Kept n v w → Kept n u w
 kept-trans a b =
     record {
       same-length = b .same-length ∙ a .same-length;
-      same-loops = λ i p q. b .same-loops i p q ∙ a .same-loops i p q;
+      same-stems = λ i p q. b .same-stems i p q ∙ a .same-stems i p q;
       same-after = λ i p. b .same-after i p ∙ a .same-after i p;
     }
 
 -- a change in the regions 2 to 5 keeps region 1 and what stands past the regions
 pub same-kept : (n : ℕ) {w w' : List ℕ} → SameOutside (2 * n) (6 * n) w w' → Kept n w w'
 same-kept n s =
-    record { same-length = s .same-length; same-loops = λ i p q. s .same-before i q; same-after = λ i p. s .same-after i p }
+    record { same-length = s .same-length; same-stems = λ i p q. s .same-before i q; same-after = λ i p. s .same-after i p }
 
 -- a store in region 0 keeps the other regions
 pub set-kept : (n : ℕ) (w : List ℕ) (p t : ℕ) → p < n → Kept n w (set w p t)
 set-kept n w p t h =
     record {
       same-length = length-set w p t;
-      same-loops = λ i a b. getD-set-other w p i t 0 (omega arith);
+      same-stems = λ i a b. getD-set-other w p i t 0 (omega arith);
       same-after = λ i a. getD-set-other w p i t 0 (omega arith);
     }
 
@@ -48,7 +49,7 @@ prepared-kept {f} {w} {w'} {h} {l} p k =
       valid = p .valid;
       room = omega (arith, p .room, k .same-length);
       least = p .least;
-      start-loops = record { loops = λ s i. k .same-loops (1 * graphIn f h .size + s) (omega (arith, sizes)) (omega (arith, sizes)) ∙ p .start-loops .loops s i };
+      stems = stems-kept (λ s i. k .same-stems (1 * graphIn f h .size + s) (omega (arith, sizes)) (omega (arith, sizes))) (p .stems);
     }
   where
     sizes : Sizes f h

@@ -1,28 +1,72 @@
 // The first list, and the list after a given one.
-ghost use mathlib.Core.List.{List·Memᴰ};
-ghost use Prim.Native.Nat.{_*_, _≤_, _<_};
+ghost use mathlib.Core.List.{List·Memᴰ, [], _∷_, _++_};
+ghost use Prim.Native.Nat.{_≤_, _<_};
 ghost use lib.Dec.{T};
 ghost use Rattle.lasso.specs.Graph.{pathb};
 ghost use Rattle.lasso.specs.Roll.{roll};
 ghost use Rattle.lasso.specs.Extends.{Extends};
 ghost use Rattle.model.specs.Model.{graphIn};
-ghost use Rattle.table.specs.Changes.{SameOutside};
 ghost use Rattle.follow.specs.Follow.{upTo, Prepared};
-ghost use Rattle.listing.specs.Places.{Kept, FirstFollower, FollowerOf, Completed, HoldsFirst, Replaced};
+ghost use Rattle.passed.specs.Passed.{PassedAt};
+ghost use Rattle.listing.specs.Places.{Kept, TrySays, FirstFound, LeastFound, Completed, HoldsFirst, Replaced};
 use current::list_at;
-use follow::may_follow;
 use lasso::Transitions;
 use model::Header;
 use model::degree;
 use model::row_part;
 use model::successor;
+use passed::Passed;
+use passed::pass;
+use passed::retreat;
+use passed::unknown;
 use table::get;
 use table::put;
+use tested::Tested;
+use tested::may_follow;
 
 // What may stand at the next place: a state, or nothing.
 pub enum Follower {
     State(usize),
     Nothing,
+}
+
+// What may stand there, and what is known of the list then.
+pub struct Found {
+    pub follower: Follower,
+    pub passed: Passed,
+}
+
+// The state that stands there, and what is known of the list then.
+pub struct Chosen {
+    pub state: usize,
+    pub passed: Passed,
+}
+
+// State t is not below the bound, and may stand after the list up to a place.
+fn try_next(
+    file: &[u8],
+    h: Header,
+    work: &mut [u16],
+    length: Transitions,
+    place: usize,
+    bound: usize,
+    t: usize,
+    passed: Passed,
+) -> Tested
+    requires { ⌜ Prepared (now file) h (now work) (length .0) ⌝ }
+    requires { ⌜ place < length .0 ⌝ }
+    requires { ⌜ t < h .states ⌝ }
+    requires { ⌜ T (pathb (graphIn (now file) h) (upTo (graphIn (now file) h) (now work) place ++ t ∷ [])) ⌝ }
+    requires { ⌜ PassedAt (now file) h (now work) (length .0) place passed ⌝ }
+    ensures { λ r. ⌜ TrySays (now (file .entry)) h (now (work .entry)) (now (work .exit)) (length .0) place bound t r ⌝ }
+{
+    if t < bound {
+        return Tested {
+            yes: false,
+            passed: passed,
+        };
+    }
+    may_follow(file, h, work, length, place, t, passed)
 }
 
 // The least state from a bound on that may stand after the list up to a place.
@@ -33,27 +77,35 @@ fn least_follower(
     length: Transitions,
     place: usize,
     bound: usize,
-) -> Follower
+    passed: Passed,
+) -> Found
     requires { ⌜ Prepared (now file) h (now work) (length .0) ⌝ }
     requires { ⌜ place < length .0 ⌝ }
     requires { ⌜ T (pathb (graphIn (now file) h) (upTo (graphIn (now file) h) (now work) place)) ⌝ }
-    ensures { λ r. ⌜ FollowerOf (graphIn (now (file .entry)) h) (length .0) (now (work .entry)) place bound r ⌝ }
-    ensures same { λ r. ⌜ SameOutside (2 * h .states) (6 * h .states) (now (work .entry)) (now (work .exit)) ⌝ }
+    requires { ⌜ PassedAt (now file) h (now work) (length .0) place passed ⌝ }
+    ensures { λ r. ⌜ LeastFound (now (file .entry)) h (now (work .entry)) (now (work .exit)) (length .0) place bound r ⌝ }
 {
     let s = list_at(h, work, place);
     let part = row_part(file, h, s);
     let d = degree(part, h, s);
+    let mut p = passed;
     let mut k = 0;
     while k < d {
         let t = successor(part, h, s, k);
-        if bound <= t {
-            if may_follow(file, h, work, length, place, t) {
-                return Follower::State(t);
-            }
+        let r = try_next(file, h, work, length, place, bound, t, p);
+        p = r.passed;
+        if r.yes {
+            return Found {
+                follower: Follower::State(t),
+                passed: p,
+            };
         }
         k += 1;
     }
-    Follower::Nothing
+    Found {
+        follower: Follower::Nothing,
+        passed: p,
+    }
 }
 
 // The least state that may stand after a list that extends: of its successors the last one needs no test.
@@ -63,40 +115,60 @@ fn first_follower(
     work: &mut [u16],
     length: Transitions,
     place: usize,
-) -> usize
+    passed: Passed,
+) -> Chosen
     requires { ⌜ Prepared (now file) h (now work) (length .0) ⌝ }
     requires { ⌜ place < length .0 ⌝ }
     requires { ⌜ Extends (graphIn (now file) h) (length .0) (upTo (graphIn (now file) h) (now work) place) ⌝ }
-    ensures { λ r. ⌜ FirstFollower (graphIn (now (file .entry)) h) (length .0) (now (work .entry)) place r ⌝ }
-    ensures same { λ r. ⌜ SameOutside (2 * h .states) (6 * h .states) (now (work .entry)) (now (work .exit)) ⌝ }
+    requires { ⌜ PassedAt (now file) h (now work) (length .0) place passed ⌝ }
+    ensures { λ r. ⌜ FirstFound (now (file .entry)) h (now (work .entry)) (now (work .exit)) (length .0) place r ⌝ }
 {
     let s = list_at(h, work, place);
     let part = row_part(file, h, s);
     let d = degree(part, h, s);
+    let mut p = passed;
     let mut tried = 0;
     while tried + 1 < d {
         let t = successor(part, h, s, tried);
-        if may_follow(file, h, work, length, place, t) {
-            return t;
+        let r = may_follow(file, h, work, length, place, t, p);
+        p = r.passed;
+        if r.yes {
+            return Chosen {
+                state: t,
+                passed: p,
+            };
         }
         tried += 1;
     }
-    successor(part, h, s, tried)
+    Chosen {
+        state: successor(part, h, s, tried),
+        passed: p,
+    }
 }
 
 // Completes the list after a place, with the least state that may stand at each.
-fn complete(file: &[u8], h: Header, work: &mut [u16], length: Transitions, from: usize)
+fn complete(
+    file: &[u8],
+    h: Header,
+    work: &mut [u16],
+    length: Transitions,
+    from: usize,
+    passed: Passed,
+)
     requires { ⌜ Prepared (now file) h (now work) (length .0) ⌝ }
     requires { ⌜ from ≤ length .0 ⌝ }
     requires { ⌜ Extends (graphIn (now file) h) (length .0) (upTo (graphIn (now file) h) (now work) from) ⌝ }
+    requires { ⌜ PassedAt (now file) h (now work) (length .0) from passed ⌝ }
     ensures { λ _. ⌜ Completed (graphIn (now (file .entry)) h) (length .0) from
         (now (work .entry)) (now (work .exit)) ⌝ }
 {
     let last = length.number();
     let mut place = from;
+    let mut p = passed;
     while place < last {
-        let t = first_follower(file, h, work, length, place);
-        put(work, place, t);
+        let c = first_follower(file, h, work, length, place, p);
+        put(work, place, c.state);
+        p = pass(file, h, work, length, place, c.passed);
         place += 1;
     }
 }
@@ -107,7 +179,8 @@ pub fn first(file: &[u8], h: Header, work: &mut [u16], length: Transitions)
     ensures { λ _. ⌜ HoldsFirst (graphIn (now (file .entry)) h) (length .0) (now (work .exit)) ⌝ }
     ensures kept { λ _. ⌜ Kept (h .states) (now (work .entry)) (now (work .exit)) ⌝ }
 {
-    complete(file, h, work, length, 0);
+    let p = retreat(file, h, work, length, 0, unknown(0));
+    complete(file, h, work, length, 0, p);
 }
 
 // Puts the path after the one in region 0 there, and answers true; or answers false if that one is the last.
@@ -118,14 +191,19 @@ pub fn advance(file: &[u8], h: Header, work: &mut [u16], length: Transitions) ->
     ensures kept { λ _. ⌜ Kept (h .states) (now (work .entry)) (now (work .exit)) ⌝ }
 {
     let mut place = length.number();
+    let mut p = unknown(place);
     while 0 < place {
         place -= 1;
         let bound = get(work, place) + 1;
-        let next = least_follower(file, h, work, length, place, bound);
+        let q = retreat(file, h, work, length, place, p);
+        let found = least_follower(file, h, work, length, place, bound, q);
+        p = found.passed;
+        let next = found.follower;
         match next {
             Follower::State(t) => {
                 put(work, place, t);
-                complete(file, h, work, length, place + 1);
+                let r = pass(file, h, work, length, place, p);
+                complete(file, h, work, length, place + 1, r);
                 return true;
             }
             Follower::Nothing => {}

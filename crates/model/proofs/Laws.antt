@@ -7,12 +7,12 @@ use mathlib.Core.Logic.{inl, inr}
 use mathlib.Core.Option.{none}
 use native.Mathlib.Omega.{arith}
 use native.Mathlib.Nat.{le-refl}
-use lib.ListN.{length, length-map}
+use lib.ListN.{length, getD, length-map}
 use borrow.Author.Tests.{lt-ltb, le-ltb, ltb-true}
 use lib.Dec.{T, ltb, ltb→lt, nltb→le}
 use Rattle.lasso.specs.Lists.{memb, upFrom}
-use Rattle.lasso.specs.Graph.{WellFormed, edgeb, ascendingb}
-use Rattle.lasso.proofs.Tests.{and-true, and-false, lt-or-ge, memb-mem, upFrom-range}
+use Rattle.lasso.specs.Graph.{Graph, WellFormed, edgeb, ascendingb}
+use Rattle.lasso.proofs.Tests.{and-true, and-false, lt-or-ge, at-memb, memb-mem, NoneOf, noneOf-all, upFrom-range}
 use Rattle.lasso.proofs.BelowLaws.{upFrom-length}
 use Rattle.format.specs.Bytes.{words}
 use Rattle.format.specs.Layout.{states, edgeCount, initial, stays, marksAt, markBytes, totalOf, tableAt, rowEntry, target, rowTargets, markBit}
@@ -177,6 +177,20 @@ valid-facts {f} v = accepted-facts f (v .accepted)
 -- the graph read by a valid header is well formed
 pub valid-well-formed : {f : List ℕ} {h : Header} → Valid f h → WellFormed (graphIn f h)
 valid-well-formed {f} v = subst WellFormed (sym (valid-graph v)) (accepted-well-formed f _ (v .accepted))
+
+-- what stands at a place of a state's row is a successor
+pub row-edge : {ss : List ℕ} {t : ℕ} (g : Graph) (u k : ℕ) → ss ≡ g .succs u → k < length ss → t ≡ getD ss k 0 → T (edgeb g u t)
+row-edge {ss} g u k row l e = rw (e, ← row) (at-memb ss k l)
+
+-- what none of the entries of a state's row has, no successor has
+pub row-none : {ss : List ℕ} (P : ℕ → Type 0) (g : Graph) (u k t : ℕ) → ss ≡ g .succs u → length ss ≤ k → NoneOf P ss k → T (edgeb g u t) → P t → ⊥
+row-none {ss} P g u k t row long never edge = noneOf-all P ss k t long never (rw row edge)
+
+-- what stands at a place of a row of an accepted file is a state
+pub row-state : {f ss : List ℕ} {h : Header} {t : ℕ} (u k : ℕ) → Valid f h → ss ≡ graphIn f h .succs u → k < length ss
+    → t ≡ getD ss k 0 → t < h .states
+row-state {f} {h = h} {t = t} u k valid row l e =
+    omega (arith, valid-well-formed valid .edge-states u t (row-edge (graphIn f h) u k row l e))
 
 -- no number has more than 8,192 successors
 pub succs-length-le : {f : List ℕ} → Facts f → (t s : ℕ) → length (graphOf f t .succs s) ≤ 8192

@@ -30,8 +30,8 @@ use Rattle.round.specs.Promises.{SumsFit, SumsPut}
 use Rattle.round.proofs.Laws.{valueOf-entryOf, entryOf-le, under-sum, round-found}
 
 -- after the distances from r are found, region 0 holds those from the start
-ready-start : {f : List ℕ} {h : Header} {w w₁ : List ℕ} {r limit : ℕ} → RoundsReady f h w
-    → DistancesWithin (graphIn f h) r limit w w₁ → (s : ℕ) → s < graphIn f h .size
+ready-start : {f : List ℕ} {h : Header} {w w₁ : List ℕ} {r limit reached : ℕ} → RoundsReady f h w
+    → DistancesWithin (graphIn f h) r limit w w₁ reached → (s : ℕ) → s < graphIn f h .size
     → entry 0 (graphIn f h .size) w₁ s ≡ entryOf (dist (graphIn f h) (graphIn f h .start) s)
 ready-start {f} {h} ready found s l =
     found .outside .same-before (0 * graphIn f h .size + s) (omega arith) ∙ ready .start-distances .distances s l
@@ -81,8 +81,8 @@ added-more {n} {s} {x} {y} {v} {w} {w'} l room a ex ey e =
         ∙ ap₂ (λ (i j : ℕ). entryOf (sum (valueOf i) (valueOf j))) (ex ∙ added-start l a) (ey ∙ added-level a)
 
 -- a distance from the start and one from r, in regions 0 and 2, are small enough to be added
-pub round-fits : {f : List ℕ} {h : Header} {w w₁ : List ℕ} {r limit : ℕ} → RoundsReady f h w
-    → DistancesWithin (graphIn f h) r limit w w₁ → SumsFit (h .states) w₁
+pub round-fits : {f : List ℕ} {h : Header} {w w₁ : List ℕ} {r limit reached : ℕ} → RoundsReady f h w
+    → DistancesWithin (graphIn f h) r limit w w₁ reached → SumsFit (h .states) w₁
 round-fits {f} {h} {w} {w₁} {r} {limit} ready found s l =
     let g = graphIn f h in
     let sizes = valid-sizes (ready .valid) in
@@ -93,8 +93,8 @@ round-fits {f} {h} {w} {w₁} {r} {limit} ready found s l =
     omega arith
 
 -- the start levels of the search are the sums of both distances below the limit
-round-sources : {f : List ℕ} {h : Header} {w w₁ : List ℕ} {r limit : ℕ} (w₂ : List ℕ) → RoundsReady f h w
-    → DistancesWithin (graphIn f h) r limit w w₁ → SumsPut (graphIn f h .size) (graphIn f h .size) w₁ w₂ → (s : ℕ) → s < graphIn f h .size
+round-sources : {f : List ℕ} {h : Header} {w w₁ : List ℕ} {r limit reached : ℕ} (w₂ : List ℕ) → RoundsReady f h w
+    → DistancesWithin (graphIn f h) r limit w w₁ reached → SumsPut (graphIn f h .size) (graphIn f h .size) w₁ w₂ → (s : ℕ) → s < graphIn f h .size
     → sources (graphIn f h .size) limit w₂ s ≡ under limit (sum (dist (graphIn f h) (graphIn f h .start) s) (dist (graphIn f h) r s))
 round-sources {f} {h} {r = r} {limit} w₂ ready found sums s l =
     let g = graphIn f h in
@@ -107,8 +107,8 @@ round-sources {f} {h} {r = r} {limit} w₂ ready found sums s l =
     ∙ under-sum limit a (dist g r s)
 
 -- the search from these start levels finds the round's length
-round-length : {f : List ℕ} {h : Header} {w w₁ : List ℕ} {r limit : ℕ} (w₂ : List ℕ) → RoundsReady f h w
-    → DistancesWithin (graphIn f h) r limit w w₁ → SumsPut (h .states) (h .states) w₁ w₂
+round-length : {f : List ℕ} {h : Header} {w w₁ : List ℕ} {r limit reached : ℕ} (w₂ : List ℕ) → RoundsReady f h w
+    → DistancesWithin (graphIn f h) r limit w w₁ reached → SumsPut (h .states) (h .states) w₁ w₂
     → under (suc limit) (roundLength (graphIn f h) r)
     ≡ under (suc limit) (hitLength (graphIn f h) (sources (graphIn f h .size) limit w₂) r)
 round-length {f} {h} {r = r} {limit} w₂ ready found sums =
@@ -122,22 +122,22 @@ found-le {g} {source} {limit} {target} {l} searched =
     omega (arith, under-some (suc limit) (hitLength g source target) l (searched .length))
 
 -- the length that the search finds is the round's
-pub round-some : {f : List ℕ} {h : Header} {w w₁ w₂ w₃ : List ℕ} {r limit l : ℕ} → RoundsReady f h w
-    → DistancesWithin (graphIn f h) r limit w w₁ → SumsPut (h .states) (h .states) w₁ w₂
+pub round-some : {f : List ℕ} {h : Header} {w w₁ w₂ w₃ : List ℕ} {r limit reached l : ℕ} → RoundsReady f h w
+    → DistancesWithin (graphIn f h) r limit w w₁ reached → SumsPut (h .states) (h .states) w₁ w₂
     → FoundFrom (graphIn f h) (sources (graphIn f h .size) limit w₂) limit r w₂ w₃ l
     → under (suc limit) (roundLength (graphIn f h) r) ≡ some l
 round-some {w₂ = w₂} ready found sums searched = round-length w₂ ready found sums ∙ searched .length
 
 -- if the search finds no length, the round has none up to the limit
-pub round-nothing : {f : List ℕ} {h : Header} {w w₁ w₂ w₃ : List ℕ} {r limit count : ℕ} → RoundsReady f h w
-    → DistancesWithin (graphIn f h) r limit w w₁ → SumsPut (h .states) (h .states) w₁ w₂
+pub round-nothing : {f : List ℕ} {h : Header} {w w₁ w₂ w₃ : List ℕ} {r limit reached count : ℕ} → RoundsReady f h w
+    → DistancesWithin (graphIn f h) r limit w w₁ reached → SumsPut (h .states) (h .states) w₁ w₂
     → ExhaustedFrom (graphIn f h) (sources (graphIn f h .size) limit w₂) limit r w₂ w₃ count
     → under (suc limit) (roundLength (graphIn f h) r) ≡ none
 round-nothing {w₂ = w₂} ready found sums searched = round-length w₂ ready found sums ∙ searched .length
 
 -- a round changes regions 2 to 5 only
-pub round-outside : {f : List ℕ} {h : Header} {w w₁ w₂ w₃ : List ℕ} {r limit : ℕ} → RoundsReady f h w
-    → DistancesWithin (graphIn f h) r limit w w₁ → SameOutside (2 * h .states) (3 * h .states) w₁ w₂
+pub round-outside : {f : List ℕ} {h : Header} {w w₁ w₂ w₃ : List ℕ} {r limit reached : ℕ} → RoundsReady f h w
+    → DistancesWithin (graphIn f h) r limit w w₁ reached → SameOutside (2 * h .states) (3 * h .states) w₁ w₂
     → SameOutside (2 * graphIn f h .size) (6 * graphIn f h .size) w₂ w₃
     → SameOutside (2 * h .states) (6 * h .states) w w₃
 round-outside {f} {h} ready found added searched =

@@ -35,6 +35,13 @@ level-entry limit e a k same l = (
   λ q. source-entry limit e k (same ∙ some-under limit a k q l) .0,
 )
 
+-- an entry that holds a number if it is at most the limit tells the number up to the limit
+pub level-within : (limit e : ℕ) (a : Option ℕ) (c : ℕ) → e ≡ entryOf (under (suc limit) a) → c ≤ limit → (e ≡ suc c) ↔ (a ≡ some c)
+level-within limit e a c is low =
+    level-entry (suc limit) e a c
+    (ap (λ (x : ℕ). under (suc limit) (valueOf x)) is ∙ ap (under (suc limit)) (value-entry (under (suc limit) a)) ∙ under-under (suc limit) (suc limit) a (omega arith))
+    (omega arith)
+
 -- no walk leads out of the states
 pub hitLength-outside : (g : Graph) → WellFormed g → (source : ℕ → Option ℕ) → hitLength g source (g .size) ≡ none
 hitLength-outside g wf source =

@@ -4,6 +4,7 @@ ghost use Prim.Native.Nat.{_*_, _≤_, _<_};
 ghost use lib.ListN.{length};
 ghost use Rattle.model.specs.Values.{Valid};
 ghost use Rattle.model.specs.Model.{graphIn};
+ghost use Rattle.table.specs.Changes.{SameOutside};
 ghost use Rattle.frontier.specs.Buckets.{HasPlan};
 ghost use Rattle.spread.specs.Promises.{ApartInPlan, ListedAt, LevelListed, BoundsInPlan, Spread, SearchedFromPlan};
 use frontier::admit;
@@ -40,8 +41,9 @@ pub fn search_edges(
     requires { ⌜ 6 * h .states ≤ length (now work) ⌝ }
     requires { ⌜ HasPlan (h .states) limit (now work) ⌝ }
     requires { ⌜ ApartInPlan (graphIn (now file) h) limit target (now work) ⌝ }
-    ensures { λ r. ⌜ SearchedFromPlan (graphIn (now (file .entry)) h) limit target
+    ensures left { λ r. ⌜ SearchedFromPlan (graphIn (now (file .entry)) h) limit target
         (now (work .entry)) (now (work .exit)) r ⌝ }
+    ensures same { λ _. ⌜ SameOutside (2 * h .states) (4 * h .states) (now (work .entry)) (now (work .exit)) ⌝ }
 {
     let n = h.states;
     let queue = 3 * n;

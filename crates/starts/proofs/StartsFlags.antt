@@ -8,13 +8,8 @@ use native.Mathlib.Omega.{arith}
 use native.Mathlib.Decide.{ℕ-discrete}
 use lib.ListN.{length, getD, set}
 use lib.Seq.{getD-set-same, getD-set-other}
-use lib.Dec.{T}
-use Rattle.lasso.specs.Graph.{Graph, WellFormed, edgeb}
-use Rattle.lasso.proofs.Tests.{lt-or-ge, memb-at, at-memb}
-use Rattle.model.specs.declared.Header.{Header}
-use Rattle.model.specs.Values.{Valid}
-use Rattle.model.specs.Model.{graphIn}
-use Rattle.model.proofs.Laws.{valid-well-formed}
+use Rattle.lasso.specs.Graph.{Graph, WellFormed}
+use Rattle.lasso.proofs.Tests.{lt-or-ge, memb-at}
 use Rattle.table.specs.Changes.{SameOutside}
 use Rattle.table.proofs.Laws.{sameOutside-refl, sameOutside-trans, set-sameOutside}
 use Rattle.starts.specs.Flags.{LowEdge, Flagging, FlagsRow, FlagsStarts}
@@ -79,13 +74,6 @@ low-pass {w = w} {d = d} t e h high a =
           let here : getD w t 0 ≤ d = subst (λ (i : ℕ). getD w i 0 ≤ d) (sym q ∙ e) (l .low) in
           absurd (omega (arith, a .same .same-before t h))
     ]) a
-
--- what a row of an accepted file holds is a state
-pub row-state : {f ss : List ℕ} {h : Header} {t : ℕ} (u k : ℕ) → Valid f h → ss ≡ graphIn f h .succs u → k < length ss
-    → t ≡ getD ss k 0 → t < h .states
-row-state {f} {ss} {h} {t} u k valid row l e =
-    let edge : T (edgeb (graphIn f h) u t) = rw (e, ← row) (at-memb ss k l) in
-    omega (arith, valid-well-formed valid .edge-states u t edge)
 
 -- a state's row is done: each successor whose entry is no greater is flagged
 pub row-flagged : {ss w w' : List ℕ} {n d k : ℕ} (g : Graph) (u : ℕ) → ss ≡ g .succs u → length ss ≤ k → d ≡ getD w u 0

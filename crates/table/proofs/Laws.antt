@@ -17,6 +17,15 @@ last-or-below s i l = let q : s ≤ i = omega arith in eq-or-lt-of-le q
 pub sameOutside-refl : (from to : ℕ) (w : List ℕ) → SameOutside from to w w
 sameOutside-refl from to w = record { same-length = refl; same-before = λ i h. refl; same-after = λ i h. refl }
 
+-- what is the same one way is the same the other way
+pub sameOutside-sym : {from to : ℕ} {w w' : List ℕ} → SameOutside from to w w' → SameOutside from to w' w
+sameOutside-sym s =
+    record {
+      same-length = sym (s .same-length);
+      same-before = λ i h. sym (s .same-before i h);
+      same-after = λ i h. sym (s .same-after i h);
+    }
+
 -- a wider range may be named
 pub sameOutside-widen : {from to : ℕ} {w w' : List ℕ} (from' to' : ℕ) → from' ≤ from → to ≤ to' → SameOutside from to w w' → SameOutside from' to' w w'
 sameOutside-widen from' to' p q s =
@@ -75,9 +84,9 @@ cleared-all w w' c =
 pub copied-none : (from to : ℕ) (w : List ℕ) → Copied from to 0 w w
 copied-none from to w = record { others = sameOutside-refl to (to + 0) w; copies = λ i l. absurd (omega arith) }
 
--- one more entry is copied by storing it behind the copies, which end before it
-pub copied-more : (from to n : ℕ) (w w' : List ℕ) → to ≤ from → to + n < length w → Copied from to n w w' → Copied from to (n + 1) w (set w' (to + n) (getD w' (from + n) 0))
-copied-more from to n w w' p q c =
+-- one more entry is copied by storing it behind the copies: it stands as before, since the two parts are apart
+pub copied-more : (from to m n : ℕ) (w w' : List ℕ) → (to + m ≤ from) ⊎ (from + m ≤ to) → n < m → to + n < length w → Copied from to n w w' → Copied from to (n + 1) w (set w' (to + n) (getD w' (from + n) 0))
+copied-more from to m n w w' apart l q c =
     record {
       others = sameOutside-set (to + n) (getD w' (from + n) 0) (omega arith) (omega arith) (sameOutside-widen to (to + (n + 1)) (omega arith) (omega arith) (c .others));
       copies = λ i l. ⊎-elim (λ e. rw e here) (λ k. getD-set-other w' (to + n) (to + i) (getD w' (from + n) 0) 0 (omega arith) ∙ c .copies i k) (last-or-below i n l);
@@ -87,4 +96,6 @@ copied-more from to n w w' p q c =
     inside = omega (arith, c .others .same-length)
 
     here : getD (set w' (to + n) (getD w' (from + n) 0)) (to + n) 0 ≡ getD w (from + n) 0
-    here = getD-set-same w' (to + n) (getD w' (from + n) 0) 0 inside ∙ c .others .same-after (from + n) (omega arith)
+    here =
+        getD-set-same w' (to + n) (getD w' (from + n) 0) 0 inside
+        ∙ ⊎-elim (λ a. c .others .same-after (from + n) (omega arith)) (λ a. c .others .same-before (from + n) (omega arith)) apart

@@ -1,5 +1,6 @@
 // The lent tables of 16-bit entries: reading, writing, clearing and copying.
 ghost use mathlib.Core.Path.{_≡_};
+ghost use mathlib.Core.Logic.{_⊎_};
 ghost use Prim.Native.Nat.{_+_, _≤_, _<_};
 ghost use lib.ListN.{length, getD, set};
 ghost use Rattle.table.specs.Changes.{Cleared, Copied};
@@ -35,10 +36,11 @@ pub fn clear(table: &mut [u16], from: usize, to: usize)
     }
 }
 
-// Copies n entries from one place to a place further down.
-pub fn copy_down(table: &mut [u16], from: usize, to: usize, n: usize)
-    requires { ⌜ to + n ≤ from ⌝ }
+// Copies n entries from one place to another; the two parts are apart.
+pub fn copy(table: &mut [u16], from: usize, to: usize, n: usize)
+    requires { ⌜ (to + n ≤ from) ⊎ (from + n ≤ to) ⌝ }
     requires { ⌜ from + n ≤ length (now table) ⌝ }
+    requires { ⌜ to + n ≤ length (now table) ⌝ }
     ensures { λ _. ⌜ Copied from to n (now (table .entry)) (now (table .exit)) ⌝ }
 {
     let mut i = 0;

@@ -10,9 +10,9 @@ use lib.Dec.{T}
 use Rattle.lasso.specs.Graph.{Graph, WellFormed}
 use Rattle.lasso.specs.Distance.{dist}
 use Rattle.lasso.proofs.Tests.{T-true}
-use Rattle.lasso.proofs.Least.{IsLeast, isLeast-by}
-use Rattle.lasso.proofs.Walk.{Walk, walk-here, walk-zero, walk-end-state, walk-to}
-use Rattle.lasso.proofs.Distance.{dist-walk, dist-le, dist-below}
+use Rattle.lasso.proofs.Least.{IsLeast, isLeast-by, isLeast-iff, isLeast-unique}
+use Rattle.lasso.proofs.Walk.{Walk, walk-here, walk-zero, walk-end-state, walk-to, walk-append, walk-length}
+use Rattle.lasso.proofs.Distance.{dist-least, dist-walk, dist-le, dist-below}
 use Rattle.spread.specs.declared.SpreadAnswer.{SpreadAnswer}
 use Rattle.spread.specs.declared.SpreadAnswer.the-variants.{Length, Nothing}
 use Rattle.frontier.specs.Regions.{entry, valueOf, entryOf}
@@ -53,6 +53,16 @@ module _ {g : Graph} (wf : WellFormed g) (x : ℕ) (l : x < g .size) where
   pub viaMark-least : (t : ℕ) → IsLeast (ViaMark g x (λ q m. Walk g q t m)) (viaMark g x t)
   viaMark-least t = timed-via (λ q m. Walk g q t m) (viaMark g x t) (hitLevel-least wf (markedDist g x) t)
 
+  -- from a marked state the least lengths through a mark are the distances
+  pub viaMark-marked : (t : ℕ) → T (g .marked x) → viaMark g x t ≡ dist g x t
+  viaMark-marked t marked =
+      isLeast-unique (Walk g x t) (viaMark g x t) (dist g x t)
+      (isLeast-iff (ViaMark g x (λ q m. Walk g q t m)) (Walk g x t) (viaMark g x t)
+      (λ m v. let (q, a, e, is, there, on, total) = v in walk-length total (walk-append there on))
+      (λ m v. (x, 0, m, marked, walk-here x, v, omega arith))
+      (viaMark-least t))
+      (dist-least wf x t l)
+
   -- loopLength is the least length of a walk from x through a mark back to x with an edge after the mark
   loopLength-after : IsLeast (ViaMark g x (λ q m. (1 ≤ m) × Walk g q x m)) (loopLength g x)
   loopLength-after =
@@ -71,7 +81,7 @@ module _ {g : Graph} (wf : WellFormed g) (x : ℕ) (l : x < g .size) where
       turned k p (q, a, suc m, t, v, w, s) = (q, a, suc m, t, v, (omega arith, w), s)
 
 -- with as many levels as states the distances are all there
-pub distances-all : {g : Graph} {x limit : ℕ} {w w' : List ℕ} → limit ≡ g .size → DistancesWithin g x limit w w'
+pub distances-all : {g : Graph} {x limit count : ℕ} {w w' : List ℕ} → limit ≡ g .size → DistancesWithin g x limit w w' count
     → (t : ℕ) → t < g .size → entry 2 (g .size) w' t ≡ entryOf (dist g x t)
 distances-all {g} {x} {limit} e d t l =
     d .distances t l
@@ -84,7 +94,7 @@ onlyIf-under true limit bound a l = under-under limit bound a l
 onlyIf-under false limit bound a l = refl
 
 -- after a call that put the distances from x, up to the limit, into region 2
-module _ {g : Graph} {x limit : ℕ} {w w' : List ℕ} (d : DistancesWithin g x limit w w') where
+module _ {g : Graph} {x limit reached : ℕ} {w w' : List ℕ} (d : DistancesWithin g x limit w w' reached) where
   -- a marked state's start level is its distance from x, if it is below the limit
   markedSources-dist : (s : ℕ) → s < g .size → markedSources g limit w' s ≡ under limit (markedDist g x s)
   markedSources-dist s l =

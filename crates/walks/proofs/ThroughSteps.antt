@@ -14,13 +14,14 @@ use Rattle.lasso.specs.Lists.{pick}
 use Rattle.lasso.specs.Graph.{Graph, WellFormed}
 use Rattle.lasso.proofs.Tests.{lt-or-ge}
 use Rattle.table.specs.Changes.{SameOutside, Cleared}
-use Rattle.table.proofs.Laws.{sameOutside-refl, set-sameOutside, sameOutside-set, sameOutside-trans, sameOutside-widen}
+use Rattle.table.proofs.Laws.{sameOutside-refl, sameOutside-sym, set-sameOutside, sameOutside-set, sameOutside-trans, sameOutside-widen}
 use Rattle.spread.specs.declared.SpreadAnswer.{SpreadAnswer}
+use Rattle.spread.specs.declared.SpreadAnswer.the-variants.{Nothing}
 use Rattle.frontier.specs.Regions.{entry, valueOf}
 use Rattle.lasso.specs.Limit.{under}
 use Rattle.frontier.specs.Buckets.{sources, withSource, Planned}
 use Rattle.spread.specs.Promises.{SpreadFrom, Spread}
-use Rattle.walks.specs.Through.{onlyIf, DistancesWithin, markedSources, OneSource, PlannedAt, KeptMarked}
+use Rattle.walks.specs.Through.{onlyIf, SameButOne, DistancesWithin, markedSources, OneSource, PlannedAt, KeptMarked}
 use Rattle.frontier.proofs.BucketLaws.{source-entry, entry-source}
 use Rattle.spread.proofs.HitLaws.{Single}
 use Rattle.spread.proofs.SearchLaws.{spread-nothing, spread-same, exhausted-distances}
@@ -37,15 +38,6 @@ cleared-started n x w u l b c =
       outside = sameOutside-set (2 * n + x) 1 (omega arith) (omega arith) (c .others);
       source = getD-set-same u (2 * n + x) 1 0 (omega (arith, c .others .same-length));
       others = λ s p d. getD-set-other u (2 * n + x) (2 * n + s) 1 0 (λ e. d (omega arith)) ∙ c .zeros (2 * n + s) (omega arith) (omega arith);
-    }
-
--- what is the same outside one way is the same the other way
-sameOutside-sym : {from to : ℕ} {w w' : List ℕ} → SameOutside from to w w' → SameOutside from to w' w
-sameOutside-sym s =
-    record {
-      same-length = sym (s .same-length);
-      same-before = λ i l. sym (s .same-before i l);
-      same-after = λ i l. sym (s .same-after i l);
     }
 
 -- A table u whose region 2 says that x is the one source, and the table d that has nothing in region 2 and in the heads of
@@ -136,6 +128,11 @@ cleared-planned n x limit w c d l p m b two four =
           (sameOutside-trans (sameOutside-sym (set-sameOutside c (2 * n + x) 1 (2 * n) (6 * n) (omega arith) (omega arith))) (sameOutside-widen (2 * n) (6 * n) (omega arith) (omega arith) (four .others)))
           (λ s h. four .others .same-before (2 * n + s) (omega arith) ∙ two .zeros (2 * n + s) (omega arith) (omega arith))
           (λ a h. four .zeros (4 * n + a) (omega arith) (omega arith));
+      fifth = λ s h apart.
+          getD-set-other (set d (5 * n + x) (entry 4 n d 0)) (4 * n + 0) (5 * n + s) (x + 1) 0 (λ q. omega arith)
+          ∙ getD-set-other d (5 * n + x) (5 * n + s) (entry 4 n d 0) 0 (λ q. apart (omega arith))
+          ∙ four .others .same-after (5 * n + s) (omega arith)
+          ∙ two .others .same-after (5 * n + s) (omega arith);
     }
 
 -- region 2 keeps the entries of the marked states among those below i, and of all from i on
@@ -198,16 +195,22 @@ started-single l st =
       none-else = λ s p d. ap valueOf (st .others s p d);
     }
 
--- a search from one source with a target that is no state leaves the distances up to the limit
+-- a search from one source with a target that is no state answers how many states it reached, and leaves the distances up
+-- to the limit
 pub started-distances : {g : Graph} {x limit : ℕ} {w u : List ℕ} (w' : List ℕ) → WellFormed g → x < g .size
-    → 1 ≤ limit → (r : SpreadAnswer) → OneSource (g .size) x w u → Spread g limit (g .size) u w' r
-    → DistancesWithin g x limit w w'
-started-distances {g} {x} {limit} {w} {u} w' wf l p r st sp =
-    let ex = spread-nothing (sources (g .size) limit u) wf r sp .2 in
-    record {
-      outside = sameOutside-trans (region-within (g .size) (st .outside)) (ex .outside);
-      distances = exhausted-distances (λ s. valueOf (entry 2 (g .size) u s)) p (started-single l st) ex;
-    }
+    → 1 ≤ limit → (r : SpreadAnswer) → OneSource (g .size) x w u → SameButOne (g .size) x w w' → Spread g limit (g .size) u w' r
+    → (count : ℕ) × (r ≡ Nothing count) × DistancesWithin g x limit w w' count
+started-distances {g} {x} {limit} {w} {u} w' wf l p r st fifth sp =
+    let (count, is, ex) = spread-nothing (sources (g .size) limit u) wf r sp in (
+      count,
+      is,
+      record {
+        outside = sameOutside-trans (region-within (g .size) (st .outside)) (ex .outside);
+        distances = exhausted-distances (λ s. valueOf (entry 2 (g .size) u s)) p (started-single l st) ex;
+        queue = ex .queue;
+        fifth = fifth;
+      },
+    )
 
 -- the value of an entry that is kept or made 0 is kept or none
 pick-value : (b : Bool) (e : ℕ) → valueOf (pick b e 0) ≡ onlyIf b (valueOf e)

@@ -15,6 +15,7 @@ use Rattle.lasso.specs.Limit.{under}
 use Rattle.spread.specs.Hit.{hitLevel, hitLength}
 use Rattle.spread.specs.Promises.{SpreadFrom}
 use Rattle.frontier.specs.Buckets.{Planned}
+use Rattle.frontier.specs.Search.{Queue}
 
 -- the number if the test was passed, else none
 abbrev pub onlyIf : Bool → Option ℕ → Option ℕ
@@ -34,10 +35,17 @@ viaMark g x t = hitLevel g (markedDist g x) t
 abbrev pub loopLength : Graph → ℕ → Option ℕ
 loopLength g x = hitLength g (markedDist g x) x
 
--- region 2 holds the distance of each state from x, if it is at most the limit
-pub record DistancesWithin (g : Graph) (x limit : ℕ) (w w' : List ℕ) : Type 0 where
+-- the two tables agree on region 5, but for the entry of x
+abbrev pub SameButOne : ℕ → ℕ → List ℕ → List ℕ → Type 0
+SameButOne n x w w' = (s : ℕ) → s < n → (s ≡ x → ⊥) → entry 5 n w' s ≡ entry 5 n w s
+
+-- region 2 holds the distance of each state from x, if it is at most the limit, and region 3 the states that have one, in
+-- order of distance; there are `count` of them; region 5 changes at x alone
+pub record DistancesWithin (g : Graph) (x limit : ℕ) (w w' : List ℕ) (count : ℕ) : Type 0 where
   pub outside : SameOutside (2 * g .size) (6 * g .size) w w'
   pub distances : (t : ℕ) → t < g .size → entry 2 (g .size) w' t ≡ entryOf (under (suc limit) (dist g x t))
+  pub queue : Queue (g .size) count w'
+  pub fifth : SameButOne (g .size) x w w'
 
 -- the start levels of the marked states, which region 2 holds at entry
 abbrev pub markedSources : Graph → ℕ → List ℕ → ℕ → Option ℕ
@@ -58,11 +66,13 @@ pub record OneSource (n x : ℕ) (w w' : List ℕ) : Type 0 where
   pub source : entry 2 n w' x ≡ 1
   pub others : (s : ℕ) → s < n → (s ≡ x → ⊥) → entry 2 n w' s ≡ 0
 
--- the plan is made of a search from the one source x: as from a table whose region 2 says that x is the one source
+-- the plan is made of a search from the one source x: as from a table whose region 2 says that x is the one source;
+-- region 5 changes at x alone
 pub record PlannedAt (n x limit : ℕ) (w w' : List ℕ) : Type 0 where
   pub origin : List ℕ
   pub started : OneSource n x w origin
   pub planned : Planned n limit origin w'
+  pub fifth : SameButOne n x w w'
 
 -- region 2 keeps the entries of the marked states and no other
 pub record KeptMarked (g : Graph) (w w' : List ℕ) : Type 0 where

@@ -45,19 +45,24 @@ fn keep_marked(file: &[u8], h: Header, work: &mut [u16])
     }
 }
 
-// Puts the distances from x, up to the limit, into region 2. No state has the number n, so no edge leads into that
-// target.
-pub fn distances(file: &[u8], h: Header, work: &mut [u16], x: usize, limit: usize)
+// Puts the distances from x, up to the limit, into region 2, and answers how many states have one. No state has the
+// number n, so no edge leads into that target.
+pub fn distances(file: &[u8], h: Header, work: &mut [u16], x: usize, limit: usize) -> usize
     requires { ⌜ Valid (now file) h ⌝ }
     requires { ⌜ x < h .states ⌝ }
     requires { ⌜ 1 ≤ limit ⌝ }
     requires { ⌜ limit ≤ h .states ⌝ }
     requires { ⌜ 6 * h .states ≤ length (now work) ⌝ }
-    ensures { λ _. ⌜ DistancesWithin (graphIn (now (file .entry)) h) x limit (now (work .entry)) (now (work .exit)) ⌝ }
+    ensures { λ r. ⌜ DistancesWithin (graphIn (now (file .entry)) h) x limit
+        (now (work .entry)) (now (work .exit)) r ⌝ }
 {
     let n = h.states;
     start_at(work, n, x, limit);
-    search_edges(file, h, work, limit, n);
+    let answer = search_edges(file, h, work, limit, n);
+    match answer {
+        SpreadAnswer::Length(_) => 0,
+        SpreadAnswer::Nothing(count) => count,
+    }
 }
 
 // Searches on from the marked states, at the levels that region 2 holds for them.

@@ -1,6 +1,7 @@
 -- `candidates::start_distances` meets its contract: the distances found in region 2 are copied to region 0.
 use borrow.Author.Needs.{needs}
 use mathlib.Core.Path.{refl}
+use mathlib.Core.Logic.{inl}
 use native.Mathlib.Omega.{arith}
 use Rattle.model.proofs.Laws.{valid-sizes}
 use Rattle.candidates.proofs.DistanceLaws.{start-distances-put}
@@ -13,11 +14,14 @@ distances-requires c κs =
     let sizes = valid-sizes (pre .0) in
     (pre .0, omega arith)
 
-mul-copy-down : tie.Need-mul-copy-down
-mul-copy-down c = search needs
+mul-copy : tie.Need-mul-copy
+mul-copy c = search needs
 
-copy-down-requires : tie.Need-copy-down-requires
-copy-down-requires c κs = search needs
+copy-requires : tie.Need-copy-requires
+copy-requires c κs =
+    let d = c .before .before .before in
+    let room = d .before .before .before .before .pre .1 in
+    (inl (omega arith), (omega (arith, room, d .distances .ensures .outside .same-length), omega (arith, room, d .distances .ensures .outside .same-length)))
 
 same-length : tie.Need-same-length
 same-length c = search needs
@@ -26,8 +30,8 @@ returns : tie.Need-returns
 returns c =
     let copied = c .before .before in
     let found = copied .before .before .before .before in
-    start-distances-put refl refl (found .distances .ensures) (copied .copy-down .ensures)
+    start-distances-put refl refl (found .distances .ensures) (copied .copy .ensures)
 
 pub start-distances-spec : {M : Type 1} → statement M
 start-distances-spec =
-    tie.close (tie.spec distances-requires mul-copy-down copy-down-requires same-length returns)
+    tie.close (tie.spec distances-requires mul-copy copy-requires same-length returns)

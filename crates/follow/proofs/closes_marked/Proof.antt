@@ -10,7 +10,7 @@ use lib.ListN.{getD}
 use Rattle.model.specs.declared.Header.{Header}
 use Rattle.model.specs.Model.{graphIn}
 use Rattle.frontier.specs.Regions.{entry}
-use Rattle.follow.specs.Follow.{Decides}
+use Rattle.lasso.specs.Decides.{Decides}
 use Rattle.follow.proofs.FollowTests.{MarkFrom, markFrom-here, markFrom-skip, from-more, read-two}
 use Rattle.follow.proofs.closes_marked.Statement.{statement}
 use Rattle.follow.proofs.closes_marked.Tie as tie

@@ -8,6 +8,7 @@ use native.Mathlib.Omega.{arith}
 use borrow.Author.Count.{below-more}
 use lib.ListN.{getD}
 use Rattle.frontier.specs.Regions.{entry}
+use Rattle.follow.specs.Follow.{Starts}
 use Rattle.follow.proofs.FollowTests.{read-one, read-two}
 use Rattle.follow.proofs.closes_start.Statement.{statement}
 use Rattle.follow.proofs.closes_start.Tie as tie
@@ -15,7 +16,7 @@ use Rattle.follow.proofs.closes_start.Tie as tie
 -- the state at place x cannot start the loop, or is not reached soon enough
 abbrev StartUnreached : ℕ → ℕ → List ℕ → ℕ → ℕ → Type 0
 StartUnreached n start w left x =
-    (a : ℕ) → 1 ≤ entry 1 n w (getD (start ∷ w) x 0) → entry 2 n w (getD (start ∷ w) x 0) ≡ suc a → a ≤ left → ⊥
+    (a : ℕ) → Starts n w (getD (start ∷ w) x 0) → entry 2 n w (getD (start ∷ w) x 0) ≡ suc a → a ≤ left → ⊥
 
 abbrev Inv-loop : tie.InvT-loop
 Inv-loop h work place left n k₀ k = (k ≤ place + 1) × ((x : ℕ) → x < k → StartUnreached (h .states) (h .start) work left x)

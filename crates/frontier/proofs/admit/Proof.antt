@@ -1,6 +1,6 @@
 -- `admit` walks along the level's list. The invariant: whatever the search, the sources from the cursor on are in.
 -- The measure is the cursor, which falls since the list descends.
-use Prim.Native.Nat.{ℕ, _-_, _≤_, _<_}
+use Prim.Native.Nat.{ℕ, _*_, _-_, _≤_, _<_}
 use mathlib.Core.Path.{_≡_, refl, sym, subst}
 use mathlib.Core.List.{List}
 use native.Mathlib.Omega.{arith}
@@ -8,14 +8,16 @@ use lib.ListN.{length}
 use borrow.Author.Needs.{needs}
 use Rattle.frontier.specs.Regions.{queued}
 use Rattle.frontier.specs.Search.{State}
-use Rattle.frontier.proofs.PushLaws.{queue-room}
+use Rattle.table.specs.Changes.{SameOutside}
+use Rattle.table.proofs.Laws.{sameOutside-refl, sameOutside-trans}
+use Rattle.frontier.proofs.PushLaws.{queue-room, reach-outside}
 use Rattle.frontier.proofs.AdmitLaws.{Admitting, admitting-start, admitting-falls, admitting-step, admitting-done}
 use Rattle.frontier.proofs.admit.Statement.{statement}
 use Rattle.frontier.proofs.admit.Tie as tie
 
 abbrev Inv-loop : tie.InvT-loop
 Inv-loop work₀ n level tail cursor₀ end₀ work cursor end =
-    (length work ≡ length work₀) × (end₀ ≤ end) ×
+    SameOutside (2 * n) (4 * n) work₀ work × (end₀ ≤ end) ×
     ((succs : ℕ → List ℕ) (limit target : ℕ) (origin : List ℕ) (at : ℕ) →
     Admitting n succs limit target origin level at (queued n end₀) cursor₀ work₀ →
     Admitting n succs limit target origin level at (queued n end) cursor work)
@@ -57,7 +59,7 @@ get-requires : tie.Need-get-requires Inv-loop μ-loop
 get-requires c κs = search needs
 
 loop-holds : tie.Need-loop-holds Inv-loop μ-loop
-loop-holds c = (refl, omega arith, λ succs limit target origin at A. A)
+loop-holds c = (sameOutside-refl _ _ _, omega arith, λ succs limit target origin at A. A)
 
 sub-s : tie.Need-sub-s Inv-loop μ-loop
 sub-s c = search needs
@@ -82,7 +84,7 @@ loop-less c =
 
 loop-again : tie.Need-loop-again Inv-loop μ-loop
 loop-again c = (
-  omega arith,
+  sameOutside-trans (head c .loop .inv .0) (reach-outside (c .before .before .before .before .reach .ensures .0)),
   omega (arith, c .before .before .before .before .reach .ensures .1),
   λ succs limit target origin at A.
       let a = head c .before .before .before .before .args in
@@ -92,10 +94,10 @@ loop-again c = (
 )
 
 same-length : tie.Need-same-length Inv-loop μ-loop
-same-length c = search needs
+same-length c = c .before .loop .inv .0 .same-length
 
 returns : tie.Need-returns Inv-loop μ-loop
-returns c = (λ succs limit target origin at l S. admitting-done (omega arith) (walk (c .before) succs limit target origin at l S), omega arith)
+returns c = (λ succs limit target origin at l S. admitting-done (omega arith) (walk (c .before) succs limit target origin at l S), (omega (arith, c .before .loop .inv .1), c .before .loop .inv .0))
 
 pub admit-spec : {M : Type 1} → statement M
 admit-spec =

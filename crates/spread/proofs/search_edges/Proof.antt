@@ -17,7 +17,9 @@ use Rattle.model.proofs.Laws.{Sizes, valid-sizes, valid-well-formed}
 use Rattle.frontier.specs.Regions.{entry, queued}
 use Rattle.frontier.specs.Buckets.{sources, Planned, HasPlan}
 use Rattle.frontier.specs.Search.{Hit, State}
-use Rattle.frontier.proofs.PushLaws.{queue-room}
+use Rattle.table.specs.Changes.{SameOutside}
+use Rattle.table.proofs.Laws.{sameOutside-refl, sameOutside-trans}
+use Rattle.frontier.proofs.PushLaws.{queue-room, reach-outside}
 use Rattle.spread.specs.Promises.{Apart}
 use Rattle.spread.proofs.RowLaws.{InRow, queued-entry, planned-state, row-start, row-inside, row-hit, row-step, row-end, level-done}
 use Rattle.spread.proofs.EndLaws.{edge-found, nothing-found, not-hit}
@@ -28,7 +30,8 @@ abbrev Inv-loop2 : tie.InvT-loop2
 Inv-loop2 file h work₀ limit target n queue level at tail₀ end s part d k₀ work tail k =
     (tail₀ ≤ tail) ×
     ((w : List ℕ) → InRow n (graphIn file h .succs) limit target w (level + 1) (queued n at) (queued n end) (queued n tail₀) s k₀ work₀ →
-    InRow n (graphIn file h .succs) limit target w (level + 1) (queued n at) (queued n end) (queued n tail) s k work)
+    InRow n (graphIn file h .succs) limit target w (level + 1) (queued n at) (queued n end) (queued n tail) s k work) ×
+    SameOutside (2 * n) (4 * n) work₀ work
 
 abbrev μ-loop2 : tie.MeasureT-loop2
 μ-loop2 file h work₀ limit target n queue level at tail₀ end s part d k₀ work tail k = d - k
@@ -37,7 +40,8 @@ abbrev Inv-loop : tie.InvT-loop
 Inv-loop file h work₀ limit target n queue level at₀ tail₀ end work at tail =
     (at₀ ≤ at) × (tail₀ ≤ tail) ×
     ((w : List ℕ) → Apart (graphIn file h) limit target w → State n (graphIn file h .succs) limit target w (level + 1) (queued n at₀) (queued n end) (queued n tail₀) work₀ →
-    State n (graphIn file h .succs) limit target w (level + 1) (queued n at) (queued n end) (queued n tail) work)
+    State n (graphIn file h .succs) limit target w (level + 1) (queued n at) (queued n end) (queued n tail) work) ×
+    SameOutside (2 * n) (4 * n) work₀ work
 
 abbrev μ-loop : tie.MeasureT-loop
 μ-loop file h work₀ limit target n queue level at₀ tail₀ end work at tail = end - at
@@ -46,7 +50,8 @@ abbrev Inv-levels : tie.InvT-levels
 Inv-levels file h work₀ limit target n queue level₀ at₀ tail₀ work level at tail =
     (level ≤ limit) × (at₀ ≤ at) × (tail₀ ≤ tail) ×
     ((w : List ℕ) → Apart (graphIn file h) limit target w → State n (graphIn file h .succs) limit target w level₀ (queued n at₀) (queued n at₀) (queued n tail₀) work₀ →
-    State n (graphIn file h .succs) limit target w level (queued n at) (queued n at) (queued n tail) work)
+    State n (graphIn file h .succs) limit target w level (queued n at) (queued n at) (queued n tail) work) ×
+    SameOutside (2 * n) (4 * n) work₀ work
 
 abbrev μ-levels : tie.MeasureT-levels
 μ-levels file h work₀ limit target n queue level₀ at₀ tail₀ work level at tail = limit - level
@@ -167,7 +172,7 @@ queue-places : (c : At-loop) →
     (3 * n ≤ c .loop .at) × (3 * n ≤ c .loop .tail)
 queue-places c =
     let l = level-places (level-of c) in
-    (omega (arith, l .0, c .loop .inv .0), omega (arith, l .1, c .before .before .before .admit .ensures .1, c .loop .inv .1))
+    (omega (arith, l .0, c .loop .inv .0), omega (arith, l .1, c .before .before .before .admit .ensures .1 .0, c .loop .inv .1))
 
 -- the state read from the queue is the one whose turn it is
 queue-told : (c : After-get) →
@@ -254,7 +259,7 @@ mul-queue : tie.Need-mul-queue Inv-loop2 μ-loop2 Inv-loop μ-loop Inv-levels μ
 mul-queue c = omega (arith, sizes (c .before .before) .states-range .1)
 
 levels-holds : tie.Need-levels-holds Inv-loop2 μ-loop2 Inv-loop μ-loop Inv-levels μ-levels
-levels-holds c = (omega arith, omega arith, omega arith, λ w A S. S)
+levels-holds c = (omega arith, omega arith, omega arith, λ w A S. S, sameOutside-refl _ _ _)
 
 sub-count : tie.Need-sub-count Inv-loop2 μ-loop2 Inv-loop μ-loop Inv-levels μ-levels
 sub-count c = level-places (c .before) .1
@@ -266,7 +271,7 @@ same-length c =
 returns : tie.Need-returns Inv-loop2 μ-loop2 Inv-loop μ-loop Inv-levels μ-levels
 returns c =
     let s = start (c .before) in
-    λ w P. nothing-found {g = graph s} (valid-well-formed (s .pre .0)) (omega arith) (level-from (c .before) w P)
+    (λ w P. nothing-found {g = graph s} (valid-well-formed (s .pre .0)) (omega arith) (level-from (c .before) w P), c .before .levels .inv .4)
 
 admit-requires : tie.Need-admit-requires Inv-loop2 μ-loop2 Inv-loop μ-loop Inv-levels μ-levels
 admit-requires c κs =
@@ -288,7 +293,7 @@ admit-requires c κs =
     )
 
 loop-holds : tie.Need-loop-holds Inv-loop2 μ-loop2 Inv-loop μ-loop Inv-levels μ-levels
-loop-holds c = (omega arith, omega arith, λ w A S. S)
+loop-holds c = (omega arith, omega arith, λ w A S. S, sameOutside-refl _ _ _)
 
 get-requires : tie.Need-get-requires Inv-loop2 μ-loop2 Inv-loop μ-loop Inv-levels μ-levels
 get-requires c κs = let S = queue-state (c .before .before) in omega (arith, queue-places (c .before .before) .0, S .fits, S .end-count, S .queue .within)
@@ -303,7 +308,7 @@ edge-count-requires : tie.Need-edge-count-requires Inv-loop2 μ-loop2 Inv-loop �
 edge-count-requires c κs = tt
 
 loop2-holds : tie.Need-loop2-holds Inv-loop2 μ-loop2 Inv-loop μ-loop Inv-levels μ-levels
-loop2-holds c = (omega arith, λ w R. R)
+loop2-holds c = (omega arith, λ w R. R, sameOutside-refl _ _ _)
 
 edge-target-requires :
     tie.Need-edge-target-requires Inv-loop2 μ-loop2 Inv-loop μ-loop Inv-levels μ-levels
@@ -331,7 +336,7 @@ loop2-again c =
     let e = c .before .before .before .before in
     let t = e .before in
     let r = t .before .before in
-    (omega (arith, c .before .before .reach .ensures .1), λ w R. row-step (level-of (queue-of r) .levels .level) (r .loop2 .inv .1 w R) (t .edge-target .result) (successor-told t) (place-inside (t .before)) (successor-inside t) (e .if2 .left) (c .before .before .reach .ensures .0))
+    (omega (arith, c .before .before .reach .ensures .1), λ w R. row-step (level-of (queue-of r) .levels .level) (r .loop2 .inv .1 w R) (t .edge-target .result) (successor-told t) (place-inside (t .before)) (successor-inside t) (e .if2 .left) (c .before .before .reach .ensures .0), sameOutside-trans (r .loop2 .inv .2) (reach-outside (c .before .before .reach .ensures .0)))
 
 add-at : tie.Need-add-at Inv-loop2 μ-loop2 Inv-loop μ-loop Inv-levels μ-levels
 add-at c = omega arith
@@ -354,6 +359,7 @@ loop-again c =
           (omega (arith, r .before .edge-count .ensures, c .loop2-test .left))
           (itself-apart (graph (row-entry r)) level A R)
           (omega (arith, queue-places q .0)),
+      sameOutside-trans (q .loop .inv .3) (r .loop2 .inv .2),
     )
 
 add-level : tie.Need-add-level Inv-loop2 μ-loop2 Inv-loop μ-loop Inv-levels μ-levels
@@ -368,10 +374,11 @@ levels-again c =
     let n = start l .args .h .states in (
       omega (arith, level-below (c .before)),
       omega (arith, l .levels .inv .1, c .before .loop .inv .0),
-      omega (arith, l .levels .inv .2, c .before .before .before .before .admit .ensures .1, c .before .loop .inv .1),
+      omega (arith, l .levels .inv .2, c .before .before .before .before .admit .ensures .1 .0, c .before .loop .inv .1),
       λ w A S.
           level-done (omega arith)
           (c .before .loop .inv .2 w A (c .before .before .before .before .admit .ensures .0 (graph (start l) .succs) (start l .args .limit) (start l .args .target) w (queued n (l .levels .at)) (level-below (c .before)) (l .levels .inv .3 w A S))),
+      sameOutside-trans (l .levels .inv .4) (sameOutside-trans (c .before .before .before .before .admit .ensures .1 .1) (c .before .loop .inv .3)),
     )
 
 add-length : tie.Need-add-length Inv-loop2 μ-loop2 Inv-loop μ-loop Inv-levels μ-levels
@@ -388,10 +395,13 @@ returns-2 c =
     let r = t .before .before in
     let l = level-of (queue-of r) in
     let s = start l in
-    λ w P.
-    let R = row-from r w P in
-    edge-found {g = graph s} (l .levels .level) (valid-well-formed (s .pre .0)) (level-below (queue-of r)) (R .state) (row-hit (l .levels .level) R)
-    (subst (λ (x : ℕ). T (edgeb (graph s) (row-s r) x)) (c .if2 .taken) (successor-edge t))
+    let q = queue-of r in (
+      λ w P.
+          let R = row-from r w P in
+          edge-found {g = graph s} (l .levels .level) (valid-well-formed (s .pre .0)) (level-below (queue-of r)) (R .state) (row-hit (l .levels .level) R)
+          (subst (λ (x : ℕ). T (edgeb (graph s) (row-s r) x)) (c .if2 .taken) (successor-edge t)),
+      sameOutside-trans (l .levels .inv .4) (sameOutside-trans (q .before .before .before .admit .ensures .1 .1) (sameOutside-trans (q .loop .inv .3) (r .loop2 .inv .2))),
+    )
 
 pub search-edges-spec : {M : Type 1} → statement M
 search-edges-spec =

@@ -56,7 +56,7 @@ searched : (c : tie.After-search-edges2) (origin : List ℕ) →
     let a = start b .args in
     Planned (a .h .states) (a .limit) origin (now (a .work))
     → Spread (graph (start b)) (b .search-bound .result) (a .target) origin (c .search-edges2 .last .1 .1 .0) (c .search-edges2 .result)
-searched c origin P = c .search-edges2 .ensures origin (planned (bounded c) origin P)
+searched c origin P = c .search-edges2 .ensures .0 origin (planned (bounded c) origin P)
 
 search-bound-requires : tie.Need-search-bound-requires
 search-bound-requires c κs = c .before .before .before .pre
@@ -73,7 +73,7 @@ same-length : tie.Need-same-length
 same-length c = search needs
 
 returns : tie.Need-returns
-returns c = c .before .before .search-edges .ensures
+returns c = c .before .before .search-edges .ensures .0
 
 search-edges-requires-2 : tie.Need-search-edges-requires-2
 search-edges-requires-2 c κs =

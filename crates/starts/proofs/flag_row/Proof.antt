@@ -9,7 +9,8 @@ use borrow.Author.Tests.{leb-false}
 use borrow.Author.Needs.{needs}
 use Rattle.model.specs.Model.{graphIn, stepsOf}
 use Rattle.starts.specs.Flags.{Flagging}
-use Rattle.starts.proofs.StartsFlags.{LowBefore, flagging-none, low-put, low-pass, row-state, row-flagged}
+use Rattle.model.proofs.Laws.{row-state}
+use Rattle.starts.proofs.StartsFlags.{LowBefore, flagging-none, low-put, low-pass, row-flagged}
 use Rattle.starts.proofs.flag_row.Statement.{statement}
 use Rattle.starts.proofs.flag_row.Tie as tie
 

@@ -1,21 +1,38 @@
--- `places::complete` meets its contract. The loop's invariant: the list is completed as far as to `place`.
-use Prim.Native.Nat.{_-_, _<_}
+-- `places::complete` meets its contract. The loop's invariant: the list is completed as far as to `place`, and what is known
+-- of it up to there is p.
+use Prim.Native.Nat.{_+_, _-_, _<_}
 use native.Mathlib.Omega.{arith}
 use borrow.Author.Needs.{needs}
-use Rattle.listing.proofs.PlacesTable.{put-asks}
+use lib.ListN.{set}
+use Rattle.model.specs.Model.{graphIn}
+use Rattle.follow.specs.Follow.{upTo}
+use Rattle.passed.specs.Passed.{PassedAt}
+use Rattle.passed.proofs.PassedLaws.{states-to, passed-put}
+use Rattle.listing.proofs.PlacesExtend.{extends-path}
+use Rattle.listing.proofs.PlacesTable.{length-fits, put-asks}
 use Rattle.listing.proofs.PlacesComplete.{Completing, completing-none, completing-more, completing-all}
 use Rattle.listing.proofs.places.complete.Statement.{statement}
 use Rattle.listing.proofs.places.complete.Tie as tie
 
 abbrev Inv-loop : tie.InvT-loop
-Inv-loop file h work₀ length from last place₀ work place = Completing file h (length .0) from work₀ work place
+Inv-loop file h work₀ length from last place₀ p₀ work place p =
+    Completing file h (length .0) from work₀ work place × PassedAt file h work (length .0) place p
 
 abbrev μ-loop : tie.MeasureT-loop
-μ-loop file h work₀ length from last place₀ work place = last - place
+μ-loop file h work₀ length from last place₀ p₀ work place p = last - place
 
 -- in the loop the list is not yet complete
 inside : (c : tie.In-loop Inv-loop μ-loop) → c .before .loop .place < c .before .before .before .before .before .args .length .0
 inside c = omega (arith, c .before .before .number .ensures)
+
+-- with the state found the list is completed one place more
+longer : (c : tie.After-first-follower Inv-loop μ-loop) →
+    let l = c .before .before .before in
+    let a = l .before .before .before .before .args in
+    Completing (a .file .now) (a .h) (a .length .0) (a .from) (a .work .now) (set (c .first-follower .last .1 .1 .0) (l .loop .place) (c .first-follower .result .state)) (l .loop .place + 1)
+longer c =
+    let loop = c .before .before in
+    completing-more _ (loop .before .loop .inv .0) (inside loop) (c .first-follower .ensures .same) (c .first-follower .ensures .found)
 
 number-requires : tie.Need-number-requires Inv-loop μ-loop
 number-requires c κs = search needs
@@ -23,18 +40,29 @@ number-requires c κs = search needs
 loop-holds : tie.Need-loop-holds Inv-loop μ-loop
 loop-holds c =
     let p = c .before .before .before .pre in
-    completing-none (p .0) (p .1 .0) (p .1 .1)
+    (completing-none (p .0) (p .1 .0) (p .1 .1 .0), p .1 .1 .1)
 
 first-follower-requires : tie.Need-first-follower-requires Inv-loop μ-loop
 first-follower-requires c κs =
     let i = c .before .before .loop .inv in
-    (i .prepared, (inside (c .before), i .extends))
+    (i .0 .prepared, (inside (c .before), (i .0 .extends, i .1)))
 
 put-requires : tie.Need-put-requires Inv-loop μ-loop
 put-requires c κs =
     let test = c .before .before .before in
     let loop = test .before .before in
-    put-asks (loop .before .loop .inv .prepared) (inside loop) (test .first-follower .ensures .1) (test .first-follower .ensures .0)
+    put-asks (loop .before .loop .inv .0 .prepared) (inside loop) (test .first-follower .ensures .same) (test .first-follower .ensures .found)
+
+pass-requires : tie.Need-pass-requires Inv-loop μ-loop
+pass-requires c κs =
+    let store = c .before .before .before in
+    let test = store .before .before .before .before in
+    let loop = test .before .before in
+    let a = loop .before .before .before .before .before .args in
+    let g = graphIn (a .file .now) (a .h) in
+    let o = longer test in
+    rw (store .put .ensures)
+    (o .prepared, (inside loop, (states-to (loop .before .loop .place + 1) (o .prepared) (o .within) (extends-path g (a .length .0) (upTo g (set (test .first-follower .last .1 .1 .0) (loop .before .loop .place) (test .first-follower .result .state)) (loop .before .loop .place + 1)) (o .extends)), passed-put (test .first-follower .result .state) (omega (arith, inside loop, length-fits (o .prepared))) (test .first-follower .ensures .passed))))
 
 add-place : tie.Need-add-place Inv-loop μ-loop
 add-place c = omega arith
@@ -44,16 +72,15 @@ loop-less c = omega arith
 
 loop-again : tie.Need-loop-again Inv-loop μ-loop
 loop-again c =
-    let store = c .before .before in
+    let store = c .before .before .before .before in
     let test = store .before .before .before .before in
-    let loop = test .before .before in
-    rw (store .put .ensures) (completing-more _ (loop .before .loop .inv) (inside loop) (test .first-follower .ensures .1) (test .first-follower .ensures .0))
+    (rw (store .put .ensures) (longer test), c .pass .ensures)
 
 same-length : tie.Need-same-length Inv-loop μ-loop
-same-length c = c .before .loop .inv .kept .same-length
+same-length c = c .before .loop .inv .0 .kept .same-length
 
 returns : tie.Need-returns Inv-loop μ-loop
-returns c = completing-all (c .before .loop .inv) (omega (arith, c .before .before .number .ensures))
+returns c = completing-all (c .before .loop .inv .0) (omega (arith, c .before .before .number .ensures))
 
 pub complete-spec : {M : Type 1} → statement M
 complete-spec =
@@ -65,6 +92,7 @@ complete-spec =
     loop-holds
     first-follower-requires
     put-requires
+    pass-requires
     add-place
     loop-less
     loop-again

@@ -5,10 +5,12 @@ use mathlib.Core.Path.{_≡_, _∙_, ap}
 use mathlib.Core.List.{List, [], _∷_, _++_}
 use native.Mathlib.Omega.{arith}
 use lib.ListN.{length, getD}
+use Rattle.lasso.specs.Decides.{Decides}
 use Rattle.lasso.specs.Extends.{Extends}
 use Rattle.model.specs.Model.{graphIn, stepsOf}
 use Rattle.table.proofs.Laws.{sameOutside-trans}
-use Rattle.follow.specs.Follow.{Decides, upTo}
+use Rattle.follow.specs.Follow.{upTo}
+use Rattle.passed.specs.Passed.{PassedAt}
 use Rattle.listing.proofs.PlacesExtend.{extends-path}
 use Rattle.listing.proofs.PlacesFollower.{Tried, tried-none, tried-more, tried-found, some-successor, tried-last}
 use Rattle.listing.proofs.PlacesTable.{length-fits}
@@ -17,11 +19,12 @@ use Rattle.listing.proofs.places.first_follower.Statement.{statement}
 use Rattle.listing.proofs.places.first_follower.Tie as tie
 
 abbrev Inv-loop : tie.InvT-loop
-Inv-loop file h work₀ length place s part d tried₀ work tried =
+Inv-loop file h work₀ length place s part d p₀ tried₀ work p tried =
     Tried (graphIn file h) (h .states) (length .0) (upTo (graphIn file h) work₀ place) 0 (graphIn file h .succs s) work₀ work tried × (tried < d)
+    × PassedAt file h work (length .0) place p
 
 abbrev μ-loop : tie.MeasureT-loop
-μ-loop file h work₀ length place s part d tried₀ work tried = d - tried
+μ-loop file h work₀ length place s part d p₀ tried₀ work p tried = d - tried
 
 -- the last state of the list, once it was read
 row : (c : tie.After-list-at Inv-loop μ-loop)
@@ -30,7 +33,7 @@ row c =
     let p = c .before .before .before .before .pre in
     let a = c .before .before .before .before .args in
     let g = graphIn (a .file .now) (a .h) in
-    read-row (p .0) (p .1 .0) (extends-path g (a .length .0) (upTo g (a .work .now) (a .place)) (p .1 .1)) (c .list-at .ensures)
+    read-row (p .0) (p .1 .0) (extends-path g (a .length .0) (upTo g (a .work .now) (a .place)) (p .1 .1 .0)) (c .list-at .ensures)
 
 -- the number of the last state's successors
 degree : (c : tie.After-degree Inv-loop μ-loop)
@@ -50,10 +53,10 @@ within c = omega (arith, c .loop .inv .1, degree (c .before))
 -- what the test of the successor answers
 answer : (c : tie.After-may-follow Inv-loop μ-loop)
     → let a = c .before .before .before .before .before .before .before .before .before .before .before .args in
-    Decides (Extends (graphIn (a .file .now) (a .h)) (a .length .0) (upTo (graphIn (a .file .now) (a .h)) (a .work .now) (a .place) ++ c .before .before .successor .result ∷ [])) (c .may-follow .result)
+    Decides (Extends (graphIn (a .file .now) (a .h)) (a .length .0) (upTo (graphIn (a .file .now) (a .h)) (a .work .now) (a .place) ++ c .before .before .successor .result ∷ [])) (c .may-follow .result .yes)
 answer c =
     let at = c .before .before .before .before in
-    test-answers (c .before .before .successor .result) (c .may-follow .result) (row (at .before .before .before)) (at .loop .inv .0 .same) (c .may-follow .ensures .0)
+    test-answers (c .before .before .successor .result) (c .may-follow .result .yes) (row (at .before .before .before)) (at .loop .inv .0 .same) (c .may-follow .ensures .decides)
 
 list-at-requires : tie.Need-list-at-requires Inv-loop μ-loop
 list-at-requires c κs = let p = c .before .before .before .pre in omega (arith, length-fits (p .0), p .0 .room)
@@ -66,9 +69,10 @@ degree-requires c κs = tt
 
 loop-holds : tie.Need-loop-holds Inv-loop μ-loop
 loop-holds c =
-    let x = c .before .before .before .before .before .before .pre .1 .1 in (
+    let p = c .before .before .before .before .before .before .pre .1 .1 in (
       tried-none _ _ _ _ _ _ _,
-      omega (arith, degree c, some-successor (row (c .before .before)) x),
+      omega (arith, degree c, some-successor (row (c .before .before)) (p .0)),
+      p .1,
     )
 
 add-loop : tie.Need-add-loop Inv-loop μ-loop
@@ -80,20 +84,23 @@ successor-requires c κs = omega (arith, c .before .loop .inv .1, c .before .bef
 may-follow-requires : tie.Need-may-follow-requires Inv-loop μ-loop
 may-follow-requires c κs =
     let at = c .before .before .before in
-    test-asks _ (row (at .before .before .before)) (at .loop .inv .0 .same) (within at) (entry-at at _ (c .before .successor .ensures))
+    let asks = test-asks _ (row (at .before .before .before)) (at .loop .inv .0 .same) (within at) (entry-at at _ (c .before .successor .ensures)) in
+    (asks .0, (asks .1 .0, (asks .1 .1 .0, (asks .1 .1 .1, at .loop .inv .2))))
 
 same-length : tie.Need-same-length Inv-loop μ-loop
 same-length c =
-    let test = c .before .before .before in
-    test .may-follow .ensures .1 .same-length ∙ test .before .before .before .before .loop .inv .0 .same .same-length
+    let test = c .before .before .before .before in
+    test .may-follow .ensures .same .same-length ∙ test .before .before .before .before .loop .inv .0 .same .same-length
 
 returns : tie.Need-returns Inv-loop μ-loop
 returns c =
-    let test = c .before .before .before in
-    let at = test .before .before .before .before in (
-      tried-found (row (at .before .before .before)) _ (at .loop .inv .0) (within at) (entry-at at _ (test .before .before .successor .ensures)) (omega arith) (rw (c .if1 .taken) at (answer test)),
-      sameOutside-trans (at .loop .inv .0 .same) (test .may-follow .ensures .1),
-    )
+    let test = c .before .before .before .before in
+    let at = test .before .before .before .before in
+    record {
+      found = tried-found (row (at .before .before .before)) _ (at .loop .inv .0) (within at) (entry-at at _ (test .before .before .successor .ensures)) (omega arith) (rw (c .if1 .taken) at (answer test));
+      same = sameOutside-trans (at .loop .inv .0 .same) (test .may-follow .ensures .same);
+      passed = test .may-follow .ensures .passed;
+    }
 
 add-tried : tie.Need-add-tried Inv-loop μ-loop
 add-tried c = omega arith
@@ -103,10 +110,11 @@ loop-less c = omega arith
 
 loop-again : tie.Need-loop-again Inv-loop μ-loop
 loop-again c =
-    let test = c .before .before .before in
+    let test = c .before .before .before .before in
     let at = test .before .before .before .before in (
-      tried-more _ (at .loop .inv .0) (test .may-follow .ensures .1) (entry-at at _ (test .before .before .successor .ensures)) (λ b. rw (c .if1 .left) at (answer test)),
+      tried-more _ (at .loop .inv .0) (test .may-follow .ensures .same) (entry-at at _ (test .before .before .successor .ensures)) (λ b. rw (c .if1 .left) at (answer test)),
       omega arith,
+      test .may-follow .ensures .passed,
     )
 
 successor-requires-2 : tie.Need-successor-requires-2 Inv-loop μ-loop
@@ -117,11 +125,14 @@ same-length-2 c = c .before .before .loop .inv .0 .same .same-length
 
 returns-2 : tie.Need-returns-2 Inv-loop μ-loop
 returns-2 c =
-    let at = c .before .before in (
-      tried-last (row (at .before .before .before)) _ (at .loop .inv .0) (omega (arith, at .loop .inv .1, degree (at .before), c .before .loop-test .left)) (entry-at at _ (c .successor2 .ensures))
-          (at .before .before .before .before .before .before .before .pre .1 .1),
-      at .loop .inv .0 .same,
-    )
+    let at = c .before .before in
+    record {
+      found =
+          tried-last (row (at .before .before .before)) _ (at .loop .inv .0) (omega (arith, at .loop .inv .1, degree (at .before), c .before .loop-test .left)) (entry-at at _ (c .successor2 .ensures))
+          (at .before .before .before .before .before .before .before .pre .1 .1 .0);
+      same = at .loop .inv .0 .same;
+      passed = at .loop .inv .2;
+    }
 
 pub first-follower-spec : {M : Type 1} → statement M
 first-follower-spec =

@@ -1,33 +1,36 @@
 -- `places::least_follower` meets its contract. The loop's invariant: of the successors of the list's last state the first
 -- k were tried.
-use Prim.Native.Nat.{ℕ, _+_, _-_, _<_}
+use Prim.Native.Nat.{ℕ, _-_, _≤_, _<_}
 use mathlib.Core.Path.{_≡_, _∙_, ap}
-use mathlib.Core.Logic.{⊎-elim}
 use mathlib.Core.List.{List, [], _∷_, _++_}
 use native.Mathlib.Omega.{arith}
 use lib.ListN.{length, getD}
+use Rattle.lasso.specs.Decides.{Decides}
 use Rattle.lasso.specs.Extends.{Extends}
 use Rattle.model.specs.Model.{graphIn}
-use Rattle.table.proofs.Laws.{sameOutside-refl, sameOutside-trans}
-use Rattle.follow.specs.Follow.{Decides, upTo}
+use Rattle.table.proofs.Laws.{sameOutside-trans}
+use Rattle.follow.specs.Follow.{upTo}
+use Rattle.passed.specs.Passed.{PassedAt}
 use Rattle.listing.proofs.PlacesFollower.{Tried, tried-none, tried-more, tried-found, tried-all}
 use Rattle.listing.proofs.PlacesTable.{length-fits}
-use Rattle.listing.proofs.PlacesRow.{StateRead, read-row, test-asks, test-answers}
+use Rattle.listing.proofs.PlacesRow.{StateRead, read-row, test-asks, try-answers}
 use Rattle.listing.proofs.places.least_follower.Statement.{statement}
 use Rattle.listing.proofs.places.least_follower.Tie as tie
 
 abbrev Inv-loop : tie.InvT-loop
-Inv-loop file h work₀ length place bound s part d k₀ work k = Tried (graphIn file h) (h .states) (length .0) (upTo (graphIn file h) work₀ place) bound (graphIn file h .succs s) work₀ work k
+Inv-loop file h work₀ length place bound s part d p₀ k₀ work p k =
+    Tried (graphIn file h) (h .states) (length .0) (upTo (graphIn file h) work₀ place) bound (graphIn file h .succs s) work₀ work k
+    × PassedAt file h work (length .0) place p
 
 abbrev μ-loop : tie.MeasureT-loop
-μ-loop file h work₀ length place bound s part d k₀ work k = d - k
+μ-loop file h work₀ length place bound s part d p₀ k₀ work p k = d - k
 
 -- the last state of the list, once it was read
 row : (c : tie.After-list-at Inv-loop μ-loop)
     → let a = c .before .before .before .before .args in StateRead (a .file .now) (a .h) (a .work .now) (a .length .0) (a .place) (c .list-at .result)
 row c =
     let p = c .before .before .before .before .pre in
-    read-row (p .0) (p .1 .0) (p .1 .1) (c .list-at .ensures)
+    read-row (p .0) (p .1 .0) (p .1 .1 .0) (c .list-at .ensures)
 
 -- the number of its successors
 degree : (c : tie.After-degree Inv-loop μ-loop)
@@ -45,12 +48,12 @@ within : (c : tie.In-loop Inv-loop μ-loop)
 within c = omega (arith, c .loop-test .taken, degree (c .before .before))
 
 -- what the test of the successor answers
-answer : (c : tie.After-may-follow Inv-loop μ-loop)
-    → let a = c .before .before .before .before .before .before .before .before .before .before .before .before .args in
-    Decides (Extends (graphIn (a .file .now) (a .h)) (a .length .0) (upTo (graphIn (a .file .now) (a .h)) (a .work .now) (a .place) ++ c .before .before .before .successor .result ∷ [])) (c .may-follow .result)
+answer : (c : tie.After-try-next Inv-loop μ-loop)
+    → let a = c .before .before .before .before .before .before .before .before .before .before .before .args in
+    Decides ((a .bound ≤ c .before .before .successor .result) × Extends (graphIn (a .file .now) (a .h)) (a .length .0) (upTo (graphIn (a .file .now) (a .h)) (a .work .now) (a .place) ++ c .before .before .successor .result ∷ [])) (c .try-next .result .yes)
 answer c =
-    let at = c .before .before .before .before .before in
-    test-answers (c .before .before .before .successor .result) (c .may-follow .result) (row (at .before .before .before)) (at .loop .inv .same) (c .may-follow .ensures .0)
+    let at = c .before .before .before .before in
+    try-answers (at .before .before .before .before .before .before .before .args .bound) (c .before .before .successor .result) (c .try-next .result .yes) (row (at .before .before .before)) (at .loop .inv .0 .same) (c .try-next .ensures .decides)
 
 list-at-requires : tie.Need-list-at-requires Inv-loop μ-loop
 list-at-requires c κs = let p = c .before .before .before .pre in omega (arith, length-fits (p .0), p .0 .room)
@@ -62,28 +65,32 @@ degree-requires : tie.Need-degree-requires Inv-loop μ-loop
 degree-requires c κs = tt
 
 loop-holds : tie.Need-loop-holds Inv-loop μ-loop
-loop-holds c = tried-none _ _ _ _ _ _ _
+loop-holds c = (tried-none _ _ _ _ _ _ _, c .before .before .before .before .before .before .pre .1 .1 .1)
 
 successor-requires : tie.Need-successor-requires Inv-loop μ-loop
 successor-requires c κs = omega (arith, c .loop-test .taken, c .before .before .degree .ensures)
 
-may-follow-requires : tie.Need-may-follow-requires Inv-loop μ-loop
-may-follow-requires c κs =
-    let at = c .before .before .before .before in
-    test-asks (c .before .before .successor .result) (row (at .before .before .before)) (at .loop .inv .same) (within (c .before .before .before)) (successor-at (c .before .before))
+try-next-requires : tie.Need-try-next-requires Inv-loop μ-loop
+try-next-requires c κs =
+    let at = c .before .before .before in
+    let asks = test-asks (c .before .successor .result) (row (at .before .before .before)) (at .loop .inv .0 .same) (within (c .before .before)) (successor-at (c .before)) in
+    (asks .0, (asks .1 .0, (asks .1 .1 .0, (asks .1 .1 .1, at .loop .inv .1))))
 
 same-length : tie.Need-same-length Inv-loop μ-loop
 same-length c =
-    let at = c .before .before .before .before .before .before .before .before in
-    c .before .before .before .may-follow .ensures .1 .same-length ∙ at .loop .inv .same .same-length
+    let test = c .before .before .before .before in
+    test .try-next .ensures .same .same-length ∙ test .before .before .before .before .loop .inv .0 .same .same-length
 
 returns : tie.Need-returns Inv-loop μ-loop
 returns c =
-    let test = c .before .before .before in
-    let at = test .before .before .before .before .before in (
-      tried-found (row (at .before .before .before)) _ (at .loop .inv) (within (test .before .before .before .before)) (successor-at (test .before .before .before)) (omega arith) (rw (c .if2 .taken) at (answer test)),
-      sameOutside-trans (at .loop .inv .same) (test .may-follow .ensures .1),
-    )
+    let test = c .before .before .before .before in
+    let at = test .before .before .before .before in
+    let yes' = rw (c .if1 .taken) at (answer test) in
+    record {
+      found = tried-found (row (at .before .before .before)) _ (at .loop .inv .0) (within (test .before .before .before)) (successor-at (test .before .before)) (yes' .0) (yes' .1);
+      same = sameOutside-trans (at .loop .inv .0 .same) (test .try-next .ensures .same);
+      passed = test .try-next .ensures .passed;
+    }
 
 add-k : tie.Need-add-k Inv-loop μ-loop
 add-k c = omega arith
@@ -91,37 +98,25 @@ add-k c = omega arith
 loop-less : tie.Need-loop-less Inv-loop μ-loop
 loop-less c = omega arith
 
--- a successor that may not stand after the list was tried
-tested : (c : tie.Else2 Inv-loop μ-loop)
-    → let test = c .before .before .before in
-    let at = test .before .before .before .before .before in
-    let a = at .before .before .before .before .before .before .before .args in
-    Tried (graphIn (a .file .now) (a .h)) (a .h .states) (a .length .0) (upTo (graphIn (a .file .now) (a .h)) (a .work .now) (a .place)) (a .bound) (graphIn (a .file .now) (a .h) .succs (at .before .before .before .list-at .result)) (a .work .now) (test .may-follow .last .1 .1 .0) (at .loop .k + 1)
-tested c =
-    let test = c .before .before .before in
-    let at = test .before .before .before .before .before in
-    tried-more _ (at .loop .inv) (test .may-follow .ensures .1) (successor-at (test .before .before .before)) (λ b. rw (c .if2 .left) at (answer test))
-
 loop-again : tie.Need-loop-again Inv-loop μ-loop
 loop-again c =
-    let at = c .before .before .before in
-    ⊎-elim
-    (λ w.
-    let arm : tie.Then1 Inv-loop μ-loop = record { before = c .before; if1 = w .0 } in
-    let test : tie.After-may-follow Inv-loop μ-loop = record { before = record { before = arm; may-follow-arg = w .1 }; may-follow = w .2 } in
-    let p : tie.Else2 Inv-loop μ-loop = record { before = record { before = record { before = test; work = w .3 }; slice-known2 = w .4 }; if2 = w .5 } in
-    rw (w .6) (tested p))
-    (λ w. rw (w .1) (tried-more _ (at .loop .inv) (sameOutside-refl _ _ _) (successor-at (c .before)) (λ b. absurd (omega (arith, w .0 .left)))))
-    (c .if1 .came)
+    let test = c .before .before .before .before in
+    let at = test .before .before .before .before in
+    let no' = rw (c .if1 .left) at (answer test) in (
+      tried-more _ (at .loop .inv .0) (test .try-next .ensures .same) (successor-at (test .before .before)) (λ b x. no' (b, x)),
+      test .try-next .ensures .passed,
+    )
 
 same-length-2 : tie.Need-same-length-2 Inv-loop μ-loop
-same-length-2 c = c .before .loop .inv .same .same-length
+same-length-2 c = c .before .loop .inv .0 .same .same-length
 
 returns-2 : tie.Need-returns-2 Inv-loop μ-loop
-returns-2 c = (
-  tried-all (row (c .before .before .before .before)) (c .before .loop .inv) (omega (arith, degree (c .before .before), c .loop-test .left)),
-  c .before .loop .inv .same,
-)
+returns-2 c =
+    record {
+      found = tried-all (row (c .before .before .before .before)) (c .before .loop .inv .0) (omega (arith, degree (c .before .before), c .loop-test .left));
+      same = c .before .loop .inv .0 .same;
+      passed = c .before .loop .inv .1;
+    }
 
 pub least-follower-spec : {M : Type 1} → statement M
 least-follower-spec =
@@ -134,7 +129,7 @@ least-follower-spec =
     degree-requires
     loop-holds
     successor-requires
-    may-follow-requires
+    try-next-requires
     same-length
     returns
     add-k

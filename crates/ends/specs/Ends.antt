@@ -1,0 +1,44 @@
+-- The ends of the ways behind a loop start, by the entries of the working table.
+use Prim.Native.Nat.{ℕ, zero, suc, _*_, _-_, _/_, _%_, _≤_, _<_}
+use mathlib.Core.Path.{_≡_}
+use mathlib.Core.List.{List, _∷_}
+use lib.ListN.{getD}
+use lib.Dec.{T}
+use Rattle.lasso.specs.Graph.{Graph, edgeb}
+use Rattle.table.specs.Changes.{SameOutside}
+use Rattle.frontier.specs.Regions.{entry}
+
+-- region 1 says that y can start the loop, and it stands on the list at the place of its distance, which is below the bound
+abbrev pub GoalAt : ℕ → ℕ → List ℕ → ℕ → ℕ → Type 0
+GoalAt n start w bound y =
+    (entry 1 n w y % 2 ≡ 1) × (1 ≤ entry 1 n w y / 2) × (entry 1 n w y / 2 ≤ bound)
+    × (getD (start ∷ w) (entry 1 n w y / 2 - 1) 0 ≡ y)
+
+-- a step leads from s, which has the level, to such a state
+abbrev pub Closes : Graph → ℕ → ℕ → List ℕ → ℕ → ℕ → ℕ → Type 0
+Closes g n start w level bound s = (entry 2 n w s ≡ suc level) × ((y : ℕ) × T (edgeb g s y) × GoalAt n start w bound y)
+
+-- s is marked, reached, and has the same entry in regions 2 and 5
+abbrev pub MarkedEnd : Graph → ℕ → List ℕ → ℕ → Type 0
+MarkedEnd g n w s = T (g .marked s) × (1 ≤ entry 2 n w s) × (entry 5 n w s ≡ entry 2 n w s)
+
+-- 1 if P holds, 0 if it does not
+abbrev pub FlagFor : Type 0 → ℕ → Type 0
+FlagFor P zero = P → ⊥
+FlagFor P (suc v) = P × (v ≡ 0)
+
+-- the first of two entries as it was if Q does not hold, else 1
+pub data FlagMore (Q : Type 0) (old r : ℕ) : Type 0 where
+  as-before : r ≡ old → (Q → ⊥) → FlagMore Q old r
+  flagged : r ≡ 1 → Q → FlagMore Q old r
+
+-- region 4 alone changed: the flags of the first i states that close
+pub record ClosingPut (g : Graph) (n start level bound i : ℕ) (w w' : List ℕ) : Type 0 where
+  pub outside : SameOutside (4 * n) (5 * n) w w'
+  pub put : (s : ℕ) → s < i → FlagFor (Closes g n start w level bound s) (entry 4 n w' s)
+
+-- region 4 alone changed: among the first i states the marked ends are flagged too
+pub record MarkedPut (g : Graph) (n i : ℕ) (w w' : List ℕ) : Type 0 where
+  pub outside : SameOutside (4 * n) (5 * n) w w'
+  pub put : (s : ℕ) → s < i → FlagMore (MarkedEnd g n w s) (entry 4 n w s) (entry 4 n w' s)
+  pub rest : (s : ℕ) → i ≤ s → s < n → entry 4 n w' s ≡ entry 4 n w s

@@ -1,0 +1,128 @@
+// Flags in region 4 the ends of the ways behind a loop start: the states of one level with a step to a goal, and the marked
+// states whose entries in two regions are the same.
+ghost use Prim.Native.Nat.{_*_, _≤_, _<_};
+ghost use lib.ListN.{length};
+ghost use Rattle.lasso.specs.Decides.{Decides};
+ghost use Rattle.model.specs.Values.{Valid};
+ghost use Rattle.model.specs.Model.{graphIn};
+ghost use Rattle.frontier.specs.Regions.{entry};
+ghost use Rattle.ends.specs.Ends.{GoalAt, Closes, MarkedEnd, FlagFor, FlagMore, ClosingPut, MarkedPut};
+use current::list_at;
+use model::Header;
+use model::degree;
+use model::is_marked;
+use model::row_part;
+use model::successor;
+use table::get;
+use table::put;
+
+// State y is a goal: it can start the loop, and stands on the list at the place of its distance, which is below the bound.
+pub fn is_goal(h: Header, work: &[u16], bound: usize, y: usize) -> bool
+    requires { ⌜ 2 * h .states ≤ length (now work) ⌝ }
+    requires { ⌜ h .states ≤ 4096 ⌝ }
+    requires { ⌜ bound ≤ h .states ⌝ }
+    requires { ⌜ y < h .states ⌝ }
+    ensures { λ r. ⌜ Decides (GoalAt (h .states) (h .start) (now (work .entry)) bound y) r ⌝ }
+{
+    let n = h.states;
+    let e = get(work, n + y);
+    if e % 2 != 1 {
+        return false;
+    }
+    let at = e / 2;
+    if at < 1 {
+        return false;
+    }
+    if bound < at {
+        return false;
+    }
+    if list_at(h, work, at - 1) != y {
+        return false;
+    }
+    true
+}
+
+// 1 if state s has the level, and a step leads from it to a goal below the bound; else 0.
+fn closing_flag(file: &[u8], h: Header, work: &[u16], level: usize, bound: usize, s: usize) -> usize
+    requires { ⌜ Valid (now file) h ⌝ }
+    requires { ⌜ 6 * h .states ≤ length (now work) ⌝ }
+    requires { ⌜ level ≤ h .states ⌝ }
+    requires { ⌜ bound ≤ h .states ⌝ }
+    requires { ⌜ s < h .states ⌝ }
+    ensures { λ r. ⌜ FlagFor (Closes (graphIn (now (file .entry)) h) (h .states) (h .start) (now (work .entry))
+        level bound s) r ⌝ }
+{
+    let n = h.states;
+    if get(work, 2 * n + s) != level + 1 {
+        return 0;
+    }
+    let part = row_part(file, h, s);
+    let d = degree(part, h, s);
+    let mut k = 0;
+    while k < d {
+        let t = successor(part, h, s, k);
+        if is_goal(h, work, bound, t) {
+            return 1;
+        }
+        k += 1;
+    }
+    0
+}
+
+// Flags the states of a level with a step to a goal below the bound, and no other.
+pub fn flag_closing(file: &[u8], h: Header, work: &mut [u16], level: usize, bound: usize)
+    requires { ⌜ Valid (now file) h ⌝ }
+    requires { ⌜ 6 * h .states ≤ length (now work) ⌝ }
+    requires { ⌜ level ≤ h .states ⌝ }
+    requires { ⌜ bound ≤ h .states ⌝ }
+    ensures { λ _. ⌜ ClosingPut (graphIn (now (file .entry)) h) (h .states) (h .start) level bound (h .states)
+        (now (work .entry)) (now (work .exit)) ⌝ }
+{
+    let n = h.states;
+    let mut s = 0;
+    while s < n {
+        let flag = closing_flag(file, h, work, level, bound, s);
+        put(work, 4 * n + s, flag);
+        s += 1;
+    }
+}
+
+// 1 for a marked state that is reached and has the same entry in regions 2 and 5, else its flag as it is.
+fn marked_flag(file: &[u8], h: Header, work: &[u16], s: usize) -> usize
+    requires { ⌜ Valid (now file) h ⌝ }
+    requires { ⌜ 6 * h .states ≤ length (now work) ⌝ }
+    requires { ⌜ s < h .states ⌝ }
+    ensures flag { λ r. ⌜ FlagMore (MarkedEnd (graphIn (now (file .entry)) h) (h .states) (now (work .entry)) s)
+        (entry 4 (h .states) (now (work .entry)) s) r ⌝ }
+    ensures small { λ r. ⌜ r < 65536 ⌝ }
+{
+    let n = h.states;
+    let old = get(work, 4 * n + s);
+    if !is_marked(file, h, s) {
+        return old;
+    }
+    let level = get(work, 2 * n + s);
+    if level == 0 {
+        return old;
+    }
+    if get(work, 5 * n + s) != level {
+        return old;
+    }
+    1
+}
+
+// Flags the marked states that are reached and have the same entry in regions 2 and 5, and takes no flag away.
+pub fn flag_marked(file: &[u8], h: Header, work: &mut [u16])
+    requires { ⌜ Valid (now file) h ⌝ }
+    requires { ⌜ 6 * h .states ≤ length (now work) ⌝ }
+    ensures { λ _. ⌜ MarkedPut (graphIn (now (file .entry)) h) (h .states) (h .states)
+        (now (work .entry)) (now (work .exit)) ⌝ }
+{
+    let n = h.states;
+    let mut s = 0;
+    while s < n {
+        let flag = marked_flag(file, h, work, s);
+        put(work, 4 * n + s, flag);
+        s += 1;
+    }
+}

@@ -1,0 +1,2 @@
+-- The states at which a list closes.
+pub mod Goals

@@ -1,0 +1,2 @@
+-- The laws of what is known of a list.
+pub mod PassedLaws

@@ -1,0 +1,2 @@
+-- The test of a next state.
+pub mod Tested

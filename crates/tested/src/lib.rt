@@ -1,0 +1,152 @@
+// Whether a state may stand at the next place of the list: by a look at region 1, at a goal or at one of two tables, or by
+// a search.
+ghost use mathlib.Core.List.{[], _∷_, _++_};
+ghost use mathlib.Core.Bool.{true};
+ghost use mathlib.Core.Path.{_≡_};
+ghost use Prim.Native.Nat.{_*_, _≤_, _<_};
+ghost use lib.ListN.{length, getD};
+ghost use lib.Dec.{T};
+ghost use Rattle.lasso.specs.Decides.{Decides};
+ghost use Rattle.lasso.specs.Graph.{pathb};
+ghost use Rattle.model.specs.Model.{graphIn};
+ghost use Rattle.table.specs.Changes.{SameOutside};
+ghost use Rattle.current.specs.Current.{stateAt};
+ghost use Rattle.follow.specs.Follow.{upTo, Prepared};
+ghost use Rattle.behind.specs.Tables.{Ground, Tables};
+ghost use Rattle.passed.specs.Passed.{PassedAt};
+ghost use Rattle.tested.specs.Tested.{LastSays, PlaceSays, TestSays};
+use behind::make_tables;
+use ends::is_goal;
+use follow::may_close;
+use lasso::Transitions;
+use model::Header;
+use passed::Passed;
+use table::get;
+
+// Makes the tables behind the loop start at place b, unless they are there.
+fn ready(file: &[u8], h: Header, work: &mut [u16], length: Transitions, b: usize, made: bool)
+    requires { ⌜ Ground (now file) h (now work) (length .0) b ⌝ }
+    requires { ⌜ (made ≡ true → Tables (graphIn (now file) h) (length .0) (stateAt h (now work)) b (now work)) ⌝ }
+    ensures { λ _. ⌜ Tables (graphIn (now (file .entry)) h) (length .0) (stateAt h (now (work .entry))) b
+        (now (work .exit)) ⌝ }
+    ensures same { λ _. ⌜ SameOutside (2 * h .states) (6 * h .states) (now (work .entry)) (now (work .exit)) ⌝ }
+{
+    if made {
+        return;
+    }
+    make_tables(file, h, work, length, b);
+}
+
+// The entry at a place is the value.
+fn has(work: &[u16], at: usize, value: usize) -> bool
+    requires { ⌜ at < length (now work) ⌝ }
+    ensures { λ r. ⌜ Decides (getD (now (work .entry)) at 0 ≡ value) r ⌝ }
+{
+    if get(work, at) == value {
+        return true;
+    }
+    false
+}
+
+// At the last place: t is a goal, below the last mark if no mark stands behind the loop start.
+fn at_last(h: Header, work: &[u16], b: usize, mark: usize, t: usize) -> bool
+    requires { ⌜ 2 * h .states ≤ length (now work) ⌝ }
+    requires { ⌜ h .states ≤ 4096 ⌝ }
+    requires { ⌜ b < h .states ⌝ }
+    requires { ⌜ t < h .states ⌝ }
+    ensures { λ r. ⌜ Decides (LastSays (h .states) (h .start) (now (work .entry)) b mark t) r ⌝ }
+{
+    if b + 1 < mark {
+        return is_goal(h, work, b + 1, t);
+    }
+    is_goal(h, work, mark, t)
+}
+
+// At a place before the last: the table says that t may stand there.
+fn before_last(n: usize, work: &[u16], b: usize, mark: usize, place: usize, t: usize) -> bool
+    requires { ⌜ 6 * n ≤ length (now work) ⌝ }
+    requires { ⌜ n ≤ 4096 ⌝ }
+    requires { ⌜ b ≤ place ⌝ }
+    requires { ⌜ place < n ⌝ }
+    requires { ⌜ t < n ⌝ }
+    ensures { λ r. ⌜ Decides (PlaceSays n (now (work .entry)) b mark place t) r ⌝ }
+{
+    if b + 1 < mark {
+        return has(work, 5 * n + t, place + 2 - b);
+    }
+    has(work, 2 * n + t, place + 2 - b)
+}
+
+// The answer of a test: whether the state may stand there, and what is known of the list then.
+pub struct Tested {
+    pub yes: bool,
+    pub passed: Passed,
+}
+
+// So many tests behind a loop start are done by a search each; the next one makes the tables, which cost more.
+const SEARCHES: usize = 2;
+
+// State t may stand after the list up to a place: the two begin some shortest lasso. Either the loop's start is ahead, and
+// then t stands on a stem at its distance; or it is passed, and then t leads to a goal.
+pub fn may_follow(
+    file: &[u8],
+    h: Header,
+    work: &mut [u16],
+    length: Transitions,
+    place: usize,
+    t: usize,
+    passed: Passed,
+) -> Tested
+    requires { ⌜ Prepared (now file) h (now work) (length .0) ⌝ }
+    requires { ⌜ place < length .0 ⌝ }
+    requires { ⌜ t < h .states ⌝ }
+    requires { ⌜ T (pathb (graphIn (now file) h) (upTo (graphIn (now file) h) (now work) place ++ t ∷ [])) ⌝ }
+    requires { ⌜ PassedAt (now file) h (now work) (length .0) place passed ⌝ }
+    ensures { λ r. ⌜ TestSays (now (file .entry)) h (now (work .entry)) (now (work .exit)) (length .0) place t r ⌝ }
+{
+    let n = h.states;
+    let start = passed.start;
+    let mark = passed.mark;
+    if get(work, n + t) / 2 == place + 2 {
+        return Tested {
+            yes: true,
+            passed: passed,
+        };
+    }
+    if start == 0 {
+        return Tested {
+            yes: false,
+            passed: passed,
+        };
+    }
+    let b = start - 1;
+    if place + 1 == length.number() {
+        return Tested {
+            yes: at_last(h, work, b, mark, t),
+            passed: passed,
+        };
+    }
+    let searches = passed.searches;
+    if searches < SEARCHES {
+        let done = searches + 1;
+        return Tested {
+            yes: may_close(file, h, work, length, place, t),
+            passed: Passed {
+                start: start,
+                mark: mark,
+                searches: done,
+                made: false,
+            },
+        };
+    }
+    ready(file, h, work, length, b, passed.made);
+    Tested {
+        yes: before_last(n, work, b, mark, place, t),
+        passed: Passed {
+            start: start,
+            mark: mark,
+            searches: searches,
+            made: true,
+        },
+    }
+}

@@ -1,0 +1,3 @@
+-- The laws of the way back over a queue.
+pub mod BackLaws
+pub mod WayLaws
