@@ -1,20 +1,14 @@
 -- The ends of the ways behind a loop start, by the entries of the working table.
-use Prim.Native.Nat.{ℕ, zero, suc, _*_, _-_, _/_, _%_, _≤_, _<_}
+use Prim.Native.Nat.{ℕ, zero, suc, _*_, _≤_, _<_}
 use mathlib.Core.Path.{_≡_}
-use mathlib.Core.List.{List, _∷_}
-use lib.ListN.{getD}
+use mathlib.Core.List.{List}
 use lib.Dec.{T}
 use Rattle.lasso.specs.Graph.{Graph, edgeb}
 use Rattle.table.specs.Changes.{SameOutside}
 use Rattle.frontier.specs.Regions.{entry}
+use Rattle.looks.specs.Looks.{GoalAt}
 
--- region 1 says that y can start the loop, and it stands on the list at the place of its distance, which is below the bound
-abbrev pub GoalAt : ℕ → ℕ → List ℕ → ℕ → ℕ → Type 0
-GoalAt n start w bound y =
-    (entry 1 n w y % 2 ≡ 1) × (1 ≤ entry 1 n w y / 2) × (entry 1 n w y / 2 ≤ bound)
-    × (getD (start ∷ w) (entry 1 n w y / 2 - 1) 0 ≡ y)
-
--- a step leads from s, which has the level, to such a state
+-- a step leads from s, which has the level, to a goal
 abbrev pub Closes : Graph → ℕ → ℕ → List ℕ → ℕ → ℕ → ℕ → Type 0
 Closes g n start w level bound s = (entry 2 n w s ≡ suc level) × ((y : ℕ) × T (edgeb g s y) × GoalAt n start w bound y)
 

@@ -2,12 +2,11 @@
 // states whose entries in two regions are the same.
 ghost use Prim.Native.Nat.{_*_, _≤_, _<_};
 ghost use lib.ListN.{length};
-ghost use Rattle.lasso.specs.Decides.{Decides};
 ghost use Rattle.model.specs.Values.{Valid};
 ghost use Rattle.model.specs.Model.{graphIn};
 ghost use Rattle.frontier.specs.Regions.{entry};
-ghost use Rattle.ends.specs.Ends.{GoalAt, Closes, MarkedEnd, FlagFor, FlagMore, ClosingPut, MarkedPut};
-use current::list_at;
+ghost use Rattle.ends.specs.Ends.{Closes, MarkedEnd, FlagFor, FlagMore, ClosingPut, MarkedPut};
+use looks::is_goal;
 use model::Header;
 use model::degree;
 use model::is_marked;
@@ -15,32 +14,6 @@ use model::row_part;
 use model::successor;
 use table::get;
 use table::put;
-
-// State y is a goal: it can start the loop, and stands on the list at the place of its distance, which is below the bound.
-pub fn is_goal(h: Header, work: &[u16], bound: usize, y: usize) -> bool
-    requires { ⌜ 2 * h .states ≤ length (now work) ⌝ }
-    requires { ⌜ h .states ≤ 4096 ⌝ }
-    requires { ⌜ bound ≤ h .states ⌝ }
-    requires { ⌜ y < h .states ⌝ }
-    ensures { λ r. ⌜ Decides (GoalAt (h .states) (h .start) (now (work .entry)) bound y) r ⌝ }
-{
-    let n = h.states;
-    let e = get(work, n + y);
-    if e % 2 != 1 {
-        return false;
-    }
-    let at = e / 2;
-    if at < 1 {
-        return false;
-    }
-    if bound < at {
-        return false;
-    }
-    if list_at(h, work, at - 1) != y {
-        return false;
-    }
-    true
-}
 
 // 1 if state s has the level, and a step leads from it to a goal below the bound; else 0.
 fn closing_flag(file: &[u8], h: Header, work: &[u16], level: usize, bound: usize, s: usize) -> usize

@@ -15,9 +15,11 @@ use Rattle.model.specs.Model.{graphIn}
 use Rattle.model.proofs.Laws.{Sizes, valid-sizes}
 use Rattle.table.specs.Changes.{SameOutside}
 use Rattle.follow.specs.Follow.{Prepared, upTo}
-use Rattle.listing.specs.Places.{Kept, LeastFollower, Completed}
-use Rattle.listing.proofs.PlacesExtend.{extends-whole}
-use Rattle.listing.proofs.PlacesTable.{length-fits, kept-refl, kept-trans, prepared-kept, same-take, stored-kept, stored-take}
+use Rattle.followers.specs.Followers.{LeastFollower}
+use Rattle.listing.specs.Places.{Kept, Completed}
+use Rattle.followers.proofs.ExtendLaws.{extends-whole}
+use Rattle.followers.proofs.RowLaws.{same-take}
+use Rattle.listing.proofs.PlacesTable.{length-fits, kept-refl, kept-trans, prepared-kept, stored-kept, stored-take}
 
 -- at each place of the list after a given one the least state stands that may stand there
 abbrev pub LeastAfter : Graph → ℕ → ℕ → List ℕ → Type 0

@@ -22,9 +22,11 @@ use Rattle.model.proofs.Laws.{valid-well-formed}
 use Rattle.table.specs.Changes.{SameOutside}
 use Rattle.table.proofs.Laws.{sameOutside-refl, sameOutside-trans}
 use Rattle.follow.specs.Follow.{Prepared, upTo}
-use Rattle.listing.specs.Places.{Kept, LeastFollower, Completed}
-use Rattle.listing.proofs.PlacesExtend.{lasso-path, path-begin, extends-start}
-use Rattle.listing.proofs.PlacesTable.{length-fits, kept-trans, same-kept, prepared-kept, same-take, stored-kept, stored-take}
+use Rattle.followers.specs.Followers.{LeastFollower}
+use Rattle.listing.specs.Places.{Kept, Completed}
+use Rattle.followers.proofs.ExtendLaws.{lasso-path, path-begin, extends-start}
+use Rattle.followers.proofs.RowLaws.{same-take}
+use Rattle.listing.proofs.PlacesTable.{length-fits, kept-trans, same-kept, prepared-kept, stored-kept, stored-take}
 
 -- completing keeps region 1 and what stands past the regions
 pub completed-kept : {f v w w' : List ℕ} {h : Header} {l from : ℕ} → Prepared f h v l → Completed (graphIn f h) l from w w' → Kept (h .states) w w'

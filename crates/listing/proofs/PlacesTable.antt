@@ -1,19 +1,21 @@
 -- What the listing keeps in the working table, and the list that stands there up to a place.
-use Prim.Native.Nat.{ℕ, zero, suc, _+_, _*_, _≤_, _<_}
+use Prim.Native.Nat.{ℕ, _+_, _*_, _≤_, _<_}
 use native.Mathlib.Omega.{arith}
 use native.Mathlib.Numerals.{add-one}
-use mathlib.Core.Path.{_≡_, refl, sym, _∙_, ap}
+use mathlib.Core.Path.{_≡_, refl, _∙_, ap}
 use mathlib.Core.List.{List, [], _∷_, _++_}
-use lib.ListN.{length, getD, take, set, length-set, length-take}
-use lib.Seq.{ext-getD, getD-take, getD-set-other, length-take-le, take-suc-set}
-use Rattle.lasso.proofs.RollLaws.{leastLength-range}
+use lib.ListN.{length, take, set, length-set}
+use lib.Seq.{getD-set-other, take-suc-set}
 use Rattle.model.specs.declared.Header.{Header}
 use Rattle.model.specs.Model.{graphIn}
 use Rattle.model.proofs.Laws.{Sizes, valid-sizes}
 use Rattle.table.specs.Changes.{SameOutside}
 use Rattle.stems.proofs.StemTable.{stems-kept}
 use Rattle.follow.specs.Follow.{Prepared}
-use Rattle.listing.specs.Places.{Kept, LeastFollower}
+use Rattle.passed.proofs.PassedLaws.{prepared-sizes}
+use Rattle.followers.specs.Followers.{LeastFollower}
+use Rattle.followers.proofs.RowLaws.{same-take}
+use Rattle.listing.specs.Places.{Kept}
 
 -- a table keeps what it holds
 pub kept-refl : (n : ℕ) (w : List ℕ) → Kept n w w
@@ -55,26 +57,13 @@ prepared-kept {f} {w} {w'} {h} {l} p k =
     sizes : Sizes f h
     sizes = valid-sizes (p .valid)
 
--- a change in the regions 2 to 5 keeps the list
-pub same-take : (n p : ℕ) {w w' : List ℕ} → SameOutside (2 * n) (6 * n) w w' → p ≤ 2 * n → take p w' ≡ take p w
-same-take n p {w} {w'} s h =
-    ext-getD 0 (take p w') (take p w) (rw (length-take p w', length-take p w, s .same-length)) (λ i q. getD-take p w' i 0 (below i q) ∙ s .same-before i (omega (arith, below i q)) ∙ sym (getD-take p w i 0 (below i q)))
-  where
-    below : (i : ℕ) → i < length (take p w') → i < p
-    below i q = omega (arith, length-take p w')
-
 -- a store behind the list makes it one longer
 pub set-take : (w : List ℕ) (p t : ℕ) → p < length w → take (p + 1) (set w p t) ≡ take p w ++ t ∷ []
 set-take w p t h = rw (add-one p) (take-suc-set w p t h)
 
--- the last state of the list up to a place is the one at that place
-pub upTo-last : (x : ℕ) (w : List ℕ) (p : ℕ) → p ≤ length w → getD (x ∷ take p w) (length (take p w)) 0 ≡ getD (x ∷ w) p 0
-upTo-last x w zero h = refl
-upTo-last x w (suc p) h = rw (length-take-le (suc p) w h) (getD-take (suc p) w p 0 (omega arith))
-
 -- the list fits into region 0
 pub length-fits : {f w : List ℕ} {h : Header} {l : ℕ} → Prepared f h w l → l ≤ h .states
-length-fits {f} {h = h} {l} p = omega (arith, leastLength-range (graphIn f h) l (p .least), valid-sizes (p .valid))
+length-fits p = prepared-sizes p .0
 
 -- what the store of a state that may stand at a place asks
 pub put-asks : {f w v q : List ℕ} {h : Header} {l place bound t : ℕ} → Prepared f h w l → place < l → SameOutside (2 * h .states) (6 * h .states) w v → LeastFollower (graphIn f h) l q bound t → (place < length v) × (t < 65536)

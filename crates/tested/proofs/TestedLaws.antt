@@ -2,12 +2,11 @@
 use Prim.Native.Nat.{ℕ, suc, _+_, _*_, _-_, _≤_, _<_}
 use native.Mathlib.Omega.{arith}
 use mathlib.Core.Path.{_≡_, refl, sym, _∙_, subst}
-use mathlib.Core.Logic.{_↔_, _⊎_, inl, inr}
-use mathlib.Core.Bool.{Bool, true, false}
+use mathlib.Core.Logic.{_↔_, inl, inr}
+use mathlib.Core.Bool.{true, false}
 use mathlib.Core.List.{List}
 use lib.ListN.{getD}
 use lib.Dec.{T}
-use Rattle.lasso.specs.Decides.{Decides}
 use Rattle.lasso.specs.Graph.{Graph, edgeb}
 use Rattle.lasso.proofs.Tests.{lt-or-ge}
 use Rattle.lasso.proofs.Walk.{walk-length, walk-uncons, walk-zero}
@@ -23,23 +22,12 @@ use Rattle.follow.proofs.FollowLaws.{Beginning, between, next-state, none-exten
 use Rattle.follow.proofs.FollowTable.{Asked, asked-sizes, asked-beginning, asked-at, not-ahead}
 use Rattle.goals.specs.Goals.{LastStart, LastMark, Goal, Later, Sooner}
 use Rattle.goals.proofs.TestLaws.{Behind, MarkBehind, later-iff, later-last, sooner-iff, sooner-last}
-use Rattle.ends.specs.Ends.{GoalAt}
 use Rattle.behind.specs.Tables.{Ground, Tables}
 use Rattle.behind.proofs.GoalEntries.{goal-of, of-goal}
 use Rattle.behind.proofs.AgreeLaws.{loop-agree, start-agree, mark-agree, later-for, sooner-for, tables-for}
 use Rattle.passed.specs.Passed.{PassedAt}
 use Rattle.passed.specs.declared.Passed.{Passed}
-use Rattle.tested.specs.Tested.{LastSays, PlaceSays}
-
--- an answer for the first of two cases, where it is the first
-pub pick-first : (X Y : Type 0) (b mark : ℕ) → b + 1 < mark → (r : Bool) → Decides X r → Decides (((b + 1 < mark) × X) ⊎ ((mark ≤ b + 1) × Y)) r
-pick-first X Y b mark i true x = inl (i, x)
-pick-first X Y b mark i false n = λ y. elim y [ inl (j, x) ↦ n x | inr (j, x) ↦ absurd (omega arith) ]
-
--- and for the second
-pub pick-second : (X Y : Type 0) (b mark : ℕ) → mark ≤ b + 1 → (r : Bool) → Decides Y r → Decides (((b + 1 < mark) × X) ⊎ ((mark ≤ b + 1) × Y)) r
-pick-second X Y b mark i true x = inr (i, x)
-pick-second X Y b mark i false n = λ y. elim y [ inl (j, x) ↦ absurd (omega arith) | inr (j, x) ↦ n x ]
+use Rattle.looks.specs.Looks.{GoalAt, LastSays, PlaceSays}
 
 module _ {f : List ℕ} {h : Header} {w : List ℕ} {l place t : ℕ} (asked : Asked f h w l place t) where
   abbrev g : Graph

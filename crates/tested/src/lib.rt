@@ -3,10 +3,9 @@
 ghost use mathlib.Core.List.{[], _∷_, _++_};
 ghost use mathlib.Core.Bool.{true};
 ghost use mathlib.Core.Path.{_≡_};
-ghost use Prim.Native.Nat.{_*_, _≤_, _<_};
-ghost use lib.ListN.{length, getD};
+ghost use Prim.Native.Nat.{_*_, _<_};
+ghost use lib.ListN.{length};
 ghost use lib.Dec.{T};
-ghost use Rattle.lasso.specs.Decides.{Decides};
 ghost use Rattle.lasso.specs.Graph.{pathb};
 ghost use Rattle.model.specs.Model.{graphIn};
 ghost use Rattle.table.specs.Changes.{SameOutside};
@@ -14,11 +13,12 @@ ghost use Rattle.current.specs.Current.{stateAt};
 ghost use Rattle.follow.specs.Follow.{upTo, Prepared};
 ghost use Rattle.behind.specs.Tables.{Ground, Tables};
 ghost use Rattle.passed.specs.Passed.{PassedAt};
-ghost use Rattle.tested.specs.Tested.{LastSays, PlaceSays, TestSays};
+ghost use Rattle.tested.specs.Tested.{TestSays};
 use behind::make_tables;
-use ends::is_goal;
 use follow::may_close;
 use lasso::Transitions;
+use looks::at_last;
+use looks::before_last;
 use model::Header;
 use passed::Passed;
 use table::get;
@@ -35,46 +35,6 @@ fn ready(file: &[u8], h: Header, work: &mut [u16], length: Transitions, b: usize
         return;
     }
     make_tables(file, h, work, length, b);
-}
-
-// The entry at a place is the value.
-fn has(work: &[u16], at: usize, value: usize) -> bool
-    requires { ⌜ at < length (now work) ⌝ }
-    ensures { λ r. ⌜ Decides (getD (now (work .entry)) at 0 ≡ value) r ⌝ }
-{
-    if get(work, at) == value {
-        return true;
-    }
-    false
-}
-
-// At the last place: t is a goal, below the last mark if no mark stands behind the loop start.
-fn at_last(h: Header, work: &[u16], b: usize, mark: usize, t: usize) -> bool
-    requires { ⌜ 2 * h .states ≤ length (now work) ⌝ }
-    requires { ⌜ h .states ≤ 4096 ⌝ }
-    requires { ⌜ b < h .states ⌝ }
-    requires { ⌜ t < h .states ⌝ }
-    ensures { λ r. ⌜ Decides (LastSays (h .states) (h .start) (now (work .entry)) b mark t) r ⌝ }
-{
-    if b + 1 < mark {
-        return is_goal(h, work, b + 1, t);
-    }
-    is_goal(h, work, mark, t)
-}
-
-// At a place before the last: the table says that t may stand there.
-fn before_last(n: usize, work: &[u16], b: usize, mark: usize, place: usize, t: usize) -> bool
-    requires { ⌜ 6 * n ≤ length (now work) ⌝ }
-    requires { ⌜ n ≤ 4096 ⌝ }
-    requires { ⌜ b ≤ place ⌝ }
-    requires { ⌜ place < n ⌝ }
-    requires { ⌜ t < n ⌝ }
-    ensures { λ r. ⌜ Decides (PlaceSays n (now (work .entry)) b mark place t) r ⌝ }
-{
-    if b + 1 < mark {
-        return has(work, 5 * n + t, place + 2 - b);
-    }
-    has(work, 2 * n + t, place + 2 - b)
 }
 
 // The answer of a test: whether the state may stand there, and what is known of the list then.

@@ -6,7 +6,7 @@ use borrow.Author.Needs.{needs}
 use Rattle.lasso.proofs.Tests.{NoneOf, noneOf-more}
 use Rattle.model.specs.Model.{graphIn, stepsOf}
 use Rattle.model.proofs.Laws.{valid-sizes, row-edge, row-none, row-state}
-use Rattle.ends.specs.Ends.{GoalAt}
+use Rattle.looks.specs.Looks.{GoalAt}
 use Rattle.ends.proofs.closing_flag.Statement.{statement}
 use Rattle.ends.proofs.closing_flag.Tie as tie
 

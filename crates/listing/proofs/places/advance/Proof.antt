@@ -11,9 +11,10 @@ use Rattle.model.proofs.Laws.{valid-sizes}
 use Rattle.follow.specs.Follow.{upTo, Prepared}
 use Rattle.passed.specs.Passed.{PassedAt, KnownFrom}
 use Rattle.passed.proofs.PassedLaws.{states-to, passed-put, known-down, known-none}
-use Rattle.listing.specs.Places.{LeastFollower, FollowerOf, Completed}
-use Rattle.listing.specs.declared.places.Follower.{Follower}
-use Rattle.listing.proofs.PlacesExtend.{extends-path}
+use Rattle.followers.specs.Followers.{LeastFollower, FollowerOf}
+use Rattle.listing.specs.Places.{Completed}
+use Rattle.followers.specs.declared.Follower.{Follower}
+use Rattle.followers.proofs.ExtendLaws.{extends-path}
 use Rattle.listing.proofs.PlacesTable.{length-fits, put-asks, same-kept}
 use Rattle.listing.proofs.PlacesRoll.{Retreating, retreating-none, retreating-all, Raising, raising-from, raising-asks, raising-nothing, raised-asks, raised-kept, raised-follows}
 use Rattle.listing.proofs.places.advance.Statement.{statement}

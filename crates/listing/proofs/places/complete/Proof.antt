@@ -8,7 +8,7 @@ use Rattle.model.specs.Model.{graphIn}
 use Rattle.follow.specs.Follow.{upTo}
 use Rattle.passed.specs.Passed.{PassedAt}
 use Rattle.passed.proofs.PassedLaws.{states-to, passed-put}
-use Rattle.listing.proofs.PlacesExtend.{extends-path}
+use Rattle.followers.proofs.ExtendLaws.{extends-path}
 use Rattle.listing.proofs.PlacesTable.{length-fits, put-asks}
 use Rattle.listing.proofs.PlacesComplete.{Completing, completing-none, completing-more, completing-all}
 use Rattle.listing.proofs.places.complete.Statement.{statement}

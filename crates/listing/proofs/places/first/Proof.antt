@@ -3,7 +3,7 @@ use native.Mathlib.Omega.{arith}
 use borrow.Author.Needs.{needs}
 use Rattle.model.specs.Model.{graphIn}
 use Rattle.passed.proofs.PassedLaws.{states-to, known-none}
-use Rattle.listing.proofs.PlacesExtend.{start-extends}
+use Rattle.followers.proofs.ExtendLaws.{start-extends}
 use Rattle.listing.proofs.PlacesRoll.{completed-first, completed-kept}
 use Rattle.listing.proofs.places.first.Statement.{statement}
 use Rattle.listing.proofs.places.first.Tie as tie

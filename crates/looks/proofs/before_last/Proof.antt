@@ -4,9 +4,9 @@ use mathlib.Core.Path.{_≡_}
 use Rattle.frontier.specs.Regions.{entry}
 use native.Mathlib.Omega.{arith}
 use borrow.Author.Needs.{needs}
-use Rattle.tested.proofs.TestedLaws.{pick-first, pick-second}
-use Rattle.tested.proofs.before_last.Statement.{statement}
-use Rattle.tested.proofs.before_last.Tie as tie
+use Rattle.looks.proofs.CaseLaws.{pick-first, pick-second}
+use Rattle.looks.proofs.before_last.Statement.{statement}
+use Rattle.looks.proofs.before_last.Tie as tie
 
 add-if1 : tie.Need-add-if1
 add-if1 c = search needs

@@ -18,9 +18,9 @@ use Rattle.model.proofs.Laws.{valid-well-formed}
 use Rattle.table.specs.Changes.{SameOutside}
 use Rattle.table.proofs.Laws.{sameOutside-refl, sameOutside-trans}
 use Rattle.follow.specs.Follow.{upTo}
-use Rattle.listing.specs.Places.{LeastFollower}
-use Rattle.listing.proofs.PlacesExtend.{extends-edge, extends-step}
-use Rattle.listing.proofs.PlacesRow.{StateRead, successor-state}
+use Rattle.followers.specs.Followers.{LeastFollower}
+use Rattle.followers.proofs.ExtendLaws.{extends-edge, extends-step}
+use Rattle.followers.proofs.RowLaws.{StateRead, successor-state}
 
 -- The first k successors ts were tried after q: none of them from the bound on may stand there, and the table changed in
 -- the regions 2 to 5 alone.

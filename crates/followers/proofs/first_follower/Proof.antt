@@ -1,4 +1,4 @@
--- `places::first_follower` meets its contract. The loop's invariant: of the successors of the list's last state the first
+-- `first_follower` meets its contract. The loop's invariant: of the successors of the list's last state the first
 -- `tried` were tried, and one is left at least.
 use Prim.Native.Nat.{ℕ, _-_, _<_}
 use mathlib.Core.Path.{_≡_, _∙_, ap}
@@ -11,12 +11,12 @@ use Rattle.model.specs.Model.{graphIn, stepsOf}
 use Rattle.table.proofs.Laws.{sameOutside-trans}
 use Rattle.follow.specs.Follow.{upTo}
 use Rattle.passed.specs.Passed.{PassedAt}
-use Rattle.listing.proofs.PlacesExtend.{extends-path}
-use Rattle.listing.proofs.PlacesFollower.{Tried, tried-none, tried-more, tried-found, some-successor, tried-last}
-use Rattle.listing.proofs.PlacesTable.{length-fits}
-use Rattle.listing.proofs.PlacesRow.{StateRead, read-row, test-asks, test-answers}
-use Rattle.listing.proofs.places.first_follower.Statement.{statement}
-use Rattle.listing.proofs.places.first_follower.Tie as tie
+use Rattle.followers.proofs.ExtendLaws.{extends-path}
+use Rattle.followers.proofs.TriedLaws.{Tried, tried-none, tried-more, tried-found, some-successor, tried-last}
+use Rattle.passed.proofs.PassedLaws.{prepared-sizes}
+use Rattle.followers.proofs.RowLaws.{StateRead, read-row, test-asks, test-answers}
+use Rattle.followers.proofs.first_follower.Statement.{statement}
+use Rattle.followers.proofs.first_follower.Tie as tie
 
 abbrev Inv-loop : tie.InvT-loop
 Inv-loop file h work₀ length place s part d p₀ tried₀ work p tried =
@@ -59,7 +59,7 @@ answer c =
     test-answers (c .before .before .successor .result) (c .may-follow .result .yes) (row (at .before .before .before)) (at .loop .inv .0 .same) (c .may-follow .ensures .decides)
 
 list-at-requires : tie.Need-list-at-requires Inv-loop μ-loop
-list-at-requires c κs = let p = c .before .before .before .pre in omega (arith, length-fits (p .0), p .0 .room)
+list-at-requires c κs = let p = c .before .before .before .pre in omega (arith, prepared-sizes (p .0))
 
 row-part-requires : tie.Need-row-part-requires Inv-loop μ-loop
 row-part-requires c κs = (c .before .before .before .before .pre .0 .valid, row c .state)

@@ -1,12 +1,12 @@
 -- The row of the list's last state: what reading that state gives, and what the test of one of its successors asks and
 -- answers.
-use Prim.Native.Nat.{ℕ, _*_, _≤_, _<_}
+use Prim.Native.Nat.{ℕ, zero, suc, _*_, _≤_, _<_}
 use native.Mathlib.Omega.{arith}
-use mathlib.Core.Path.{_≡_, sym, _∙_, subst}
+use mathlib.Core.Path.{_≡_, refl, sym, _∙_, subst}
 use mathlib.Core.Bool.{Bool, true, false}
 use mathlib.Core.List.{List, [], _∷_, _++_}
-use lib.ListN.{length, getD, take}
-use lib.Seq.{length-take-le}
+use lib.ListN.{length, getD, take, length-take}
+use lib.Seq.{ext-getD, getD-take, length-take-le}
 use lib.Dec.{T}
 use Rattle.lasso.specs.Graph.{WellFormed, edgeb, pathb}
 use Rattle.lasso.proofs.Tests.{at-memb}
@@ -18,8 +18,22 @@ use Rattle.model.specs.Model.{graphIn}
 use Rattle.model.proofs.Laws.{Sizes, valid-sizes, valid-well-formed}
 use Rattle.table.specs.Changes.{SameOutside}
 use Rattle.follow.specs.Follow.{Prepared, upTo}
-use Rattle.listing.proofs.PlacesExtend.{path-snoc}
-use Rattle.listing.proofs.PlacesTable.{length-fits, prepared-kept, same-kept, same-take, upTo-last}
+use Rattle.follow.proofs.FollowTable.{prepared-same}
+use Rattle.passed.proofs.PassedLaws.{prepared-sizes}
+use Rattle.followers.proofs.ExtendLaws.{path-snoc}
+
+-- a change in the regions 2 to 5 keeps the list
+pub same-take : (n p : ℕ) {w w' : List ℕ} → SameOutside (2 * n) (6 * n) w w' → p ≤ 2 * n → take p w' ≡ take p w
+same-take n p {w} {w'} s h =
+    ext-getD 0 (take p w') (take p w) (rw (length-take p w', length-take p w, s .same-length)) (λ i q. getD-take p w' i 0 (below i q) ∙ s .same-before i (omega (arith, below i q)) ∙ sym (getD-take p w i 0 (below i q)))
+  where
+    below : (i : ℕ) → i < length (take p w') → i < p
+    below i q = omega (arith, length-take p w')
+
+-- the last state of the list up to a place is the one at that place
+pub upTo-last : (x : ℕ) (w : List ℕ) (p : ℕ) → p ≤ length w → getD (x ∷ take p w) (length (take p w)) 0 ≡ getD (x ∷ w) p 0
+upTo-last x w zero h = refl
+upTo-last x w (suc p) h = rw (length-take-le (suc p) w h) (getD-take (suc p) w p 0 (omega arith))
 
 -- what is known of the state s at a place of the list, which is its last state up to there
 pub record StateRead (f : List ℕ) (h : Header) (w : List ℕ) (l place s : ℕ) : Type 0 where
@@ -35,7 +49,7 @@ pub record StateRead (f : List ℕ) (h : Header) (w : List ℕ) (l place s : ℕ
 -- the state that stands at the last place of a path is its last state
 pub read-row : {f w : List ℕ} {h : Header} {l place s : ℕ} → Prepared f h w l → place < l → T (pathb (graphIn f h) (upTo (graphIn f h) w place)) → s ≡ getD (h .start ∷ w) place 0 → StateRead f h w l place s
 read-row {f} {w} {h} {l} {place} {s} p inside path at =
-    record { prepared = p; inside = inside; path = path; sizes = sizes; fits = length-fits p; long = long; last = last; state = state }
+    record { prepared = p; inside = inside; path = path; sizes = sizes; fits = prepared-sizes p .0; long = long; last = last; state = state }
   where
     sizes : Sizes f h
     sizes = valid-sizes (p .valid)
@@ -44,7 +58,7 @@ read-row {f} {w} {h} {l} {place} {s} p inside path at =
     wf = valid-well-formed (p .valid)
 
     short : place ≤ length w
-    short = omega (arith, length-fits p, p .room)
+    short = omega (arith, prepared-sizes p)
 
     long : length (take place w) ≡ place
     long = length-take-le place w short
@@ -66,7 +80,7 @@ successor-state {s = s} t r inside at = omega (arith, r .sizes, valid-well-forme
 -- what the test of the successor t at place k asks, after tests of others
 pub test-asks : {f w w' : List ℕ} {h : Header} {l place s k : ℕ} (t : ℕ) → StateRead f h w l place s → SameOutside (2 * h .states) (6 * h .states) w w' → k < length (graphIn f h .succs s) → t ≡ getD (graphIn f h .succs s) k 0
     → Prepared f h w' l × ((place < l) × ((t < h .states) × T (pathb (graphIn f h) (upTo (graphIn f h) w' place ++ t ∷ []))))
-test-asks {f} {w} {w'} {h} {l} {place} {s} {k} t r same inside at = (prepared-kept (r .prepared) (same-kept (h .states) same), (r .inside, (successor-state t r inside at, path)))
+test-asks {f} {w} {w'} {h} {l} {place} {s} {k} t r same inside at = (prepared-same (r .prepared) same, (r .inside, (successor-state t r inside at, path)))
   where
     path : T (pathb (graphIn f h) (upTo (graphIn f h) w' place ++ t ∷ []))
     path =

@@ -1,12 +1,12 @@
--- `places::try_next` meets its contract: below the bound, or tested.
+-- `try_next` meets its contract: below the bound, or tested.
 use native.Mathlib.Omega.{arith}
 use borrow.Author.Needs.{needs}
 use Rattle.model.specs.Model.{graphIn}
 use Rattle.follow.specs.Follow.{MayFollow}
 use Rattle.table.proofs.Laws.{sameOutside-refl}
-use Rattle.listing.proofs.PlacesRow.{try-decides}
-use Rattle.listing.proofs.places.try_next.Statement.{statement}
-use Rattle.listing.proofs.places.try_next.Tie as tie
+use Rattle.followers.proofs.RowLaws.{try-decides}
+use Rattle.followers.proofs.try_next.Statement.{statement}
+use Rattle.followers.proofs.try_next.Tie as tie
 
 returns : tie.Need-returns
 returns c =

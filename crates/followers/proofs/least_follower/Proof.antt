@@ -1,4 +1,4 @@
--- `places::least_follower` meets its contract. The loop's invariant: of the successors of the list's last state the first
+-- `least_follower` meets its contract. The loop's invariant: of the successors of the list's last state the first
 -- k were tried.
 use Prim.Native.Nat.{ℕ, _-_, _≤_, _<_}
 use mathlib.Core.Path.{_≡_, _∙_, ap}
@@ -11,11 +11,11 @@ use Rattle.model.specs.Model.{graphIn}
 use Rattle.table.proofs.Laws.{sameOutside-trans}
 use Rattle.follow.specs.Follow.{upTo}
 use Rattle.passed.specs.Passed.{PassedAt}
-use Rattle.listing.proofs.PlacesFollower.{Tried, tried-none, tried-more, tried-found, tried-all}
-use Rattle.listing.proofs.PlacesTable.{length-fits}
-use Rattle.listing.proofs.PlacesRow.{StateRead, read-row, test-asks, try-answers}
-use Rattle.listing.proofs.places.least_follower.Statement.{statement}
-use Rattle.listing.proofs.places.least_follower.Tie as tie
+use Rattle.followers.proofs.TriedLaws.{Tried, tried-none, tried-more, tried-found, tried-all}
+use Rattle.passed.proofs.PassedLaws.{prepared-sizes}
+use Rattle.followers.proofs.RowLaws.{StateRead, read-row, test-asks, try-answers}
+use Rattle.followers.proofs.least_follower.Statement.{statement}
+use Rattle.followers.proofs.least_follower.Tie as tie
 
 abbrev Inv-loop : tie.InvT-loop
 Inv-loop file h work₀ length place bound s part d p₀ k₀ work p k =
@@ -56,7 +56,7 @@ answer c =
     try-answers (at .before .before .before .before .before .before .before .args .bound) (c .before .before .successor .result) (c .try-next .result .yes) (row (at .before .before .before)) (at .loop .inv .0 .same) (c .try-next .ensures .decides)
 
 list-at-requires : tie.Need-list-at-requires Inv-loop μ-loop
-list-at-requires c κs = let p = c .before .before .before .pre in omega (arith, length-fits (p .0), p .0 .room)
+list-at-requires c κs = let p = c .before .before .before .pre in omega (arith, prepared-sizes (p .0))
 
 row-part-requires : tie.Need-row-part-requires Inv-loop μ-loop
 row-part-requires c κs = (c .before .before .before .before .pre .0 .valid, row c .state)

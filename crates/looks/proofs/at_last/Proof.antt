@@ -2,10 +2,10 @@
 use Prim.Native.Nat.{_+_}
 use native.Mathlib.Omega.{arith}
 use borrow.Author.Needs.{needs}
-use Rattle.ends.specs.Ends.{GoalAt}
-use Rattle.tested.proofs.TestedLaws.{pick-first, pick-second}
-use Rattle.tested.proofs.at_last.Statement.{statement}
-use Rattle.tested.proofs.at_last.Tie as tie
+use Rattle.looks.specs.Looks.{GoalAt}
+use Rattle.looks.proofs.CaseLaws.{pick-first, pick-second}
+use Rattle.looks.proofs.at_last.Statement.{statement}
+use Rattle.looks.proofs.at_last.Tie as tie
 
 add-if1 : tie.Need-add-if1
 add-if1 c = search needs

@@ -6,8 +6,8 @@ use lib.ListN.{getD}
 use native.Mathlib.Omega.{arith}
 use borrow.Author.Needs.{needs}
 use Rattle.frontier.specs.Regions.{entry}
-use Rattle.ends.proofs.is_goal.Statement.{statement}
-use Rattle.ends.proofs.is_goal.Tie as tie
+use Rattle.looks.proofs.is_goal.Statement.{statement}
+use Rattle.looks.proofs.is_goal.Tie as tie
 
 -- what was read is the entry of region 1
 read : (c : tie.After-get) → let a = c .before .before .args in c .get .result ≡ entry 1 (a .h .states) (a .work .now) (a .y)

@@ -1,0 +1,4 @@
+-- The laws of the least state that may stand at the next place.
+pub mod ExtendLaws
+pub mod RowLaws
+pub mod TriedLaws

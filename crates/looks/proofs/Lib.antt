@@ -1,0 +1,2 @@
+-- The laws of a look.
+pub mod CaseLaws

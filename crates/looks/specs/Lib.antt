@@ -1,0 +1,2 @@
+-- A look behind a loop start.
+pub mod Looks

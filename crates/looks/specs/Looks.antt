@@ -1,0 +1,22 @@
+-- What a look behind the last loop start of a list tells: b is its place, `mark` the last mark of the list, plus 1 or 0.
+use Prim.Native.Nat.{ℕ, _+_, _-_, _/_, _%_, _≤_, _<_}
+use mathlib.Core.Logic.{_⊎_}
+use mathlib.Core.Path.{_≡_}
+use mathlib.Core.List.{List, _∷_}
+use lib.ListN.{getD}
+use Rattle.frontier.specs.Regions.{entry}
+
+-- region 1 says that y can start the loop, and it stands on the list at the place of its distance, which is below the bound
+abbrev pub GoalAt : ℕ → ℕ → List ℕ → ℕ → ℕ → Type 0
+GoalAt n start w bound y =
+    (entry 1 n w y % 2 ≡ 1) × (1 ≤ entry 1 n w y / 2) × (entry 1 n w y / 2 ≤ bound)
+    × (getD (start ∷ w) (entry 1 n w y / 2 - 1) 0 ≡ y)
+
+-- at the last place: t is a goal, below the last mark if none stands behind the loop start
+abbrev pub LastSays : ℕ → ℕ → List ℕ → ℕ → ℕ → ℕ → Type 0
+LastSays n start w b mark t = ((b + 1 < mark) × GoalAt n start w (b + 1) t) ⊎ ((mark ≤ b + 1) × GoalAt n start w mark t)
+
+-- at a place before: the table for lists with a mark behind the loop start, or the one for lists with none, has t there
+abbrev pub PlaceSays : ℕ → List ℕ → ℕ → ℕ → ℕ → ℕ → Type 0
+PlaceSays n w b mark place t =
+    ((b + 1 < mark) × (entry 5 n w t ≡ place + 2 - b)) ⊎ ((mark ≤ b + 1) × (entry 2 n w t ≡ place + 2 - b))

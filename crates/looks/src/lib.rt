@@ -1,0 +1,76 @@
+// Looks behind the last loop start of a list: whether a state is a goal, so that the list can close there; at a place before
+// the last whether a table has the state there.
+ghost use mathlib.Core.Path.{_≡_};
+ghost use Prim.Native.Nat.{_*_, _≤_, _<_};
+ghost use lib.ListN.{length, getD};
+ghost use Rattle.lasso.specs.Decides.{Decides};
+ghost use Rattle.looks.specs.Looks.{GoalAt, LastSays, PlaceSays};
+use current::list_at;
+use model::Header;
+use table::get;
+
+// State y is a goal: it can start the loop, and stands on the list at the place of its distance, which is below the bound.
+pub fn is_goal(h: Header, work: &[u16], bound: usize, y: usize) -> bool
+    requires { ⌜ 2 * h .states ≤ length (now work) ⌝ }
+    requires { ⌜ h .states ≤ 4096 ⌝ }
+    requires { ⌜ bound ≤ h .states ⌝ }
+    requires { ⌜ y < h .states ⌝ }
+    ensures { λ r. ⌜ Decides (GoalAt (h .states) (h .start) (now (work .entry)) bound y) r ⌝ }
+{
+    let n = h.states;
+    let e = get(work, n + y);
+    if e % 2 != 1 {
+        return false;
+    }
+    let at = e / 2;
+    if at < 1 {
+        return false;
+    }
+    if bound < at {
+        return false;
+    }
+    if list_at(h, work, at - 1) != y {
+        return false;
+    }
+    true
+}
+
+// The entry at a place is the value.
+fn has(work: &[u16], at: usize, value: usize) -> bool
+    requires { ⌜ at < length (now work) ⌝ }
+    ensures { λ r. ⌜ Decides (getD (now (work .entry)) at 0 ≡ value) r ⌝ }
+{
+    if get(work, at) == value {
+        return true;
+    }
+    false
+}
+
+// At the last place: t is a goal, below the last mark if no mark stands behind the loop start.
+pub fn at_last(h: Header, work: &[u16], b: usize, mark: usize, t: usize) -> bool
+    requires { ⌜ 2 * h .states ≤ length (now work) ⌝ }
+    requires { ⌜ h .states ≤ 4096 ⌝ }
+    requires { ⌜ b < h .states ⌝ }
+    requires { ⌜ t < h .states ⌝ }
+    ensures { λ r. ⌜ Decides (LastSays (h .states) (h .start) (now (work .entry)) b mark t) r ⌝ }
+{
+    if b + 1 < mark {
+        return is_goal(h, work, b + 1, t);
+    }
+    is_goal(h, work, mark, t)
+}
+
+// At a place before the last: the table says that t may stand there.
+pub fn before_last(n: usize, work: &[u16], b: usize, mark: usize, place: usize, t: usize) -> bool
+    requires { ⌜ 6 * n ≤ length (now work) ⌝ }
+    requires { ⌜ n ≤ 4096 ⌝ }
+    requires { ⌜ b ≤ place ⌝ }
+    requires { ⌜ place < n ⌝ }
+    requires { ⌜ t < n ⌝ }
+    ensures { λ r. ⌜ Decides (PlaceSays n (now (work .entry)) b mark place t) r ⌝ }
+{
+    if b + 1 < mark {
+        return has(work, 5 * n + t, place + 2 - b);
+    }
+    has(work, 2 * n + t, place + 2 - b)
+}
