@@ -21,7 +21,7 @@ abbrev pub FlagFor : Type 0 → ℕ → Type 0
 FlagFor P zero = P → ⊥
 FlagFor P (suc v) = P × (v ≡ 0)
 
--- the first of two entries as it was if Q does not hold, else 1
+-- the entry r is 1 if Q holds, and else the old one
 pub data FlagMore (Q : Type 0) (old r : ℕ) : Type 0 where
   as-before : r ≡ old → (Q → ⊥) → FlagMore Q old r
   flagged : r ≡ 1 → Q → FlagMore Q old r

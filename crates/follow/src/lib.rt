@@ -48,7 +48,8 @@ fn closes_marked(file: &[u8], h: Header, work: &[u16], place: usize, left: usize
     false
 }
 
-// A state of the list, up to a place, that can start the loop is reached soon enough.
+// A state of the list, up to a place, that can start the loop is reached soon enough. Without one no second search is
+// needed.
 fn closes_start(h: Header, work: &[u16], place: usize, left: usize) -> bool
     requires { ⌜ 3 * h .states ≤ length (now work) ⌝ }
     requires { ⌜ place < h .states ⌝ }

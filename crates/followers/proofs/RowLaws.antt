@@ -12,7 +12,6 @@ use Rattle.lasso.specs.Graph.{WellFormed, edgeb, pathb}
 use Rattle.lasso.proofs.Tests.{at-memb}
 use Rattle.lasso.proofs.Walk.{path-states}
 use Rattle.lasso.specs.Decides.{Decides}
-use Rattle.lasso.specs.Extends.{Extends}
 use Rattle.model.specs.declared.Header.{Header}
 use Rattle.model.specs.Model.{graphIn}
 use Rattle.model.proofs.Laws.{Sizes, valid-sizes, valid-well-formed}
@@ -87,19 +86,11 @@ test-asks {f} {w} {w'} {h} {l} {place} {s} {k} t r same inside at = (prepared-sa
         rw (same-take (h .states) place same (omega (arith, r .inside, r .fits)))
         (path-snoc (graphIn f h) (graphIn f h .start) (take place w) t (r .path) (subst (λ (u : ℕ). T (edgeb (graphIn f h) u t)) (r .last) (successor-edge t r inside at)))
 
--- the test's answer is about the list as it was before other tests
-pub test-answers : {f w w' : List ℕ} {h : Header} {l place s : ℕ} (t : ℕ) (b : Bool) → StateRead f h w l place s → SameOutside (2 * h .states) (6 * h .states) w w' → Decides (Extends (graphIn f h) l (upTo (graphIn f h) w' place ++ t ∷ [])) b
-    → Decides (Extends (graphIn f h) l (upTo (graphIn f h) w place ++ t ∷ [])) b
-test-answers {f} {h = h} {l = l} {place = place} t b r same d =
-    subst (λ (xs : List ℕ). Decides (Extends (graphIn f h) l (graphIn f h .start ∷ xs ++ t ∷ [])) b) (same-take (h .states) place same (omega (arith, r .inside, r .fits))) d
+-- what is so of the list after tests was so before them
+pub as-before : {f w w' : List ℕ} {h : Header} {l place s : ℕ} (P : List ℕ → Type 0) → StateRead f h w l place s → SameOutside (2 * h .states) (6 * h .states) w w' → P (take place w') → P (take place w)
+as-before {h = h} {place = place} P r same = subst P (same-take (h .states) place same (omega (arith, r .inside, r .fits)))
 
 -- the answer of a test that passed the bound
 pub try-decides : (P : Type 0) (bound t : ℕ) → bound ≤ t → (b : Bool) → Decides P b → Decides ((bound ≤ t) × P) b
 try-decides P bound t i true p = (i, p)
 try-decides P bound t i false n = λ (j, p). n p
-
--- the answer of a test with a bound is about the list as it was before other tests
-pub try-answers : {f w w' : List ℕ} {h : Header} {l place s : ℕ} (bound t : ℕ) (b : Bool) → StateRead f h w l place s → SameOutside (2 * h .states) (6 * h .states) w w' → Decides ((bound ≤ t) × Extends (graphIn f h) l (upTo (graphIn f h) w' place ++ t ∷ [])) b
-    → Decides ((bound ≤ t) × Extends (graphIn f h) l (upTo (graphIn f h) w place ++ t ∷ [])) b
-try-answers {f} {h = h} {l = l} {place = place} bound t b r same d =
-    subst (λ (xs : List ℕ). Decides ((bound ≤ t) × Extends (graphIn f h) l (graphIn f h .start ∷ xs ++ t ∷ [])) b) (same-take (h .states) place same (omega (arith, r .inside, r .fits))) d

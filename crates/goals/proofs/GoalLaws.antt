@@ -15,7 +15,7 @@ use Rattle.walks.proofs.ThroughLaws.{ViaMark, viaMark-least}
 use Rattle.starts.proofs.StartLaws.{dist-state, startLoop-least, loopLength-closed, leastLength-closed-le}
 use Rattle.goals.specs.Goals.{LastMark, Base, Goal, WayTo, WayThrough, StepTo}
 
--- the lengths of ways and walks
+-- a way of k steps is a walk of k edges, and back
 pub to-walk : {g : Graph} {s y : ℕ} (k : ℕ) → T (reachb g k s y) → Walk g s y k
 to-walk {g} {s} {y} k r = reach-walk g k s y r
 
@@ -47,8 +47,7 @@ module _ {g : Graph} {l : ℕ} {p : ℕ → ℕ} {b : ℕ} (o : Base g l p b) wh
   pub walk-along : (i j : ℕ) → i ≤ j → j ≤ b → Walk g (p i) (p j) (j - i)
   walk-along i j h k = let e : i + (j - i) ≡ j = omega arith in walk-to (walk-steps i (j - i) (omega arith)) (ap p e)
 
-  -- what stands on a goal's place and behind it, up to the loop start, makes a closed walk with any way through a mark from
-  -- the loop start back to the goal: it is no shorter than what the goal's place leaves
+  -- a closed walk from a goal through a mark is no shorter than what the goal's place leaves of the least length
   goal-closed : {m y : ℕ} (q a e : ℕ) (at : Goal g l p m y) → T (g .marked q) → Walk g y q a → Walk g q y e → 1 ≤ a + e → l ≤ at .place + (a + e)
   goal-closed q a e at marked there back turns =
       leastLength-closed-le (o .well-formed) (o .least) (at .at) (turns, (q, a, e, marked, there, back, refl))

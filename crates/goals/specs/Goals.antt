@@ -1,5 +1,6 @@
--- The states at which a list can close, the ways to them, and what the two tables behind a loop start hold. The list is
--- given by the state p k at each place k; b is the place of its last loop start, l the least length.
+-- The states at which a list can close, the ways to them, and what the two tables behind a loop start hold: `Later` for lists
+-- that have met a mark behind the loop start, `Sooner` for lists that have not. The list is given by the state p k at each
+-- place k; b is the place of its last loop start, l the least length. A goal below m, a place plus 1, stands before place m.
 use Prim.Native.Nat.{ℕ, suc, _+_, _≤_, _<_}
 use mathlib.Core.Path.{_≡_}
 use mathlib.Core.Logic.{_↔_, _⊎_}
@@ -64,7 +65,7 @@ Later g l p b t c =
     (viaMark g (p b) t ≡ some c) × ((m : ℕ) × (b + c + suc m ≡ l) × WayTo g l p (b + 1) t (suc m))
 
 -- t may stand c places behind the loop start if no mark stands between: c is the distance, and what is left of the least
--- length leads to a goal below the last mark, or through a mark to any goal
+-- length leads to a goal at or before the last mark, or through a mark to any goal
 abbrev pub Sooner : Graph → ℕ → (ℕ → ℕ) → ℕ → ℕ → ℕ → ℕ → Type 0
 Sooner g l p b mark t c =
     (dist g (p b) t ≡ some c)
@@ -83,8 +84,8 @@ pub record LaterReady (g : Graph) (l : ℕ) (p : ℕ → ℕ) (b : ℕ) (w : Lis
   pub level : (t c : ℕ) → t < g .size → b + c < l → (entry 2 (g .size) w t ≡ suc c) ↔ (viaMark g (p b) t ≡ some c)
   pub ends : (s : ℕ) → s < g .size → (1 ≤ entry 4 (g .size) w s) ↔ ((b + entry 2 (g .size) w s ≡ l) × StepTo g l p (b + 1) s)
 
--- before the pass for region 2: levels are distances, ends the states of the last level with a step to a goal below the last
--- mark, and the marked states with the same entry in region 5
+-- before the pass for region 2: levels are distances, ends the states of the last level with a step to a goal at or before the
+-- last mark, and the marked states with the same entry in region 5
 pub record SoonerReady (g : Graph) (l : ℕ) (p : ℕ → ℕ) (b mark : ℕ) (w : List ℕ) : Type 0 where
   pub level : (t c : ℕ) → t < g .size → b + c < l → (entry 2 (g .size) w t ≡ suc c) ↔ (dist g (p b) t ≡ some c)
   pub ends : (s : ℕ) → s < g .size → (1 ≤ entry 4 (g .size) w s)

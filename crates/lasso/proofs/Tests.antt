@@ -10,6 +10,7 @@ use native.Mathlib.Omega.{arith}
 use lib.ListN.{length, getD}
 use lib.Dec.{T, eqb, ltb, eqb→eq, eqb-refl, ltb→lt, nltb→le, T-not}
 use borrow.Author.Count.{below-more}
+use borrow.Author.Tests.{eqb-true, eqb-false}
 use Rattle.lasso.specs.Lists.{memb, differentb, anyb, consIf, keep, upFrom, below}
 use Rattle.lasso.specs.Decides.{Decides}
 
@@ -61,6 +62,14 @@ pub ruleset join = (both, or-l, or-r)
 pub decides-iff : {P Q : Type 0} → (P → Q) → (Q → P) → (b : Bool) → Decides P b → Decides Q b
 decides-iff to back true p = to p
 decides-iff to back false n = λ q. n (back q)
+
+-- a comparison decides whether two numbers are equal
+pub decides-eq : (m n : ℕ) → Decides (m ≡ n) (eqb m n)
+decides-eq m n =
+    (elim (eqb m n) as (λ b. eqb m n ≡ b → Decides (m ≡ n) b) [
+      | true ↦ λ e. eqb-true m n e
+      | false ↦ λ e q. eqb-false m n e q
+    ]) refl
 
 -- a test passes or its negation does
 pub decide : (b : Bool) → T b ⊎ T (not b)

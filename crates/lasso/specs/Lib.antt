@@ -1,4 +1,5 @@
--- What a reader has to believe about paths and rounds, in the order of the contract: plain functions on lists and numbers.
+-- What a reader has to believe about paths and rounds, in the order of the contract: plain functions on lists and numbers,
+-- first those that know no graph.
 pub mod Lists
 pub mod Decides
 pub mod Least

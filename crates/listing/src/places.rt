@@ -13,7 +13,7 @@ use followers::least_follower;
 use lasso::Transitions;
 use model::Header;
 use passed::Passed;
-use passed::pass;
+use passed::proceed;
 use passed::retreat;
 use passed::unknown;
 use table::get;
@@ -41,7 +41,7 @@ fn complete(
     while place < last {
         let c = first_follower(file, h, work, length, place, p);
         put(work, place, c.state);
-        p = pass(file, h, work, length, place, c.passed);
+        p = proceed(file, h, work, length, place, c.passed);
         place += 1;
     }
 }
@@ -75,7 +75,7 @@ pub fn advance(file: &[u8], h: Header, work: &mut [u16], length: Transitions) ->
         match next {
             Follower::State(t) => {
                 put(work, place, t);
-                let r = pass(file, h, work, length, place, p);
+                let r = proceed(file, h, work, length, place, p);
                 complete(file, h, work, length, place + 1, r);
                 return true;
             }

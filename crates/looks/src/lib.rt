@@ -1,8 +1,7 @@
 // Looks behind the last loop start of a list: whether a state is a goal, so that the list can close there; at a place before
 // the last whether a table has the state there.
-ghost use mathlib.Core.Path.{_≡_};
 ghost use Prim.Native.Nat.{_*_, _≤_, _<_};
-ghost use lib.ListN.{length, getD};
+ghost use lib.ListN.{length};
 ghost use Rattle.lasso.specs.Decides.{Decides};
 ghost use Rattle.looks.specs.Looks.{GoalAt, LastSays, PlaceSays};
 use current::list_at;
@@ -18,44 +17,34 @@ pub fn is_goal(h: Header, work: &[u16], bound: usize, y: usize) -> bool
     ensures { λ r. ⌜ Decides (GoalAt (h .states) (h .start) (now (work .entry)) bound y) r ⌝ }
 {
     let n = h.states;
-    let e = get(work, n + y);
-    if e % 2 != 1 {
+    let entry = get(work, n + y);
+    if entry % 2 != 1 {
         return false;
     }
-    let at = e / 2;
-    if at < 1 {
+    let reached = entry / 2;
+    if reached < 1 {
         return false;
     }
-    if bound < at {
+    if bound < reached {
         return false;
     }
-    if list_at(h, work, at - 1) != y {
+    if list_at(h, work, reached - 1) != y {
         return false;
     }
     true
 }
 
-// The entry at a place is the value.
-fn has(work: &[u16], at: usize, value: usize) -> bool
-    requires { ⌜ at < length (now work) ⌝ }
-    ensures { λ r. ⌜ Decides (getD (now (work .entry)) at 0 ≡ value) r ⌝ }
-{
-    if get(work, at) == value {
-        return true;
-    }
-    false
-}
-
-// At the last place: t is a goal, below the last mark if no mark stands behind the loop start.
-pub fn at_last(h: Header, work: &[u16], b: usize, mark: usize, t: usize) -> bool
+// At the last place: t is a goal, at or before the last mark if no mark stands behind the loop start. Both places are one
+// more.
+pub fn at_last(h: Header, work: &[u16], start: usize, mark: usize, t: usize) -> bool
     requires { ⌜ 2 * h .states ≤ length (now work) ⌝ }
     requires { ⌜ h .states ≤ 4096 ⌝ }
-    requires { ⌜ b < h .states ⌝ }
+    requires { ⌜ start ≤ h .states ⌝ }
     requires { ⌜ t < h .states ⌝ }
-    ensures { λ r. ⌜ Decides (LastSays (h .states) (h .start) (now (work .entry)) b mark t) r ⌝ }
+    ensures { λ r. ⌜ Decides (LastSays (h .states) (h .start) (now (work .entry)) start mark t) r ⌝ }
 {
-    if b + 1 < mark {
-        return is_goal(h, work, b + 1, t);
+    if start < mark {
+        return is_goal(h, work, start, t);
     }
     is_goal(h, work, mark, t)
 }
@@ -70,7 +59,7 @@ pub fn before_last(n: usize, work: &[u16], b: usize, mark: usize, place: usize, 
     ensures { λ r. ⌜ Decides (PlaceSays n (now (work .entry)) b mark place t) r ⌝ }
 {
     if b + 1 < mark {
-        return has(work, 5 * n + t, place + 2 - b);
+        return get(work, 5 * n + t) == place + 2 - b;
     }
-    has(work, 2 * n + t, place + 2 - b)
+    get(work, 2 * n + t) == place + 2 - b
 }

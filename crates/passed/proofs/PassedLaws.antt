@@ -21,8 +21,8 @@ use Rattle.stems.proofs.StemLaws.{start-stem}
 use Rattle.follow.specs.Follow.{StatesTo, Prepared, upTo}
 use Rattle.goals.specs.Goals.{LastOf, LastStart, LastMark}
 use Rattle.goals.proofs.LastLaws.{last-iff, last-down}
-use Rattle.behind.specs.Tables.{Tables}
-use Rattle.behind.proofs.AgreeLaws.{start-agree, mark-agree, tables-for}
+use Rattle.goal_tables.specs.Tables.{Tables}
+use Rattle.goal_tables.proofs.AgreeLaws.{start-agree, mark-agree, tables-for}
 use Rattle.passed.specs.Passed.{PassedAt, KnownFrom, Moved, LoopEntry}
 use Rattle.passed.specs.declared.Passed.{Passed}
 

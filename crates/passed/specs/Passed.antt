@@ -9,7 +9,7 @@ use Rattle.model.specs.Model.{graphIn}
 use Rattle.frontier.specs.Regions.{entry}
 use Rattle.current.specs.Current.{stateAt}
 use Rattle.goals.specs.Goals.{LastStart, LastMark}
-use Rattle.behind.specs.Tables.{Tables}
+use Rattle.goal_tables.specs.Tables.{Tables}
 use Rattle.passed.specs.declared.Passed.{Passed}
 
 -- what is known of the list up to a place is so: its last loop start, its last mark, and the tables behind that loop start
@@ -25,7 +25,8 @@ pub record KnownFrom (f : List ℕ) (h : Header) (w : List ℕ) (l place : ℕ) 
   pub mark : p .mark ≤ place + 1 → LastMark (graphIn f h) (stateAt h w) place (p .mark)
   pub tables : p .made ≡ true → (b : ℕ) → p .start ≡ suc b → b ≤ place → Tables (graphIn f h) l (stateAt h w) b w
 
--- the last loop start and the last mark are others; the tables are there only if they were, and the loop start is the same
+-- r has these as the last loop start and the last mark; it says that the tables are there only if p does and the loop start is
+-- the same
 pub record Moved (p : Passed) (start mark : ℕ) (r : Passed) : Type 0 where
   pub start-is : r .start ≡ start
   pub mark-is : r .mark ≡ mark

@@ -11,8 +11,8 @@ ghost use Rattle.current.specs.Current.{stateAt};
 ghost use Rattle.follow.specs.Follow.{StatesTo, Prepared};
 ghost use Rattle.goals.specs.Goals.{LastOf, LastMark};
 ghost use Rattle.passed.specs.Passed.{PassedAt, KnownFrom, Moved, LoopEntry};
-use behind::last_mark;
 use current::list_at;
+use goal_tables::last_mark;
 use lasso::Transitions;
 use model::Header;
 use model::is_marked;
@@ -50,11 +50,11 @@ fn starts_at(h: Header, work: &[u16], k: usize) -> bool
 {
     let n = h.states;
     let s = list_at(h, work, k);
-    let e = get(work, n + s);
-    if e % 2 != 1 {
+    let entry = get(work, n + s);
+    if entry % 2 != 1 {
         return false;
     }
-    if e / 2 != k + 1 {
+    if entry / 2 != k + 1 {
         return false;
     }
     true
@@ -179,8 +179,8 @@ fn mark_after(file: &[u8], h: Header, work: &[u16], place: usize, mark: usize) -
     mark
 }
 
-// What is known once the state at the place after the given one is passed.
-pub fn pass(
+// What is known of the list with one state more, the one at the place after the given one.
+pub fn proceed(
     file: &[u8],
     h: Header,
     work: &[u16],

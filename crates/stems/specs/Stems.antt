@@ -27,7 +27,7 @@ pub record Stem (g : Graph) (l s d : ℕ) : Type 0 where
   pub whole : dist g (g .start) knot ≡ some (d + rest)
   pub starts : IsStart g l knot
 
--- the entry of a state: 0 if it is on no stem, else twice the distance plus 1, and 1 more if it can start the loop
+-- the entry of a state: 0 if it is on no stem, else twice its distance plus 2, and 1 more if it can start the loop
 pub data StemEntry (g : Graph) (l s e : ℕ) : Type 0 where
   on-none : ((d : ℕ) → Stem g l s d → ⊥) → e ≡ 0 → StemEntry g l s e
   on-stem : (d : ℕ) → Stem g l s d → (IsStart g l s → ⊥) → e ≡ 2 * (d + 1) → StemEntry g l s e

@@ -1,4 +1,4 @@
-// Which states stand on the stem of a shortest lasso. Region 1 of the working table holds twice the distance plus 1 for
+// Which states stand on the stem of a shortest lasso. Region 1 of the working table holds twice the distance plus 2 for
 // each of them, and 1 more for a state that can start the loop.
 ghost use mathlib.Core.Path.{_≡_};
 ghost use mathlib.Core.Option.{some};

@@ -21,10 +21,10 @@ use Rattle.follow.specs.Follow.{OnStem, upTo, MayFollow}
 use Rattle.follow.proofs.FollowLaws.{Beginning, between, next-state, none-extends}
 use Rattle.follow.proofs.FollowTable.{Asked, asked-sizes, asked-beginning, asked-at, not-ahead}
 use Rattle.goals.specs.Goals.{LastStart, LastMark, Goal, Later, Sooner}
-use Rattle.goals.proofs.TestLaws.{Behind, MarkBehind, later-iff, later-last, sooner-iff, sooner-last}
-use Rattle.behind.specs.Tables.{Ground, Tables}
-use Rattle.behind.proofs.GoalEntries.{goal-of, of-goal}
-use Rattle.behind.proofs.AgreeLaws.{loop-agree, start-agree, mark-agree, later-for, sooner-for, tables-for}
+use Rattle.goals.proofs.BehindLaws.{Behind, MarkBehind, later-iff, later-last, sooner-iff, sooner-last}
+use Rattle.goal_tables.specs.Tables.{Ground, Tables}
+use Rattle.goal_tables.proofs.GoalEntries.{goal-of, of-goal}
+use Rattle.goal_tables.proofs.AgreeLaws.{loop-agree, start-agree, mark-agree, later-for, sooner-for, tables-for}
 use Rattle.passed.specs.Passed.{PassedAt}
 use Rattle.passed.specs.declared.Passed.{Passed}
 use Rattle.looks.specs.Looks.{GoalAt, LastSays, PlaceSays}
@@ -144,24 +144,27 @@ module _ {f : List ℕ} {h : Header} {w : List ℕ} {l place t : ℕ} (asked : A
               ]
 
       -- goals decide at the last place
-      pub last-says : suc place ≡ l → LastSays (h .states) (h .start) w b mark t ↔ MayFollow g l w place t
-      last-says all = (to, back)
+      pub last-says : {start : ℕ} → start ≡ suc b → suc place ≡ l → LastSays (h .states) (h .start) w start mark t ↔ MayFollow g l w place t
+      last-says {start} is all = (to, back)
         where
+          start-next : start ≡ b + 1
+          start-next = omega arith
+
           goal : (bound : ℕ) → bound ≤ b + 1 → GoalAt (h .states) (h .start) w bound t → Goal g l at bound t
           goal bound i = goal-of (h .start) (o .well-formed) (o .least) (asked .prepared .stems) (λ k j. agree k (omega arith)) t (next-state o)
 
           said : (bound : ℕ) → bound ≤ b + 1 → Goal g l at bound t → GoalAt (h .states) (h .start) w bound t
           said bound i = of-goal (h .start) (o .well-formed) (o .least) (asked .prepared .stems) (λ k j. agree k (omega arith)) t (next-state o)
 
-          to : LastSays (h .states) (h .start) w b mark t → MayFollow g l w place t
-          to (inl (i, x)) = later-last behind (behind-marked i) all .1 (goal (b + 1) (omega arith) x)
-          to (inr (i, x)) = sooner-last behind (mark-here i) (behind-none i) all .1 (goal mark i x)
+          to : LastSays (h .states) (h .start) w start mark t → MayFollow g l w place t
+          to (inl (i, x)) = later-last behind (behind-marked (omega arith)) all .1 (subst (λ (k : ℕ). Goal g l at k t) start-next (goal start (omega arith) x))
+          to (inr (i, x)) = sooner-last behind (mark-here (omega arith)) (behind-none (omega arith)) all .1 (goal mark (omega arith) x)
 
-          back : MayFollow g l w place t → LastSays (h .states) (h .start) w b mark t
+          back : MayFollow g l w place t → LastSays (h .states) (h .start) w start mark t
           back x =
-              elim (lt-or-ge (b + 1) mark) [
-                | inl i ↦ inl (i, said (b + 1) (omega arith) (later-last behind (behind-marked i) all .0 x))
-                | inr i ↦ inr (i, said mark i (sooner-last behind (mark-here i) (behind-none i) all .0 x))
+              elim (lt-or-ge start mark) [
+                | inl i ↦ inl (i, said start (omega arith) (subst (λ (k : ℕ). Goal g l at k t) (sym start-next) (later-last behind (behind-marked (omega arith)) all .0 x)))
+                | inr i ↦ inr (i, said mark (omega arith) (sooner-last behind (mark-here (omega arith)) (behind-none (omega arith)) all .0 x))
               ]
 
   -- what is known of the list, in a table in which regions 2 to 5 alone changed

@@ -11,11 +11,11 @@ ghost use Rattle.model.specs.Model.{graphIn};
 ghost use Rattle.table.specs.Changes.{SameOutside};
 ghost use Rattle.current.specs.Current.{stateAt};
 ghost use Rattle.follow.specs.Follow.{upTo, Prepared};
-ghost use Rattle.behind.specs.Tables.{Ground, Tables};
+ghost use Rattle.goal_tables.specs.Tables.{Ground, Tables};
 ghost use Rattle.passed.specs.Passed.{PassedAt};
 ghost use Rattle.tested.specs.Tested.{TestSays};
-use behind::make_tables;
 use follow::may_close;
+use goal_tables::make_tables;
 use lasso::Transitions;
 use looks::at_last;
 use looks::before_last;
@@ -24,7 +24,14 @@ use passed::Passed;
 use table::get;
 
 // Makes the tables behind the loop start at place b, unless they are there.
-fn ready(file: &[u8], h: Header, work: &mut [u16], length: Transitions, b: usize, made: bool)
+fn ensure_tables(
+    file: &[u8],
+    h: Header,
+    work: &mut [u16],
+    length: Transitions,
+    b: usize,
+    made: bool,
+)
     requires { ⌜ Ground (now file) h (now work) (length .0) b ⌝ }
     requires { ⌜ (made ≡ true → Tables (graphIn (now file) h) (length .0) (stateAt h (now work)) b (now work)) ⌝ }
     ensures { λ _. ⌜ Tables (graphIn (now (file .entry)) h) (length .0) (stateAt h (now (work .entry))) b
@@ -82,7 +89,7 @@ pub fn may_follow(
     let b = start - 1;
     if place + 1 == length.number() {
         return Tested {
-            yes: at_last(h, work, b, mark, t),
+            yes: at_last(h, work, start, mark, t),
             passed: passed,
         };
     }
@@ -99,7 +106,7 @@ pub fn may_follow(
             },
         };
     }
-    ready(file, h, work, length, b, passed.made);
+    ensure_tables(file, h, work, length, b, passed.made);
     Tested {
         yes: before_last(n, work, b, mark, place, t),
         passed: Passed {

@@ -1,7 +1,7 @@
 -- What the steps of the searches from one state and from the marked states do: one source is put down and the search turns
 -- its level into distances; the levels of the marked states are kept and the search goes on from them.
 use Prim.Native.Nat.{ℕ, suc, _+_, _*_, _≤_, _<_}
-use mathlib.Core.Path.{_≡_, refl, sym, _∙_, ap}
+use mathlib.Core.Path.{_≡_, refl, _∙_, ap}
 use mathlib.Core.Logic.{inl, inr}
 use mathlib.Core.Bool.{Bool, true, false}
 use mathlib.Core.List.{List}

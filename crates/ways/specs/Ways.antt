@@ -7,7 +7,7 @@ use Rattle.lasso.specs.Graph.{Graph, edgeb}
 use Rattle.table.specs.Changes.{SameOutside}
 use Rattle.frontier.specs.Regions.{entry}
 
--- some successor of s has an entry in region 2
+-- some successor of s has the entry `next` in region 2
 abbrev pub LeadsOn : Graph → ℕ → List ℕ → ℕ → ℕ → Type 0
 LeadsOn g n w s next = (t : ℕ) × T (edgeb g s t) × (entry 2 n w t ≡ next)
 

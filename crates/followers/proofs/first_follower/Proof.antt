@@ -14,7 +14,7 @@ use Rattle.passed.specs.Passed.{PassedAt}
 use Rattle.followers.proofs.ExtendLaws.{extends-path}
 use Rattle.followers.proofs.TriedLaws.{Tried, tried-none, tried-more, tried-found, some-successor, tried-last}
 use Rattle.passed.proofs.PassedLaws.{prepared-sizes}
-use Rattle.followers.proofs.RowLaws.{StateRead, read-row, test-asks, test-answers}
+use Rattle.followers.proofs.RowLaws.{StateRead, read-row, test-asks, as-before}
 use Rattle.followers.proofs.first_follower.Statement.{statement}
 use Rattle.followers.proofs.first_follower.Tie as tie
 
@@ -56,7 +56,9 @@ answer : (c : tie.After-may-follow Inv-loop μ-loop)
     Decides (Extends (graphIn (a .file .now) (a .h)) (a .length .0) (upTo (graphIn (a .file .now) (a .h)) (a .work .now) (a .place) ++ c .before .before .successor .result ∷ [])) (c .may-follow .result .yes)
 answer c =
     let at = c .before .before .before .before in
-    test-answers (c .before .before .successor .result) (c .may-follow .result .yes) (row (at .before .before .before)) (at .loop .inv .0 .same) (c .may-follow .ensures .decides)
+    let a = at .before .before .before .before .before .before .before .args in
+    let g = graphIn (a .file .now) (a .h) in
+    as-before (λ xs. Decides (Extends g (a .length .0) (g .start ∷ xs ++ c .before .before .successor .result ∷ [])) (c .may-follow .result .yes)) (row (at .before .before .before)) (at .loop .inv .0 .same) (c .may-follow .ensures .decides)
 
 list-at-requires : tie.Need-list-at-requires Inv-loop μ-loop
 list-at-requires c κs = let p = c .before .before .before .pre in omega (arith, prepared-sizes (p .0))

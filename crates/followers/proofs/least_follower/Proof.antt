@@ -13,7 +13,7 @@ use Rattle.follow.specs.Follow.{upTo}
 use Rattle.passed.specs.Passed.{PassedAt}
 use Rattle.followers.proofs.TriedLaws.{Tried, tried-none, tried-more, tried-found, tried-all}
 use Rattle.passed.proofs.PassedLaws.{prepared-sizes}
-use Rattle.followers.proofs.RowLaws.{StateRead, read-row, test-asks, try-answers}
+use Rattle.followers.proofs.RowLaws.{StateRead, read-row, test-asks, as-before}
 use Rattle.followers.proofs.least_follower.Statement.{statement}
 use Rattle.followers.proofs.least_follower.Tie as tie
 
@@ -53,7 +53,9 @@ answer : (c : tie.After-try-next Inv-loop μ-loop)
     Decides ((a .bound ≤ c .before .before .successor .result) × Extends (graphIn (a .file .now) (a .h)) (a .length .0) (upTo (graphIn (a .file .now) (a .h)) (a .work .now) (a .place) ++ c .before .before .successor .result ∷ [])) (c .try-next .result .yes)
 answer c =
     let at = c .before .before .before .before in
-    try-answers (at .before .before .before .before .before .before .before .args .bound) (c .before .before .successor .result) (c .try-next .result .yes) (row (at .before .before .before)) (at .loop .inv .0 .same) (c .try-next .ensures .decides)
+    let a = at .before .before .before .before .before .before .before .args in
+    let g = graphIn (a .file .now) (a .h) in
+    as-before (λ xs. Decides ((a .bound ≤ c .before .before .successor .result) × Extends g (a .length .0) (g .start ∷ xs ++ c .before .before .successor .result ∷ [])) (c .try-next .result .yes)) (row (at .before .before .before)) (at .loop .inv .0 .same) (c .try-next .ensures .decides)
 
 list-at-requires : tie.Need-list-at-requires Inv-loop μ-loop
 list-at-requires c κs = let p = c .before .before .before .pre in omega (arith, prepared-sizes (p .0))

@@ -1,10 +1,9 @@
 -- `admit` walks along the level's list. The invariant: whatever the search, the sources from the cursor on are in.
 -- The measure is the cursor, which falls since the list descends.
 use Prim.Native.Nat.{ℕ, _*_, _-_, _≤_, _<_}
-use mathlib.Core.Path.{_≡_, refl, sym, subst}
+use mathlib.Core.Path.{sym, subst}
 use mathlib.Core.List.{List}
 use native.Mathlib.Omega.{arith}
-use lib.ListN.{length}
 use borrow.Author.Needs.{needs}
 use Rattle.frontier.specs.Regions.{queued}
 use Rattle.frontier.specs.Search.{State}

@@ -16,7 +16,7 @@ use Rattle.follow.specs.Follow.{OnStem}
 use Rattle.follow.proofs.FollowTests.{read-one}
 use Rattle.follow.proofs.FollowTable.{Asked, asked-sizes, stem-follows}
 use Rattle.goals.specs.Goals.{LastStart}
-use Rattle.behind.specs.Tables.{Tables}
+use Rattle.goal_tables.specs.Tables.{Tables}
 use Rattle.passed.specs.Passed.{PassedAt}
 use Rattle.tested.proofs.TestedLaws.{none-follows, ground-of, start-inside, place-says, last-says, passed-searched, passed-made}
 use Rattle.tested.proofs.may_follow.Statement.{statement}
@@ -67,16 +67,16 @@ more : (c : tie.Else3) → let a = start-of (passed-of c) .args in suc (a .place
 more c = omega (arith, eqb-false, c .if3 .left, c .before .number .ensures, start-of (passed-of c) .pre .1 .0)
 
 -- from where the tables are there
-abbrev more-of : tie.After-ready → tie.Else3
+abbrev more-of : tie.After-ensure-tables → tie.Else3
 more-of c = c .before .before .before
 
 -- the tables
-tables : (c : tie.After-ready) → let a = start-of (passed-of (more-of c)) .args in Tables (graphIn (a .file .now) (a .h)) (a .length .0) (stateAt (a .h) (a .work .now)) (a .passed .start - 1) (c .ready .last .1 .1 .0)
-tables c = c .ready .ensures .0
+tables : (c : tie.After-ensure-tables) → let a = start-of (passed-of (more-of c)) .args in Tables (graphIn (a .file .now) (a .h)) (a .length .0) (stateAt (a .h) (a .work .now)) (a .passed .start - 1) (c .ensure-tables .last .1 .1 .0)
+tables c = c .ensure-tables .ensures .0
 
 -- regions 2 to 5 alone changed
-same : (c : tie.After-ready) → let a = start-of (passed-of (more-of c)) .args in SameOutside (2 * a .h .states) (6 * a .h .states) (a .work .now) (c .ready .last .1 .1 .0)
-same c = c .ready .ensures .1
+same : (c : tie.After-ensure-tables) → let a = start-of (passed-of (more-of c)) .args in SameOutside (2 * a .h .states) (6 * a .h .states) (a .work .now) (c .ensure-tables .last .1 .1 .0)
+same c = c .ensure-tables .ensures .1
 
 add-get : tie.Need-add-get
 add-get c = search needs
@@ -136,7 +136,7 @@ returns-3 c =
     let t = c .before .before in
     let n = t .before in
     let s = start-of (n .before) in
-    let both = last-says (asked s) (last-start (n .before)) (known s .mark) (omega (arith, eqb-true, t .if3 .taken, n .number .ensures)) in
+    let both = last-says (asked s) (last-start (n .before)) (known s .mark) (start-is (n .before)) (omega (arith, eqb-true, t .if3 .taken, n .number .ensures)) in
     record {
       decides = decides-iff (both .0) (both .1) (c .at-last .result) (c .at-last .ensures);
       same = sameOutside-refl _ _ _;
@@ -165,8 +165,8 @@ returns-4 c =
       passed = passed-searched (asked s) (known s) (m .may-close .ensures .1) _;
     }
 
-ready-requires : tie.Need-ready-requires
-ready-requires c κs =
+ensure-tables-requires : tie.Need-ensure-tables-requires
+ensure-tables-requires c κs =
     let e = passed-of (c .before .before) in
     let s = start-of e in
     let last = last-start e in (
@@ -219,7 +219,7 @@ may-follow-spec =
     may-close-requires
     same-length-4
     returns-4
-    ready-requires
+    ensure-tables-requires
     before-last-requires
     same-length-5
     returns-5)

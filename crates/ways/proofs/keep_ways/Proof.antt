@@ -1,5 +1,5 @@
 -- `ways::keep_ways` meets its contract. The loop's invariant: the queue's states from place i on are settled.
-use Prim.Native.Nat.{_+_, _-_, _≤_, _<_}
+use Prim.Native.Nat.{_-_, _≤_, _<_}
 use mathlib.Core.Path.{_≡_, refl}
 use lib.ListN.{length}
 use native.Mathlib.Omega.{arith}
@@ -100,7 +100,7 @@ loop-again c =
       omega (arith, l .loop .inv .0),
       rw e (step-dropped (graphIn (s .args .file .now) (s .args .h)) (s .args .h .states) (s .args .count) (l .loop .i) (l .loop .i - 1) (s .args .work .now) (l .loop .work)
           (valid-well-formed (s .pre .0)) refl (s .pre .1 .1) (omega (arith, r .before .before .loop-test .taken)) (l .loop .inv .0) (l .loop .inv .1) (r .get .result) (r .get .ensures .0)
-          (omega arith) (omega (arith, eqb-true, c .before .before .before .before .before .before .before .before .before .if1 .taken, c .before .before .before .before .before .before .before .before .before .before .get2 .ensures .0)) (c .before .before .before .before .before .before .before .get3 .result + 1) (omega (arith, c .before .before .before .before .before .before .before .get3 .ensures .0))
+          (omega arith) (omega (arith, eqb-true, c .before .before .before .before .before .before .before .before .before .if1 .taken, c .before .before .before .before .before .before .before .before .before .before .get2 .ensures .0)) _ (omega (arith, c .before .before .before .before .before .before .before .get3 .ensures .0))
           (rw (not-true (c .before .before .before .before .before .leads-on .result) (c .before .before .before .before .if2 .taken)) at (c .before .before .before .before .before .leads-on .ensures))),
     )
 
@@ -115,7 +115,7 @@ loop-again-2 c =
       omega (arith, l .loop .inv .0),
       step-leads (graphIn (s .args .file .now) (s .args .h)) (s .args .h .states) (s .args .count) (l .loop .i) (l .loop .i - 1) (s .args .work .now) (l .loop .work)
           (valid-well-formed (s .pre .0)) refl (s .pre .1 .1) (omega (arith, r .before .before .loop-test .taken)) (l .loop .inv .0) (l .loop .inv .1) (r .get .result) (r .get .ensures .0)
-          (c .before .before .before .get3 .result + 1) (omega (arith, c .before .before .before .get3 .ensures .0)) (rw (not-false (c .before .leads-on .result) (c .if2 .left)) at (c .before .leads-on .ensures)),
+          _ (omega (arith, c .before .before .before .get3 .ensures .0)) (rw (not-false (c .before .leads-on .result) (c .if2 .left)) at (c .before .leads-on .ensures)),
     )
 
 loop-less-3 : tie.Need-loop-less-3 Inv-loop μ-loop

@@ -133,8 +133,8 @@ put-requires c κs =
     let asks = raising-asks (raise (get-of test)) in
     put-asks (asks .0) (asks .1 .0) (test .least-follower .ensures .same) (found next)
 
-pass-requires : tie.Need-pass-requires Inv-loop μ-loop
-pass-requires c κs =
+proceed-requires : tie.Need-proceed-requires Inv-loop μ-loop
+proceed-requires c κs =
     let store = c .before .before .before in
     let next = next-of store in
     let test = test-of next in
@@ -154,7 +154,7 @@ complete-requires : tie.Need-complete-requires Inv-loop μ-loop
 complete-requires c κs =
     let store = c .before .before .before .before .before in
     let asks = raised (next-of store) in
-    (rw (store .put .ensures) (asks .0), (asks .1 .0, (rw (store .put .ensures) (asks .1 .1), c .before .pass .ensures)))
+    (rw (store .put .ensures) (asks .0), (asks .1 .0, (rw (store .put .ensures) (asks .1 .1), c .before .proceed .ensures)))
 
 returns : tie.Need-returns Inv-loop μ-loop
 returns c =
@@ -211,7 +211,7 @@ advance-spec =
     least-follower-requires
     enum-known-next
     put-requires
-    pass-requires
+    proceed-requires
     add-complete
     complete-requires
     same-length

@@ -53,8 +53,8 @@ put-requires c κs =
     let loop = test .before .before in
     put-asks (loop .before .loop .inv .0 .prepared) (inside loop) (test .first-follower .ensures .same) (test .first-follower .ensures .found)
 
-pass-requires : tie.Need-pass-requires Inv-loop μ-loop
-pass-requires c κs =
+proceed-requires : tie.Need-proceed-requires Inv-loop μ-loop
+proceed-requires c κs =
     let store = c .before .before .before in
     let test = store .before .before .before .before in
     let loop = test .before .before in
@@ -74,7 +74,7 @@ loop-again : tie.Need-loop-again Inv-loop μ-loop
 loop-again c =
     let store = c .before .before .before .before in
     let test = store .before .before .before .before in
-    (rw (store .put .ensures) (longer test), c .pass .ensures)
+    (rw (store .put .ensures) (longer test), c .proceed .ensures)
 
 same-length : tie.Need-same-length Inv-loop μ-loop
 same-length c = c .before .loop .inv .0 .kept .same-length
@@ -92,7 +92,7 @@ complete-spec =
     loop-holds
     first-follower-requires
     put-requires
-    pass-requires
+    proceed-requires
     add-place
     loop-less
     loop-again

@@ -16,15 +16,15 @@ use Rattle.spread.specs.Promises.{SpreadFrom}
 use Rattle.spread.proofs.SearchLaws.{level-entry, level-within, spread-nothing}
 use Rattle.walks.specs.Through.{viaMark, markedSources, DistancesWithin}
 use Rattle.walks.proofs.ThroughLaws.{viaMark-marked, viaMark-levels}
-use Rattle.behind.specs.Tables.{LevelsVia}
+use Rattle.goal_tables.specs.Tables.{LevelsVia}
 
 -- the distances below the limit
 pub dist-level : {g : Graph} {x limit count : ℕ} {w w' : List ℕ} → DistancesWithin g x limit w w' count → (t c : ℕ) → t < g .size → c < limit → (entry 2 (g .size) w' t ≡ suc c) ↔ (dist g x t ≡ some c)
 dist-level {g} {x} {limit} {w' = w'} d t c h low = level-within limit (entry 2 (g .size) w' t) (dist g x t) c (d .distances t h) (omega arith)
 
 -- from a marked state the search from it is enough
-pub via-marked : {g : Graph} {x limit count : ℕ} {w w' : List ℕ} → WellFormed g → x < g .size → T (g .marked x) → DistancesWithin g x limit w w' count → LevelsVia g x limit w w' count
-via-marked {g} {x} wf h marked d =
+pub levels-marked : {g : Graph} {x limit count : ℕ} {w w' : List ℕ} → WellFormed g → x < g .size → T (g .marked x) → DistancesWithin g x limit w w' count → LevelsVia g x limit w w' count
+levels-marked {g} {x} wf h marked d =
     record {
       outside = d .outside;
       level = λ t c i low.
@@ -34,9 +34,9 @@ via-marked {g} {x} wf h marked d =
     }
 
 -- from another state the search goes on from the marked states
-pub via-on : {g : Graph} {x limit count : ℕ} {w w' : List ℕ} (w'' : List ℕ) (r : SpreadAnswer) → WellFormed g → DistancesWithin g x limit w w' count
+pub levels-on : {g : Graph} {x limit count : ℕ} {w w' : List ℕ} (w'' : List ℕ) (r : SpreadAnswer) → WellFormed g → DistancesWithin g x limit w w' count
     → SpreadFrom g (markedSources g limit w') limit (g .size) w' w'' r → (found : ℕ) × (r ≡ Nothing found) × LevelsVia g x limit w w'' found
-via-on {g} {x} {limit} {w' = w'} w'' r wf d sp =
+levels-on {g} {x} {limit} {w' = w'} w'' r wf d sp =
     let (found, is, ex) = spread-nothing (markedSources g limit w') wf r sp in (
       found,
       is,

@@ -10,9 +10,9 @@ use Rattle.frontier.specs.Regions.{entry}
 use Rattle.current.specs.Current.{stateAt}
 use Rattle.walks.specs.Through.{DistancesWithin}
 use Rattle.ends.specs.Ends.{ClosingPut}
-use Rattle.behind.proofs.TableLaws.{ground-sizes, sooner-queue, sooner-done}
-use Rattle.behind.proofs.make_sooner.Statement.{statement}
-use Rattle.behind.proofs.make_sooner.Tie as tie
+use Rattle.goal_tables.proofs.TableLaws.{ground-sizes, sooner-queue, sooner-done}
+use Rattle.goal_tables.proofs.make_sooner.Statement.{statement}
+use Rattle.goal_tables.proofs.make_sooner.Tie as tie
 
 -- the function's entry, from where the length's number is known
 abbrev start : tie.After-number → tie.Start

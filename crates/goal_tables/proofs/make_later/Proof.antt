@@ -7,10 +7,10 @@ use borrow.Author.Needs.{needs}
 use Rattle.model.specs.Model.{graphIn}
 use Rattle.current.specs.Current.{stateAt}
 use Rattle.ends.specs.Ends.{ClosingPut}
-use Rattle.behind.specs.Tables.{LevelsVia}
-use Rattle.behind.proofs.TableLaws.{ground-sizes, later-queue, later-done}
-use Rattle.behind.proofs.make_later.Statement.{statement}
-use Rattle.behind.proofs.make_later.Tie as tie
+use Rattle.goal_tables.specs.Tables.{LevelsVia}
+use Rattle.goal_tables.proofs.TableLaws.{ground-sizes, later-queue, later-done}
+use Rattle.goal_tables.proofs.make_later.Statement.{statement}
+use Rattle.goal_tables.proofs.make_later.Tie as tie
 
 -- the function's entry, from where the length's number is known
 abbrev start : tie.After-number → tie.Start

@@ -1,11 +1,11 @@
--- `pass` meets its contract: the last loop start, the last mark, and the tables if the loop start is the same.
+-- `proceed` meets its contract: the last loop start, the last mark, and the tables if the loop start is the same.
 use Prim.Native.Nat.{_+_}
 use native.Mathlib.Omega.{arith}
 use borrow.Author.Needs.{needs}
 use Rattle.follow.specs.Follow.{StatesTo}
 use Rattle.passed.proofs.PassedLaws.{entries-start, start-entries, prepared-sizes, passed-moved}
-use Rattle.passed.proofs.pass.Statement.{statement}
-use Rattle.passed.proofs.pass.Tie as tie
+use Rattle.passed.proofs.proceed.Statement.{statement}
+use Rattle.passed.proofs.proceed.Tie as tie
 
 -- the states up to the place itself
 states : (s : tie.Start) → StatesTo (s .args .h) (s .args .work .now) (s .args .place)
@@ -33,5 +33,5 @@ returns c =
     let s = a .before .before .before in
     passed-moved (c .moved .ensures) (entries-start (s .pre .0) (s .args .place + 1) (a .start-after .result) (s .pre .1 .1 .0) (a .start-after .ensures)) (m .mark-after .ensures) (λ made b i _. s .pre .1 .1 .1 .tables made b i)
 
-pub pass-spec : {M : Type 1} → statement M
-pass-spec = tie.close (tie.spec start-after-requires mark-after-requires moved-requires returns)
+pub proceed-spec : {M : Type 1} → statement M
+proceed-spec = tie.close (tie.spec start-after-requires mark-after-requires moved-requires returns)

@@ -7,7 +7,7 @@ ghost use Rattle.table.specs.Changes.{SameOutside};
 ghost use Rattle.current.specs.Current.{stateAt};
 ghost use Rattle.follow.specs.Follow.{StatesTo};
 ghost use Rattle.goals.specs.Goals.{LastMark, LaterTable};
-ghost use Rattle.behind.specs.Tables.{Ground, LevelsVia, LaterMade, SoonerMade, Tables};
+ghost use Rattle.goal_tables.specs.Tables.{Ground, LevelsVia, LaterMade, SoonerMade, Tables};
 use current::list_at;
 use ends::flag_closing;
 use ends::flag_marked;
@@ -41,7 +41,8 @@ pub fn last_mark(file: &[u8], h: Header, work: &[u16], place: usize) -> usize
     0
 }
 
-// Puts the least steps from x through a mark, below the limit, into region 2, and answers how many states have some.
+// Puts the least steps from x through a mark into region 2, exact below the limit, and answers how many states the search
+// reached.
 fn later_levels(file: &[u8], h: Header, work: &mut [u16], x: usize, limit: usize) -> usize
     requires { ⌜ Valid (now file) h ⌝ }
     requires { ⌜ x < h .states ⌝ }

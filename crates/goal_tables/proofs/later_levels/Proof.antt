@@ -6,10 +6,10 @@ use borrow.Author.Needs.{needs}
 use Rattle.model.specs.Model.{graphIn}
 use Rattle.model.proofs.Laws.{valid-well-formed}
 use Rattle.spread.specs.declared.SpreadAnswer.the-variants.{Nothing}
-use Rattle.behind.specs.Tables.{LevelsVia}
-use Rattle.behind.proofs.LevelLaws.{via-marked, via-on}
-use Rattle.behind.proofs.later_levels.Statement.{statement}
-use Rattle.behind.proofs.later_levels.Tie as tie
+use Rattle.goal_tables.specs.Tables.{LevelsVia}
+use Rattle.goal_tables.proofs.LevelLaws.{levels-marked, levels-on}
+use Rattle.goal_tables.proofs.later_levels.Statement.{statement}
+use Rattle.goal_tables.proofs.later_levels.Tie as tie
 
 -- the function's entry, from where the mark is known
 abbrev start : tie.After-is-marked → tie.Start
@@ -23,7 +23,7 @@ on : (c : tie.After-slice-known3) →
 on c =
     let e = c .before .before .before .before in
     let s = start (e .before) in
-    via-on _ (c .before .before .from-marks .result) (valid-well-formed (s .pre .0)) (e .before .before .before .before .distances .ensures) (c .before .before .from-marks .ensures)
+    levels-on _ (c .before .before .from-marks .result) (valid-well-formed (s .pre .0)) (e .before .before .before .before .distances .ensures) (c .before .before .from-marks .ensures)
 
 distances-requires : tie.Need-distances-requires
 distances-requires c κs = search needs
@@ -37,7 +37,7 @@ same-length c = search needs
 returns : tie.Need-returns
 returns c =
     let s = start (c .before) in
-    via-marked (valid-well-formed (s .pre .0)) (s .pre .1 .0) (rw (sym (c .before .is-marked .ensures) ∙ c .if1 .taken) tt) (c .before .before .before .before .distances .ensures)
+    levels-marked (valid-well-formed (s .pre .0)) (s .pre .1 .0) (rw (sym (c .before .is-marked .ensures) ∙ c .if1 .taken) tt) (c .before .before .before .before .distances .ensures)
 
 from-marks-requires : tie.Need-from-marks-requires
 from-marks-requires c κs = search needs

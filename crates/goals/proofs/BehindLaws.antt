@@ -173,20 +173,6 @@ module _ {g : Graph} {l place b : ℕ} {q : List ℕ} {t : ℕ} (o : Behind g l 
     pub sooner-iff : suc place < l → (Ahead g l q t → ⊥) → Extends g l (q ++ t ∷ []) ↔ Sooner g l at b mark t (suc place - b)
     sooner-iff more never = (there, back)
       where
-        told : (m : ℕ) → suc place + suc m ≡ l → WayTo g l at mark t (suc m) ⊎ WayThrough g l at (b + 1) t (suc m) → Sooner g l at b mark t (suc place - b)
-        told m total way = (near-here m total way, (m, omega (arith, o .inside), way))
-
-        there : Extends g l (q ++ t ∷ []) → Sooner g l at b mark t (suc place - b)
-        there x =
-            let m : ℕ = l - suc place - 1 in
-            elim (extends-passed (o .beginning) never x) [
-              | inl y ↦
-                  told m (omega arith) (inr (y .mark, at (y .k), y .a, y .b, y .marked, of-walk (y .to-mark), of-walk (y .back), ahead-goal y, omega (arith, y .total, places)))
-              | inr y ↦
-                  let way : Walk g t (at (y .k)) (suc m) = walk-length (omega (arith, y .total, places)) (y .back) in
-                  told m (omega arith) (inl (at (y .k), both-below y, of-walk way))
-            ]
-
         back : Sooner g l at b mark t (suc place - b) → Extends g l (q ++ t ∷ [])
         back (near, (m, total, inl (y, z, way))) = below-extends (suc m) z (to-walk (suc m) way) (omega (arith, o .inside))
         back (near, (m, total, inr (z, y, a, e, is, to-mark, on, goal, sum))) =
@@ -202,6 +188,20 @@ module _ {g : Graph} {l place b : ℕ} {q : List ℕ} {t : ℕ} (o : Behind g l 
               back = walk-to (to-walk e on) (sym (goal .holds));
               total = omega (arith, o .inside, places);
             })))
+
+        told : (m : ℕ) → suc place + suc m ≡ l → WayTo g l at mark t (suc m) ⊎ WayThrough g l at (b + 1) t (suc m) → Sooner g l at b mark t (suc place - b)
+        told m total way = (near-here m total way, (m, omega (arith, o .inside), way))
+
+        there : Extends g l (q ++ t ∷ []) → Sooner g l at b mark t (suc place - b)
+        there x =
+            let m : ℕ = l - suc place - 1 in
+            elim (extends-passed (o .beginning) never x) [
+              | inl y ↦
+                  told m (omega arith) (inr (y .mark, at (y .k), y .a, y .b, y .marked, of-walk (y .to-mark), of-walk (y .back), ahead-goal y, omega (arith, y .total, places)))
+              | inr y ↦
+                  let way : Walk g t (at (y .k)) (suc m) = walk-length (omega (arith, y .total, places)) (y .back) in
+                  told m (omega arith) (inl (at (y .k), both-below y, of-walk way))
+            ]
 
     -- at the last place t may follow exactly if it is a goal below the last mark
     pub sooner-last : suc place ≡ l → Extends g l (q ++ t ∷ []) ↔ Goal g l at mark t

@@ -2,7 +2,7 @@
 use Prim.Native.Nat.{ℕ, _+_, _≤_, _<_}
 use native.Mathlib.Omega.{arith}
 use mathlib.Core.Path.{_≡_, sym, _∙_, subst}
-use mathlib.Core.Logic.{inl, inr}
+use mathlib.Core.Logic.{_↔_, inl, inr}
 use mathlib.Core.List.{List}
 use mathlib.Core.Option.{some}
 use lib.Dec.{T}
@@ -13,7 +13,11 @@ use Rattle.frontier.specs.Regions.{entry}
 use Rattle.stems.specs.Stems.{IsStart, LoopAt}
 use Rattle.goals.specs.Goals.{LastStart, LastMark, Goal, Later, Sooner, LaterTable, SoonerTable}
 use Rattle.goals.proofs.LastLaws.{last-iff}
-use Rattle.behind.specs.Tables.{Tables}
+use Rattle.goal_tables.specs.Tables.{Tables}
+
+-- what an entry tells, an equal one tells
+pub same-iff : {x y v : ℕ} {P : Type 0} → y ≡ x → (x ≡ v) ↔ P → (y ≡ v) ↔ P
+same-iff e both = (λ at. both .0 (sym e ∙ at), λ z. e ∙ both .1 z)
 
 -- two lists that agree up to place b
 module _ {g : Graph} {l b : ℕ} {p p' : ℕ → ℕ} (agree : (k : ℕ) → k ≤ b → p k ≡ p' k) where
@@ -74,6 +78,6 @@ tables-for {g} {l} {b} {p} {p'} {w} {w'} agree two five x =
     record {
       mark = x .mark;
       last = mark-agree g p p' agree (x .last);
-      later = later-for agree (record { later = λ t c i. let both = x .later .later t c i in (λ at. both .0 (sym (five t i) ∙ at), λ y. five t i ∙ both .1 y) });
-      sooner = sooner-for agree (x .last .low) (record { sooner = λ t c i. let both = x .sooner .sooner t c i in (λ at. both .0 (sym (two t i) ∙ at), λ y. two t i ∙ both .1 y) });
+      later = later-for agree (record { later = λ t c i. same-iff (five t i) (x .later .later t c i) });
+      sooner = sooner-for agree (x .last .low) (record { sooner = λ t c i. same-iff (two t i) (x .sooner .sooner t c i) });
     }

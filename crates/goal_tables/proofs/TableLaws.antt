@@ -28,12 +28,12 @@ use Rattle.follow.proofs.FollowTable.{prepared-same}
 use Rattle.goals.specs.Goals.{LastMark, Base, StepTo, LaterTable, SoonerTable, LaterReady, SoonerReady}
 use Rattle.goals.proofs.GoalLaws.{base-before, base-state}
 use Rattle.goals.proofs.TableLaws.{later-made, sooner-made}
-use Rattle.goals.proofs.TestLaws.{tables-same}
+use Rattle.goals.proofs.BehindLaws.{tables-same}
 use Rattle.ends.specs.Ends.{MarkedEnd, FlagMore, as-before, flagged, ClosingPut, MarkedPut}
-use Rattle.behind.specs.Tables.{Ground, LevelsVia, LaterMade, SoonerMade}
-use Rattle.behind.proofs.LevelLaws.{dist-level}
-use Rattle.behind.proofs.GoalEntries.{closing-ends}
-use Rattle.behind.proofs.AgreeLaws.{loop-agree}
+use Rattle.goal_tables.specs.Tables.{Ground, LevelsVia, LaterMade, SoonerMade}
+use Rattle.goal_tables.proofs.LevelLaws.{dist-level}
+use Rattle.goal_tables.proofs.GoalEntries.{closing-ends}
+use Rattle.goal_tables.proofs.AgreeLaws.{loop-agree, same-iff}
 
 -- the list up to the loop start is the base of the tables
 pub ground-base : {f : List ℕ} {h : Header} {w : List ℕ} {l b : ℕ} → Ground f h w l b → Base (graphIn f h) l (stateAt h w) b
@@ -70,9 +70,7 @@ module _ {f : List ℕ} {h : Header} {w w₁ w₂ : List ℕ} {l b count : ℕ} 
   later-ready =
       record {
         level = λ t c i low.
-            let two : entry 2 (h .states) w₂ t ≡ entry 2 (h .states) w₁ t = flags .outside .same-before (2 * h .states + t) (omega arith) in
-            let both = via .level t c i (omega arith) in
-            (λ at. both .0 (sym two ∙ at), λ x. two ∙ both .1 x);
+            same-iff (flags .outside .same-before (2 * h .states + t) (omega arith)) (via .level t c i (omega arith));
         ends = λ s i.
             closing-ends (h .start) (valid-well-formed (o .prepared .valid)) (o .prepared .least) (prepared-same (o .prepared) (via .outside) .stems)
             (λ k low. list-kept (h .start) k (via .outside) (omega (arith, ground-sizes o))) (l - b - 1) b s flags (omega (arith, ground-sizes o)) i;
@@ -96,9 +94,7 @@ module _ {f : List ℕ} {h : Header} {w w₁ w₂ : List ℕ} {l b count : ℕ} 
             (sameOutside-widen from to (omega arith) (omega arith) (copied .others))));
         table = record {
           later = λ t c i.
-              let both = later-made (ground-base o) later-ready kept t c i in
-              let five : entry 5 (h .states) w₄ t ≡ entry 2 (h .states) w₃ t = copied .copies t i in
-              (λ at. both .0 (sym five ∙ at), λ x. five ∙ both .1 x);
+              same-iff (copied .copies t i) (later-made (ground-base o) later-ready kept t c i);
         };
         same = λ t i. copied .copies t i ∙ sym (copied .others .same-before (2 * h .states + t) (omega arith));
       }
@@ -148,11 +144,9 @@ module _ {f : List ℕ} {h : Header} {w w₁ w₃ w₄ : List ℕ} {l b mark cou
   sooner-ready =
       record {
         level = λ t c i low.
-            let two : entry 2 (h .states) w₄ t ≡ entry 2 (h .states) w₁ t = since .same-before (2 * h .states + t) (omega arith) in
-            let both = dist-level away t c i (omega arith) in
-            (λ at. both .0 (sym two ∙ at), λ x. two ∙ both .1 x);
+            same-iff (since .same-before (2 * h .states + t) (omega arith)) (dist-level away t c i (omega arith));
         ends = ends;
-        table = record { later = λ t c i. let both = first .later t c i in (λ at. both .0 (sym (five t i) ∙ at), λ x. five t i ∙ both .1 x) };
+        table = record { later = λ t c i. same-iff (five t i) (first .later t c i) };
       }
     where
       ends : (s : ℕ) → s < h .states → (1 ≤ entry 4 (h .states) w₄ s)
@@ -195,9 +189,7 @@ module _ {f : List ℕ} {h : Header} {w w₁ w₃ w₄ : List ℕ} {l b mark cou
             (sameOutside-trans (sameOutside-widen from to (omega arith) (omega arith) since) (sameOutside-widen from to (omega arith) (omega arith) (kept .outside)));
         later = record {
           later = λ t c i.
-              let both = first .later t c i in
-              let same : entry 5 (h .states) w₅ t ≡ entry 5 (h .states) w t = kept .outside .same-after (5 * h .states + t) (omega arith) ∙ five t i in
-              (λ at. both .0 (sym same ∙ at), λ x. same ∙ both .1 x);
+              same-iff (kept .outside .same-after (5 * h .states + t) (omega arith) ∙ five t i) (first .later t c i);
         };
         sooner = record { sooner = λ t c i. sooner-made (ground-base o) m sooner-ready kept t c i };
       }

@@ -6,10 +6,10 @@ use borrow.Author.Tests.{eqb-true}
 use Rattle.model.specs.Model.{graphIn}
 use Rattle.table.proofs.Laws.{sameOutside-trans}
 use Rattle.current.specs.Current.{stateAt}
-use Rattle.behind.proofs.TableLaws.{ground-sizes, ground-states, ground-agree, ground-kept, marked-done}
-use Rattle.behind.proofs.AgreeLaws.{mark-agree, later-for, sooner-for}
-use Rattle.behind.proofs.make_tables.Statement.{statement}
-use Rattle.behind.proofs.make_tables.Tie as tie
+use Rattle.goal_tables.proofs.TableLaws.{ground-sizes, ground-states, ground-agree, ground-kept, marked-done}
+use Rattle.goal_tables.proofs.AgreeLaws.{mark-agree, later-for, sooner-for}
+use Rattle.goal_tables.proofs.make_tables.Statement.{statement}
+use Rattle.goal_tables.proofs.make_tables.Tie as tie
 
 -- the function's entry, from where the last mark is known
 abbrev start : tie.After-last-mark → tie.Start

@@ -9,8 +9,8 @@ use Rattle.model.specs.Model.{graphIn}
 use Rattle.model.proofs.Laws.{valid-sizes}
 use Rattle.current.specs.Current.{stateAt}
 use Rattle.goals.proofs.LastLaws.{NoneFrom, scan-found, scan-more, scan-none}
-use Rattle.behind.proofs.last_mark.Statement.{statement}
-use Rattle.behind.proofs.last_mark.Tie as tie
+use Rattle.goal_tables.proofs.last_mark.Statement.{statement}
+use Rattle.goal_tables.proofs.last_mark.Tie as tie
 
 -- the state at a place of the list is marked
 abbrev Marked : List ℕ → Header → List ℕ → ℕ → Type 0
