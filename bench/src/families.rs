@@ -244,8 +244,8 @@ fn decoys(n: usize) -> Model {
     model
 }
 
-/// The same, but the start and a mark are both reached from the dead ends in time, so that each test needs its second
-/// search.
+/// The same, but the start and a mark are both reached from the dead ends in time, so that each test by a search needs
+/// its second one.
 fn decoys_twice(n: usize) -> Model {
     let mut model = Model::new(n);
     let gate = way(&mut model, n);

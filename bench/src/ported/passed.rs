@@ -2,8 +2,8 @@
 //! whether the tables behind that loop start are there.
 
 use super::access::Access;
-use super::behind::last_mark;
 use super::follow::list_at;
+use super::goal_tables::last_mark;
 use super::model::{is_marked, Header};
 use super::spread::get;
 
@@ -75,8 +75,8 @@ pub fn retreat<A: Access>(
     passed.moved(start, mark)
 }
 
-/// What is known once the state at the place after the given one is passed.
-pub fn pass<A: Access>(
+/// What is known of the list with one state more, the one at the place after the given one.
+pub fn proceed<A: Access>(
     file: &[u8],
     h: Header,
     work: &[u16],

@@ -3,7 +3,7 @@
 use super::access::Access;
 use super::follow::list_at;
 use super::model::{degree, row_part, successor, Header};
-use super::passed::{pass, retreat, Passed};
+use super::passed::{proceed, retreat, Passed};
 use super::spread::{get, put};
 use super::tested::may_follow;
 
@@ -60,7 +60,7 @@ fn complete<A: Access>(
     for place in from..length {
         let t = first_follower::<A>(file, h, work, length, place, &mut passed);
         put::<A>(work, place, t);
-        passed = pass::<A>(file, h, work, place, passed);
+        passed = proceed::<A>(file, h, work, place, passed);
     }
 }
 
@@ -79,7 +79,7 @@ pub fn advance<A: Access>(file: &[u8], h: Header, work: &mut [u16], length: usiz
         let next = least_follower::<A>(file, h, work, length, place, bound, &mut passed);
         if let Some(t) = next {
             put::<A>(work, place, t);
-            let passed = pass::<A>(file, h, work, place, passed);
+            let passed = proceed::<A>(file, h, work, place, passed);
             complete::<A>(file, h, work, length, place + 1, passed);
             return true;
         }

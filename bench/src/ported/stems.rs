@@ -1,4 +1,4 @@
-//! Which states stand on the stem of a shortest lasso. Region 1 holds twice the distance plus 1 for each of them, and 1
+//! Which states stand on the stem of a shortest lasso. Region 1 holds twice the distance plus 2 for each of them, and 1
 //! more for a state that can start the loop.
 
 use super::access::Access;

@@ -2,9 +2,9 @@
 //! by a search.
 
 use super::access::Access;
-use super::behind::make_tables;
 use super::ends::is_goal;
 use super::follow::may_close;
+use super::goal_tables::make_tables;
 use super::model::Header;
 use super::passed::Passed;
 use super::spread::get;

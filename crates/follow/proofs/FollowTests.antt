@@ -1,4 +1,4 @@
--- The entries that the three tests of a next state read, and the marks of the list from a place on.
+-- The entries that the two tests of a next state read, and the marks of the list from a place on.
 use Prim.Native.Nat.{ℕ, _+_, _*_, _-_, _≤_}
 use mathlib.Core.Path.{_≡_, _∙_, ap}
 use mathlib.Core.Logic.{inl, inr}

@@ -1,8 +1,8 @@
 // The frontier of a search: its sources, listed by the levels at which they start, and the states that it has reached.
 // The working table is six regions of n entries, n the number of states, at the multiples of n:
-//   0 distances from the start   1 stems   2 levels   3 queue   4 first source of a level   5 next source
+//   0 distances from the start   1 loop lengths   2 levels   3 queue   4 first source of a level   5 next source
 // An entry 0 stands for nothing; a level l stands as l + 1, a state s in a list of sources as s + 1. Between searches the
-// listing has other uses for some: the list in 0, flags of ends in 4, the tables behind a loop start in 2 and 5.
+// listing has other uses for some: the list in 0, the stems in 1, flags of ends in 4, the tables behind a loop start in 2 and 5.
 ghost use mathlib.Core.Path.{_≡_};
 ghost use Prim.Native.Nat.{_+_, _*_, _≤_, _<_};
 ghost use lib.ListN.{length};

@@ -134,7 +134,7 @@ module _ {g : Graph} {l place b : ℕ} {q : List ℕ} {t : ℕ} (o : Behind g l 
 
   -- where none does
   module _ {mark : ℕ} (marks : LastMark g at b mark) (unmarked : MarkBehind g q b place → ⊥) where
-    -- both passed: the state to go back to is a goal below the last mark
+    -- both passed: the state to go back to is a goal at or before the last mark
     both-below : (x : BothPassed g l q t) → Goal g l at mark (at (x .k))
     both-below x =
         let y = both-goal x in
@@ -152,7 +152,7 @@ module _ {g : Graph} {l place b : ℕ} {q : List ℕ} {t : ℕ} (o : Behind g l 
             let same : d ≡ z .place = cc (z .at) in
             record { place = z .place; low = omega arith; holds = z .holds; at = z .at; starts = z .starts }
 
-    -- a goal below the last mark, and a way from t to it
+    -- a goal at or before the last mark, and a way from t to it
     below-extends : {y : ℕ} (k : ℕ) → Goal g l at mark y → Walk g t y k → suc place + k ≡ l → Extends g l (q ++ t ∷ [])
     below-extends k z way total =
         let r : ℕ = mark - 1 in
@@ -203,7 +203,7 @@ module _ {g : Graph} {l place b : ℕ} {q : List ℕ} {t : ℕ} (o : Behind g l 
                   told m (omega arith) (inl (at (y .k), both-below y, of-walk way))
             ]
 
-    -- at the last place t may follow exactly if it is a goal below the last mark
+    -- at the last place t may follow exactly if it is a goal at or before the last mark
     pub sooner-last : suc place ≡ l → Extends g l (q ++ t ∷ []) ↔ Goal g l at mark t
     sooner-last all = (there, λ z. below-extends 0 z (walk-here t) (omega arith))
       where
@@ -224,7 +224,7 @@ module _ {g : Graph} {l place b : ℕ} {q : List ℕ} {t : ℕ} (o : Behind g l 
 
 -- where the loop start itself is marked
 module _ {g : Graph} {l : ℕ} {p : ℕ → ℕ} {b mark : ℕ} (o : Base g l p b) (marks : LastMark g p b mark) (marked : T (g .marked (p b))) where
-  -- every goal is one below the last mark
+  -- every goal is one at or before the last mark
   mark-is-last : mark ≡ b + 1
   mark-is-last = omega (arith, marks .low, marks .last b (omega arith) marked)
 

@@ -65,7 +65,7 @@ module _ {g : Graph} {l : ℕ} {p : ℕ → ℕ} {b : ℕ} (o : Base g l p b) wh
       let back : Walk g q y (e + k) = walk-append on (to-walk k way) in
       omega (arith, goal-closed q (b - at .place + a) (e + k) at marked from back (omega arith))
 
-  -- a way from the loop start, and on to a goal below the last mark
+  -- a way from the loop start, and on to a goal at or before the last mark
   pub below-least : {mark : ℕ} → LastMark g p b mark → (t c k : ℕ) → dist g (p b) t ≡ some c → 1 ≤ k → WayTo g l p mark t k → l ≤ b + c + k
   below-least {mark} marks t c k near turns (y, at, way) =
       let r : ℕ = mark - 1 in
@@ -83,7 +83,7 @@ module _ {g : Graph} {l : ℕ} {p : ℕ → ℕ} {b : ℕ} (o : Base g l p b) wh
       let there : Walk g y z (b - at .place + c + a) = walk-append (walk-append (goal-along at b low (omega arith)) (dist-walk g (p b) t c near)) (to-walk a to-mark) in
       omega (arith, goal-closed z (b - at .place + c + a) e at marked there (to-walk e on) (omega arith))
 
-  -- a goal that is marked is one below the last mark
+  -- a goal that is marked is one at or before the last mark
   pub goal-marked : {mark y : ℕ} → LastMark g p b mark → Goal g l p (b + 1) y → T (g .marked y) → Goal g l p mark y
   goal-marked marks at marked =
       record {

@@ -58,7 +58,7 @@ module _ {g : Graph} {l : ℕ} {p : ℕ → ℕ} {b : ℕ} (o : Base g l p b) wh
 
   -- up to the last mark
   module _ {mark : ℕ} (marks : LastMark g p b mark) where
-    -- the ways to a goal below the last mark and those through a mark are tight
+    -- the ways to a goal at or before the last mark and those through a mark are tight
     sooner-tight : {w : List ℕ} → SoonerReady g l p b mark w → Tight g (g .size) (l - b) (dist g (p b)) (SoonerWay g l p b mark) (SoonerEnd g l p b mark) w
     sooner-tight {w} ready =
         record {

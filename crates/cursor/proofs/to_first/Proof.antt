@@ -7,7 +7,7 @@ use Rattle.cursor.proofs.CursorLaws.{prepared-start, at-first}
 use Rattle.cursor.proofs.to_first.Statement.{statement}
 use Rattle.cursor.proofs.to_first.Tie as tie
 
--- the function's start, from where the loop lengths were found
+-- the function's start, from where the stems were found
 abbrev start : tie.After-prepare → tie.Start
 start c = c .before .before .before .before
 

@@ -8,7 +8,7 @@ use Rattle.cursor.proofs.CursorLaws.{placed-at}
 use Rattle.cursor.proofs.to_list.Statement.{statement}
 use Rattle.cursor.proofs.to_list.Tie as tie
 
--- the function's start, from where the loop lengths were found
+-- the function's start, from where the stems were found
 abbrev start : tie.After-prepare → tie.Start
 start c = c .before .before .before .before .before
 

@@ -43,7 +43,7 @@ two c =
     let a = at .before .before .args in
     c .get .ensures .0 ∙ read-two (a .h .states) (a .work .now) (c .before .list-at .result) _ (c .before .list-at .ensures)
 
--- the loop length read is the entry of region 1 for the state at the place
+-- what is read of the stems is the entry of region 1 for the state at the place
 one : (c : tie.After-get2 Inv-loop μ-loop) → let at = c .before .before .before .before in let a = at .before .before .args in
     c .get2 .result ≡ entry 1 (a .h .states) (a .work .now) (getD (a .h .start ∷ a .work .now) (at .loop .k) 0)
 one c =

@@ -15,7 +15,7 @@ pub fn last_mark<A: Access>(file: &[u8], h: Header, work: &[u16], place: usize) 
         .map_or(0, |k| k + 1)
 }
 
-/// Puts the least steps from x through a mark, below the limit, into region 2; how many states have some.
+/// Puts the least steps from x through a mark into region 2, exact below the limit; how many states the search reached.
 fn later_levels<A: Access>(
     file: &[u8],
     h: Header,
@@ -42,7 +42,7 @@ fn make_later<A: Access>(file: &[u8], h: Header, work: &mut [u16], length: usize
 }
 
 /// Makes the table for lists with no mark behind the loop start at place b, in region 2, from the one for lists with a
-/// mark. The last mark up to place b stands before place `mark`.
+/// mark. `mark` is the place of the last mark up to b plus 1, or 0.
 fn make_sooner<A: Access>(
     file: &[u8],
     h: Header,
