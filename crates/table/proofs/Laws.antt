@@ -85,8 +85,10 @@ pub copied-none : (from to : ℕ) (w : List ℕ) → Copied from to 0 w w
 copied-none from to w = record { others = sameOutside-refl to (to + 0) w; copies = λ i l. absurd (omega arith) }
 
 -- one more entry is copied by storing it behind the copies: it stands as before, since the two parts are apart
-pub copied-more : (from to m n : ℕ) (w w' : List ℕ) → (to + m ≤ from) ⊎ (from + m ≤ to) → n < m → to + n < length w → Copied from to n w w' → Copied from to (n + 1) w (set w' (to + n) (getD w' (from + n) 0))
-copied-more from to m n w w' apart l q c =
+pub copied-more : (from to m n : ℕ) (w w' : List ℕ) (at source : ℕ) → at ≡ to + n → source ≡ from + n → (to + m ≤ from) ⊎ (from + m ≤ to) → n < m → to + n < length w → Copied from to n w w'
+    → Copied from to (n + 1) w (set w' at (getD w' source 0))
+copied-more from to m n w w' at source at-is source-is apart l q c =
+    rw (at-is, source-is)
     record {
       others = sameOutside-set (to + n) (getD w' (from + n) 0) (omega arith) (omega arith) (sameOutside-widen to (to + (n + 1)) (omega arith) (omega arith) (c .others));
       copies = λ i l. ⊎-elim (λ e. rw e here) (λ k. getD-set-other w' (to + n) (to + i) (getD w' (from + n) 0) 0 (omega arith) ∙ c .copies i k) (last-or-below i n l);

@@ -41,7 +41,7 @@ loop-less : tie.Need-loop-less Inv-loop μ-loop
 loop-less c = omega arith
 
 loop-again : tie.Need-loop-again Inv-loop μ-loop
-loop-again c = (omega arith, copied-more _ _ _ _ _ _ (c .before .before .before .pre .0) (omega arith) (omega arith) (c .before .before .loop .inv .1))
+loop-again c = (omega arith, copied-more _ _ _ _ _ _ _ _ (omega arith) (omega arith) (c .before .before .before .pre .0) (omega arith) (omega arith) (c .before .before .loop .inv .1))
 
 same-length : tie.Need-same-length Inv-loop μ-loop
 same-length c = c .before .loop .inv .1 .others .same-length
