@@ -5,7 +5,7 @@ use super::access::Access;
 use super::follow::list_at;
 use super::goal_tables::last_mark;
 use super::model::{is_marked, Header};
-use super::spread::get;
+use super::spread::{get, put};
 
 /// What is known of a list up to a place: the places of its last loop start and of its last mark, plus 1, or 0; how many
 /// tests behind that loop start were done by a search; and whether the tables behind it are there.
@@ -75,14 +75,16 @@ pub fn retreat<A: Access>(
     passed.moved(start, mark)
 }
 
-/// What is known of the list with one state more, the one at the place after the given one.
-pub fn proceed<A: Access>(
+/// Puts state t at the place after the given one of the list, and says what is known of the list then.
+pub fn append<A: Access>(
     file: &[u8],
     h: Header,
-    work: &[u16],
+    work: &mut [u16],
     place: usize,
+    t: usize,
     passed: Passed,
 ) -> Passed {
+    put::<A>(work, place, t);
     let start = if starts_at::<A>(h, work, place + 1) {
         place + 2
     } else {

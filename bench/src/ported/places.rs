@@ -3,8 +3,8 @@
 use super::access::Access;
 use super::follow::list_at;
 use super::model::{degree, row_part, successor, Header};
-use super::passed::{proceed, retreat, Passed};
-use super::spread::{get, put};
+use super::passed::{append, retreat, Passed};
+use super::spread::get;
 use super::tested::may_follow;
 
 fn least_follower<A: Access>(
@@ -16,6 +16,7 @@ fn least_follower<A: Access>(
     bound: usize,
     passed: &mut Passed,
 ) -> Option<usize> {
+    *passed = retreat::<A>(file, h, work, place, *passed);
     let s = list_at::<A>(h, work, place);
     let part = row_part::<A>(file, h, s);
     for k in 0..degree(part, h) {
@@ -59,8 +60,7 @@ fn complete<A: Access>(
     let mut passed = passed;
     for place in from..length {
         let t = first_follower::<A>(file, h, work, length, place, &mut passed);
-        put::<A>(work, place, t);
-        passed = proceed::<A>(file, h, work, place, passed);
+        passed = append::<A>(file, h, work, place, t, passed);
     }
 }
 
@@ -75,11 +75,9 @@ pub fn advance<A: Access>(file: &[u8], h: Header, work: &mut [u16], length: usiz
     let mut passed = Passed::unknown(length);
     for place in (0..length).rev() {
         let bound = get::<A>(work, place) + 1;
-        passed = retreat::<A>(file, h, work, place, passed);
         let next = least_follower::<A>(file, h, work, length, place, bound, &mut passed);
         if let Some(t) = next {
-            put::<A>(work, place, t);
-            let passed = proceed::<A>(file, h, work, place, passed);
+            let passed = append::<A>(file, h, work, place, t, passed);
             complete::<A>(file, h, work, length, place + 1, passed);
             return true;
         }

@@ -22,8 +22,8 @@ use Rattle.model.proofs.Laws.{valid-sizes}
 use Rattle.candidates.specs.Promises.{RoundsReady}
 use Rattle.stems.specs.Stems.{StemEntries}
 use Rattle.follow.specs.Follow.{Prepared, upTo}
-use Rattle.listing.specs.Places.{Kept, Replaced}
-use Rattle.listing.proofs.PlacesTable.{prepared-kept}
+use Rattle.follow.specs.Places.{Kept, Replaced}
+use Rattle.follow.proofs.PlacesTable.{prepared-kept}
 use Rattle.cursor.specs.Cursor.{StoppedAfter, AllDone, At, PlacedAt, MovedOn}
 use Rattle.cursor.proofs.RollPlaces.{stands-first, stands-next, stands-last, follows-next, follows-none}
 

@@ -12,8 +12,8 @@ use Rattle.table.specs.Changes.{SameOutside}
 use Rattle.table.proofs.Laws.{sameOutside-refl, sameOutside-sym, sameOutside-set}
 use Rattle.frontier.specs.Regions.{entry}
 use Rattle.current.proofs.CurrentLaws.{list-kept}
-use Rattle.looks.specs.Looks.{GoalAt}
-use Rattle.ends.specs.Ends.{Closes, MarkedEnd, FlagFor, FlagMore, as-before, flagged, ClosingPut, MarkedPut}
+use Rattle.looks.specs.Looks.{GoalAt, Closes, FlagFor}
+use Rattle.ends.specs.Ends.{MarkedEnd, FlagMore, as-before, flagged, ClosingPut, MarkedPut}
 
 -- a change of region 4 keeps goals
 pub goal-same : {n bound y : ℕ} {w w' : List ℕ} (start : ℕ) → SameOutside (4 * n) (5 * n) w w' → bound ≤ n → y < n → GoalAt n start w bound y → GoalAt n start w' bound y

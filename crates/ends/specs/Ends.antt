@@ -1,25 +1,16 @@
 -- The ends of the ways behind a loop start, by the entries of the working table.
-use Prim.Native.Nat.{ℕ, zero, suc, _*_, _≤_, _<_}
+use Prim.Native.Nat.{ℕ, _*_, _≤_, _<_}
 use mathlib.Core.Path.{_≡_}
 use mathlib.Core.List.{List}
 use lib.Dec.{T}
-use Rattle.lasso.specs.Graph.{Graph, edgeb}
+use Rattle.lasso.specs.Graph.{Graph}
 use Rattle.table.specs.Changes.{SameOutside}
 use Rattle.frontier.specs.Regions.{entry}
-use Rattle.looks.specs.Looks.{GoalAt}
-
--- a step leads from s, which has the level, to a goal
-abbrev pub Closes : Graph → ℕ → ℕ → List ℕ → ℕ → ℕ → ℕ → Type 0
-Closes g n start w level bound s = (entry 2 n w s ≡ suc level) × ((y : ℕ) × T (edgeb g s y) × GoalAt n start w bound y)
+use Rattle.looks.specs.Looks.{Closes, FlagFor}
 
 -- s is marked, reached, and has the same entry in regions 2 and 5
 abbrev pub MarkedEnd : Graph → ℕ → List ℕ → ℕ → Type 0
 MarkedEnd g n w s = T (g .marked s) × (1 ≤ entry 2 n w s) × (entry 5 n w s ≡ entry 2 n w s)
-
--- 1 if P holds, 0 if it does not
-abbrev pub FlagFor : Type 0 → ℕ → Type 0
-FlagFor P zero = P → ⊥
-FlagFor P (suc v) = P × (v ≡ 0)
 
 -- the entry r is 1 if Q holds, and else the old one
 pub data FlagMore (Q : Type 0) (old r : ℕ) : Type 0 where

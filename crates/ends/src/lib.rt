@@ -5,42 +5,12 @@ ghost use lib.ListN.{length};
 ghost use Rattle.model.specs.Values.{Valid};
 ghost use Rattle.model.specs.Model.{graphIn};
 ghost use Rattle.frontier.specs.Regions.{entry};
-ghost use Rattle.ends.specs.Ends.{Closes, MarkedEnd, FlagFor, FlagMore, ClosingPut, MarkedPut};
-use looks::is_goal;
+ghost use Rattle.ends.specs.Ends.{MarkedEnd, FlagMore, ClosingPut, MarkedPut};
+use looks::closing_flag;
 use model::Header;
-use model::degree;
 use model::is_marked;
-use model::row_part;
-use model::successor;
 use table::get;
 use table::put;
-
-// 1 if state s has the level, and a step leads from it to a goal below the bound; else 0.
-fn closing_flag(file: &[u8], h: Header, work: &[u16], level: usize, bound: usize, s: usize) -> usize
-    requires { ⌜ Valid (now file) h ⌝ }
-    requires { ⌜ 6 * h .states ≤ length (now work) ⌝ }
-    requires { ⌜ level ≤ h .states ⌝ }
-    requires { ⌜ bound ≤ h .states ⌝ }
-    requires { ⌜ s < h .states ⌝ }
-    ensures { λ r. ⌜ FlagFor (Closes (graphIn (now (file .entry)) h) (h .states) (h .start) (now (work .entry))
-        level bound s) r ⌝ }
-{
-    let n = h.states;
-    if get(work, 2 * n + s) != level + 1 {
-        return 0;
-    }
-    let part = row_part(file, h, s);
-    let d = degree(part, h, s);
-    let mut k = 0;
-    while k < d {
-        let t = successor(part, h, s, k);
-        if is_goal(h, work, bound, t) {
-            return 1;
-        }
-        k += 1;
-    }
-    0
-}
 
 // Flags the states of a level with a step to a goal below the bound, and no other.
 pub fn flag_closing(file: &[u8], h: Header, work: &mut [u16], level: usize, bound: usize)

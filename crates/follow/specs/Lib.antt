@@ -1,2 +1,3 @@
--- The list up to a place, and which state may stand after it.
+-- The list up to a place, which state may stand after it, the list completed, and the one after a given one.
 pub mod Follow
+pub mod Places

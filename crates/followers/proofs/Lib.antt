@@ -1,4 +1,3 @@
 -- The laws of the least state that may stand at the next place.
-pub mod ExtendLaws
 pub mod RowLaws
 pub mod TriedLaws

@@ -5,8 +5,8 @@ use native.Mathlib.Omega.{arith}
 use mathlib.Core.Path.{_≡_, refl, sym, _∙_, subst}
 use mathlib.Core.Bool.{Bool, true, false}
 use mathlib.Core.List.{List, [], _∷_, _++_}
-use lib.ListN.{length, getD, take, length-take}
-use lib.Seq.{ext-getD, getD-take, length-take-le}
+use lib.ListN.{length, getD, take}
+use lib.Seq.{getD-take, length-take-le}
 use lib.Dec.{T}
 use Rattle.lasso.specs.Graph.{WellFormed, edgeb, pathb}
 use Rattle.lasso.proofs.Tests.{at-memb}
@@ -18,16 +18,8 @@ use Rattle.model.proofs.Laws.{Sizes, valid-sizes, valid-well-formed}
 use Rattle.table.specs.Changes.{SameOutside}
 use Rattle.follow.specs.Follow.{Prepared, upTo}
 use Rattle.follow.proofs.FollowTable.{prepared-same}
-use Rattle.passed.proofs.PassedLaws.{prepared-sizes}
-use Rattle.followers.proofs.ExtendLaws.{path-snoc}
-
--- a change in the regions 2 to 5 keeps the list
-pub same-take : (n p : ℕ) {w w' : List ℕ} → SameOutside (2 * n) (6 * n) w w' → p ≤ 2 * n → take p w' ≡ take p w
-same-take n p {w} {w'} s h =
-    ext-getD 0 (take p w') (take p w) (rw (length-take p w', length-take p w, s .same-length)) (λ i q. getD-take p w' i 0 (below i q) ∙ s .same-before i (omega (arith, below i q)) ∙ sym (getD-take p w i 0 (below i q)))
-  where
-    below : (i : ℕ) → i < length (take p w') → i < p
-    below i q = omega (arith, length-take p w')
+use Rattle.follow.proofs.ExtendLaws.{path-snoc}
+use Rattle.follow.proofs.PlacesTable.{prepared-sizes, same-take}
 
 -- the last state of the list up to a place is the one at that place
 pub upTo-last : (x : ℕ) (w : List ℕ) (p : ℕ) → p ≤ length w → getD (x ∷ take p w) (length (take p w)) 0 ≡ getD (x ∷ w) p 0

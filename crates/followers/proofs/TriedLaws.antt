@@ -18,8 +18,8 @@ use Rattle.model.proofs.Laws.{valid-well-formed}
 use Rattle.table.specs.Changes.{SameOutside}
 use Rattle.table.proofs.Laws.{sameOutside-refl, sameOutside-trans}
 use Rattle.follow.specs.Follow.{upTo}
-use Rattle.followers.specs.Followers.{LeastFollower}
-use Rattle.followers.proofs.ExtendLaws.{extends-edge, extends-step}
+use Rattle.follow.specs.Places.{LeastFollower}
+use Rattle.follow.proofs.ExtendLaws.{extends-edge, extends-step}
 use Rattle.followers.proofs.RowLaws.{StateRead, successor-state}
 
 -- The first k successors ts were tried after q: none of them from the bound on may stand there, and the table changed in

@@ -1,5 +1,5 @@
 -- The states that may stand at the next place of the list, from a bound on, and the least of them.
-use Prim.Native.Nat.{ℕ, _*_, _≤_, _<_}
+use Prim.Native.Nat.{ℕ, _*_, _≤_}
 use mathlib.Core.List.{List, [], _∷_, _++_}
 use Rattle.lasso.specs.Decides.{Decides}
 use Rattle.lasso.specs.Graph.{Graph}
@@ -8,23 +8,13 @@ use Rattle.model.specs.declared.Header.{Header}
 use Rattle.model.specs.Model.{graphIn}
 use Rattle.table.specs.Changes.{SameOutside}
 use Rattle.follow.specs.Follow.{upTo, MayFollow}
+use Rattle.follow.specs.Places.{LeastFollower}
 use Rattle.passed.specs.Passed.{PassedAt}
 use Rattle.tested.specs.declared.Tested.{Tested}
 use Rattle.followers.specs.declared.Found.{Found}
 use Rattle.followers.specs.declared.Chosen.{Chosen}
 use Rattle.followers.specs.declared.Follower.{Follower}
 use Rattle.followers.specs.declared.Follower.the-variants.{State, Nothing}
-
--- the least state from a bound on that may stand after q
-pub record LeastFollower (g : Graph) (l : ℕ) (q : List ℕ) (bound t : ℕ) : Type 0 where
-  pub state : t < g .size
-  pub from-bound : bound ≤ t
-  pub extends : Extends g l (q ++ t ∷ [])
-  pub least : (y : ℕ) → bound ≤ y → y < t → Extends g l (q ++ y ∷ []) → ⊥
-
--- the least state that may stand after the list up to a place
-abbrev pub FirstFollower : Graph → ℕ → List ℕ → ℕ → ℕ → Type 0
-FirstFollower g l w place t = LeastFollower g l (upTo g w place) 0 t
 
 -- what may stand after the list up to a place, from a bound on: the least such state, or nothing
 abbrev pub FollowerOf : Graph → ℕ → List ℕ → ℕ → ℕ → Follower → Type 0
@@ -42,6 +32,10 @@ pub record LeastFound (f : List ℕ) (h : Header) (w w' : List ℕ) (l place bou
   pub found : FollowerOf (graphIn f h) l w place bound (r .follower)
   pub same : SameOutside (2 * h .states) (6 * h .states) w w'
   pub passed : PassedAt f h w' l place (r .passed)
+
+-- the least state that may stand after the list up to a place
+abbrev pub FirstFollower : Graph → ℕ → List ℕ → ℕ → ℕ → Type 0
+FirstFollower g l w place t = LeastFollower g l (upTo g w place) 0 t
 
 -- the least state that may stand there was found
 pub record FirstFound (f : List ℕ) (h : Header) (w w' : List ℕ) (l place : ℕ) (r : Chosen) : Type 0 where

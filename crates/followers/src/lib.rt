@@ -1,4 +1,5 @@
-// The least state that may stand at the next place of the list: of the successors of its last state the first that may.
+// The least state that may stand at the next place of the list, of all or from a bound on: of the successors of its last
+// state the first that may.
 ghost use mathlib.Core.List.{[], _∷_, _++_};
 ghost use Prim.Native.Nat.{_<_};
 ghost use lib.Dec.{T};
@@ -6,7 +7,7 @@ ghost use Rattle.lasso.specs.Graph.{pathb};
 ghost use Rattle.lasso.specs.Extends.{Extends};
 ghost use Rattle.model.specs.Model.{graphIn};
 ghost use Rattle.follow.specs.Follow.{upTo, Prepared};
-ghost use Rattle.passed.specs.Passed.{PassedAt};
+ghost use Rattle.passed.specs.Passed.{PassedAt, KnownFrom};
 ghost use Rattle.followers.specs.Followers.{TrySays, LeastFound, FirstFound};
 use current::list_at;
 use lasso::Transitions;
@@ -14,6 +15,7 @@ use model::Header;
 use model::degree;
 use model::row_part;
 use model::successor;
+use moves::retreat;
 use passed::Passed;
 use tested::Tested;
 use tested::may_follow;
@@ -30,7 +32,7 @@ pub struct Found {
     pub passed: Passed,
 }
 
-// The state that stands there, and what is known of the list then.
+// The state that may stand there, and what is known of the list then.
 pub struct Chosen {
     pub state: usize,
     pub passed: Passed,
@@ -63,7 +65,7 @@ fn try_next(
     may_follow(file, h, work, length, place, t, passed)
 }
 
-// The least state from a bound on that may stand after the list up to a place.
+// The least state from a bound on that may stand after the list up to a place. What was known of a longer list is given.
 pub fn least_follower(
     file: &[u8],
     h: Header,
@@ -76,13 +78,13 @@ pub fn least_follower(
     requires { ⌜ Prepared (now file) h (now work) (length .0) ⌝ }
     requires { ⌜ place < length .0 ⌝ }
     requires { ⌜ T (pathb (graphIn (now file) h) (upTo (graphIn (now file) h) (now work) place)) ⌝ }
-    requires { ⌜ PassedAt (now file) h (now work) (length .0) place passed ⌝ }
+    requires { ⌜ KnownFrom (now file) h (now work) (length .0) place passed ⌝ }
     ensures { λ r. ⌜ LeastFound (now (file .entry)) h (now (work .entry)) (now (work .exit)) (length .0) place bound r ⌝ }
 {
+    let mut p = retreat(file, h, work, length, place, passed);
     let s = list_at(h, work, place);
     let part = row_part(file, h, s);
     let d = degree(part, h, s);
-    let mut p = passed;
     let mut k = 0;
     while k < d {
         let t = successor(part, h, s, k);

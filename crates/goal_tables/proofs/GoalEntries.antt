@@ -13,8 +13,8 @@ use Rattle.frontier.specs.Regions.{entry}
 use Rattle.stems.specs.Stems.{StemEntry, on-none, on-stem, on-start, StemEntries}
 use Rattle.stems.proofs.StemLaws.{start-stem}
 use Rattle.goals.specs.Goals.{Goal, StepTo}
-use Rattle.looks.specs.Looks.{GoalAt}
-use Rattle.ends.specs.Ends.{FlagFor, ClosingPut}
+use Rattle.looks.specs.Looks.{GoalAt, FlagFor}
+use Rattle.ends.specs.Ends.{ClosingPut}
 
 -- a flag tells
 flag-is : {P : Type 0} (v : ℕ) → FlagFor P v → (1 ≤ v) ↔ P

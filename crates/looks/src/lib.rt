@@ -1,15 +1,20 @@
 // Looks behind the last loop start of a list: whether a state is a goal, so that the list can close there; at a place before
-// the last whether a table has the state there.
+// the last whether a table has the state there; and whether a step leads from a state of a level to a goal.
 ghost use Prim.Native.Nat.{_*_, _≤_, _<_};
 ghost use lib.ListN.{length};
 ghost use Rattle.lasso.specs.Decides.{Decides};
-ghost use Rattle.looks.specs.Looks.{GoalAt, LastSays, PlaceSays};
+ghost use Rattle.model.specs.Values.{Valid};
+ghost use Rattle.model.specs.Model.{graphIn};
+ghost use Rattle.looks.specs.Looks.{GoalAt, LastSays, PlaceSays, Closes, FlagFor};
 use current::list_at;
 use model::Header;
+use model::degree;
+use model::row_part;
+use model::successor;
 use table::get;
 
 // State y is a goal: it can start the loop, and stands on the list at the place of its distance, which is below the bound.
-pub fn is_goal(h: Header, work: &[u16], bound: usize, y: usize) -> bool
+fn is_goal(h: Header, work: &[u16], bound: usize, y: usize) -> bool
     requires { ⌜ 2 * h .states ≤ length (now work) ⌝ }
     requires { ⌜ h .states ≤ 4096 ⌝ }
     requires { ⌜ bound ≤ h .states ⌝ }
@@ -62,4 +67,38 @@ pub fn before_last(n: usize, work: &[u16], b: usize, mark: usize, place: usize, 
         return get(work, 5 * n + t) == place + 2 - b;
     }
     get(work, 2 * n + t) == place + 2 - b
+}
+
+// 1 if state s has the level, and a step leads from it to a goal below the bound; else 0.
+pub fn closing_flag(
+    file: &[u8],
+    h: Header,
+    work: &[u16],
+    level: usize,
+    bound: usize,
+    s: usize,
+) -> usize
+    requires { ⌜ Valid (now file) h ⌝ }
+    requires { ⌜ 6 * h .states ≤ length (now work) ⌝ }
+    requires { ⌜ level ≤ h .states ⌝ }
+    requires { ⌜ bound ≤ h .states ⌝ }
+    requires { ⌜ s < h .states ⌝ }
+    ensures { λ r. ⌜ FlagFor (Closes (graphIn (now (file .entry)) h) (h .states) (h .start) (now (work .entry))
+        level bound s) r ⌝ }
+{
+    let n = h.states;
+    if get(work, 2 * n + s) != level + 1 {
+        return 0;
+    }
+    let part = row_part(file, h, s);
+    let d = degree(part, h, s);
+    let mut k = 0;
+    while k < d {
+        let t = successor(part, h, s, k);
+        if is_goal(h, work, bound, t) {
+            return 1;
+        }
+        k += 1;
+    }
+    0
 }

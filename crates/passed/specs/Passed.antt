@@ -1,12 +1,10 @@
 -- What is known of a list up to a place, and of one that was longer.
-use Prim.Native.Nat.{ℕ, suc, _+_, _/_, _%_, _≤_}
+use Prim.Native.Nat.{ℕ, suc, _+_, _≤_}
 use mathlib.Core.Path.{_≡_}
 use mathlib.Core.Bool.{true}
-use mathlib.Core.List.{List, _∷_}
-use lib.ListN.{getD}
+use mathlib.Core.List.{List}
 use Rattle.model.specs.declared.Header.{Header}
 use Rattle.model.specs.Model.{graphIn}
-use Rattle.frontier.specs.Regions.{entry}
 use Rattle.current.specs.Current.{stateAt}
 use Rattle.goals.specs.Goals.{LastStart, LastMark}
 use Rattle.goal_tables.specs.Tables.{Tables}
@@ -31,8 +29,3 @@ pub record Moved (p : Passed) (start mark : ℕ) (r : Passed) : Type 0 where
   pub start-is : r .start ≡ start
   pub mark-is : r .mark ≡ mark
   pub made : r .made ≡ true → (p .made ≡ true) × (start ≡ p .start)
-
--- region 1 says that the state at place k can start the loop and stands at its distance
-abbrev pub LoopEntry : ℕ → ℕ → List ℕ → ℕ → Type 0
-LoopEntry n start w k =
-    (entry 1 n w (getD (start ∷ w) k 0) % 2 ≡ 1) × (entry 1 n w (getD (start ∷ w) k 0) / 2 ≡ k + 1)

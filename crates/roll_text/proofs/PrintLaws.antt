@@ -12,7 +12,7 @@ use Rattle.lasso.specs.Roll.{roll}
 use Rattle.model.specs.declared.Header.{Header}
 use Rattle.model.specs.Model.{graphIn}
 use Rattle.model.proofs.Laws.{valid-sizes, valid-well-formed}
-use Rattle.listing.proofs.PlacesTable.{length-fits}
+use Rattle.follow.proofs.PlacesTable.{length-fits}
 use Rattle.outcomes.specs.Tables.{written}
 use Rattle.text.specs.Writing.{Wrote}
 use Rattle.text.proofs.WroteLaws.{wrote-length, wrote-none}

@@ -1,5 +1,7 @@
 // Whether a state may stand at the next place of the list: by a look at region 1, at a goal or at one of two tables, or by
 // a search.
+mod closing;
+
 ghost use mathlib.Core.List.{[], _∷_, _++_};
 ghost use mathlib.Core.Bool.{true};
 ghost use mathlib.Core.Path.{_≡_};
@@ -14,7 +16,7 @@ ghost use Rattle.follow.specs.Follow.{upTo, Prepared};
 ghost use Rattle.goal_tables.specs.Tables.{Ground, Tables};
 ghost use Rattle.passed.specs.Passed.{PassedAt};
 ghost use Rattle.tested.specs.Tested.{TestSays};
-use follow::may_close;
+use closing::may_close;
 use goal_tables::make_tables;
 use lasso::Transitions;
 use looks::at_last;

@@ -2,7 +2,7 @@
 use mathlib.Core.Path.{_∙_}
 use borrow.Author.Needs.{needs}
 use Rattle.follow.specs.Follow.{Prepared}
-use Rattle.listing.proofs.PlacesTable.{prepared-kept}
+use Rattle.follow.proofs.PlacesTable.{prepared-kept}
 use Rattle.cursor.proofs.CursorLaws.{prepared-start, at-first}
 use Rattle.cursor.proofs.to_first.Statement.{statement}
 use Rattle.cursor.proofs.to_first.Tie as tie

@@ -10,10 +10,10 @@ use Rattle.lasso.specs.Extends.{Extends}
 use Rattle.model.specs.Model.{graphIn, stepsOf}
 use Rattle.table.proofs.Laws.{sameOutside-trans}
 use Rattle.follow.specs.Follow.{upTo}
+use Rattle.follow.proofs.ExtendLaws.{extends-path}
+use Rattle.follow.proofs.PlacesTable.{prepared-sizes}
 use Rattle.passed.specs.Passed.{PassedAt}
-use Rattle.followers.proofs.ExtendLaws.{extends-path}
 use Rattle.followers.proofs.TriedLaws.{Tried, tried-none, tried-more, tried-found, some-successor, tried-last}
-use Rattle.passed.proofs.PassedLaws.{prepared-sizes}
 use Rattle.followers.proofs.RowLaws.{StateRead, read-row, test-asks, as-before}
 use Rattle.followers.proofs.first_follower.Statement.{statement}
 use Rattle.followers.proofs.first_follower.Tie as tie

@@ -10,64 +10,70 @@ use Rattle.lasso.specs.Extends.{Extends}
 use Rattle.model.specs.Model.{graphIn}
 use Rattle.table.proofs.Laws.{sameOutside-trans}
 use Rattle.follow.specs.Follow.{upTo}
+use Rattle.follow.proofs.PlacesTable.{prepared-sizes, states-to}
 use Rattle.passed.specs.Passed.{PassedAt}
 use Rattle.followers.proofs.TriedLaws.{Tried, tried-none, tried-more, tried-found, tried-all}
-use Rattle.passed.proofs.PassedLaws.{prepared-sizes}
 use Rattle.followers.proofs.RowLaws.{StateRead, read-row, test-asks, as-before}
 use Rattle.followers.proofs.least_follower.Statement.{statement}
 use Rattle.followers.proofs.least_follower.Tie as tie
 
 abbrev Inv-loop : tie.InvT-loop
-Inv-loop file h work₀ length place bound s part d p₀ k₀ work p k =
+Inv-loop file h work₀ length place bound p₀ s part d k₀ work p k =
     Tried (graphIn file h) (h .states) (length .0) (upTo (graphIn file h) work₀ place) bound (graphIn file h .succs s) work₀ work k
     × PassedAt file h work (length .0) place p
 
 abbrev μ-loop : tie.MeasureT-loop
-μ-loop file h work₀ length place bound s part d p₀ k₀ work p k = d - k
+μ-loop file h work₀ length place bound p₀ s part d k₀ work p k = d - k
 
 -- the last state of the list, once it was read
 row : (c : tie.After-list-at Inv-loop μ-loop)
-    → let a = c .before .before .before .before .args in StateRead (a .file .now) (a .h) (a .work .now) (a .length .0) (a .place) (c .list-at .result)
+    → let a = c .before .before .before .before .before .before .args in StateRead (a .file .now) (a .h) (a .work .now) (a .length .0) (a .place) (c .list-at .result)
 row c =
-    let p = c .before .before .before .before .pre in
+    let p = c .before .before .before .before .before .before .pre in
     read-row (p .0) (p .1 .0) (p .1 .1 .0) (c .list-at .ensures)
 
 -- the number of its successors
 degree : (c : tie.After-degree Inv-loop μ-loop)
-    → c .degree .result ≡ length (graphIn (c .before .before .before .before .before .before .args .file .now) (c .before .before .before .before .before .before .args .h) .succs (c .before .before .list-at .result))
+    → c .degree .result ≡ length (graphIn (c .before .before .before .before .before .before .before .before .args .file .now) (c .before .before .before .before .before .before .before .before .args .h) .succs (c .before .before .list-at .result))
 degree c = c .degree .ensures ∙ ap length (c .before .row-part .ensures)
 
 -- the successor at k stands at place k of the row
 successor-at : (c : tie.After-successor Inv-loop μ-loop)
-    → c .successor .result ≡ getD (graphIn (c .before .before .before .before .before .before .before .before .before .args .file .now) (c .before .before .before .before .before .before .before .before .before .args .h) .succs (c .before .before .before .before .before .list-at .result)) (c .before .before .loop .k) 0
+    → c .successor .result ≡ getD (graphIn (c .before .before .before .before .before .before .before .before .before .before .before .args .file .now) (c .before .before .before .before .before .before .before .before .before .before .before .args .h) .succs (c .before .before .before .before .before .list-at .result)) (c .before .before .loop .k) 0
 successor-at c = c .successor .ensures ∙ ap (λ (ts : List ℕ). getD ts (c .before .before .loop .k) 0) (c .before .before .before .before .row-part .ensures)
 
 -- the successor at k is one of the row
 within : (c : tie.In-loop Inv-loop μ-loop)
-    → c .before .loop .k < length (graphIn (c .before .before .before .before .before .before .before .before .args .file .now) (c .before .before .before .before .before .before .before .before .args .h) .succs (c .before .before .before .before .list-at .result))
+    → c .before .loop .k < length (graphIn (c .before .before .before .before .before .before .before .before .before .before .args .file .now) (c .before .before .before .before .before .before .before .before .before .before .args .h) .succs (c .before .before .before .before .list-at .result))
 within c = omega (arith, c .loop-test .taken, degree (c .before .before))
 
 -- what the test of the successor answers
 answer : (c : tie.After-try-next Inv-loop μ-loop)
-    → let a = c .before .before .before .before .before .before .before .before .before .before .before .args in
+    → let a = c .before .before .before .before .before .before .before .before .before .before .before .before .before .args in
     Decides ((a .bound ≤ c .before .before .successor .result) × Extends (graphIn (a .file .now) (a .h)) (a .length .0) (upTo (graphIn (a .file .now) (a .h)) (a .work .now) (a .place) ++ c .before .before .successor .result ∷ [])) (c .try-next .result .yes)
 answer c =
     let at = c .before .before .before .before in
-    let a = at .before .before .before .before .before .before .before .args in
+    let a = at .before .before .before .before .before .before .before .before .before .args in
     let g = graphIn (a .file .now) (a .h) in
     as-before (λ xs. Decides ((a .bound ≤ c .before .before .successor .result) × Extends g (a .length .0) (g .start ∷ xs ++ c .before .before .successor .result ∷ [])) (c .try-next .result .yes)) (row (at .before .before .before)) (at .loop .inv .0 .same) (c .try-next .ensures .decides)
 
+retreat-requires : tie.Need-retreat-requires Inv-loop μ-loop
+retreat-requires c κs =
+    let s = c .before .before .before in
+    let p = s .pre in
+    (p .0, (omega (arith, p .1 .0), (states-to (s .args .place) (p .0) (omega (arith, p .1 .0)) (p .1 .1 .0), p .1 .1 .1)))
+
 list-at-requires : tie.Need-list-at-requires Inv-loop μ-loop
-list-at-requires c κs = let p = c .before .before .before .pre in omega (arith, prepared-sizes (p .0))
+list-at-requires c κs = let p = c .before .before .before .before .before .pre in omega (arith, prepared-sizes (p .0))
 
 row-part-requires : tie.Need-row-part-requires Inv-loop μ-loop
-row-part-requires c κs = (c .before .before .before .before .pre .0 .valid, row c .state)
+row-part-requires c κs = (c .before .before .before .before .before .before .pre .0 .valid, row c .state)
 
 degree-requires : tie.Need-degree-requires Inv-loop μ-loop
 degree-requires c κs = tt
 
 loop-holds : tie.Need-loop-holds Inv-loop μ-loop
-loop-holds c = (tried-none _ _ _ _ _ _ _, c .before .before .before .before .before .before .pre .1 .1 .1)
+loop-holds c = (tried-none _ _ _ _ _ _ _, c .before .before .before .before .retreat .ensures)
 
 successor-requires : tie.Need-successor-requires Inv-loop μ-loop
 successor-requires c κs = omega (arith, c .loop-test .taken, c .before .before .degree .ensures)
@@ -126,6 +132,7 @@ least-follower-spec =
     (tie.spec
     Inv-loop
     μ-loop
+    retreat-requires
     list-at-requires
     row-part-requires
     degree-requires

@@ -2,8 +2,8 @@
 use native.Mathlib.Omega.{arith}
 use borrow.Author.Needs.{needs}
 use Rattle.model.specs.Model.{graphIn}
-use Rattle.follow.specs.Follow.{MayFollow}
 use Rattle.table.proofs.Laws.{sameOutside-refl}
+use Rattle.follow.specs.Follow.{MayFollow}
 use Rattle.followers.proofs.RowLaws.{try-decides}
 use Rattle.followers.proofs.try_next.Statement.{statement}
 use Rattle.followers.proofs.try_next.Tie as tie

@@ -1,0 +1,2 @@
+-- The list as it grows and shrinks.
+pub mod Moves
