@@ -1,5 +1,5 @@
 /* Prints the rounds, a refused step, all shortest runs by each mark table, a search under a ceiling, the distances and four
- * grades of one model, and the shortest run of a rule that a property marks, through the C interface (docs/CAPI.md). */
+ * grades of one model, and the shortest run of a rule combined with a property, through the C interface (docs/CAPI.md). */
 #include <stdio.h>
 #include <string.h>
 

@@ -177,7 +177,7 @@ uint16_t fahkelo_distances(const uint8_t *file, size_t file_len,
                            uint16_t *out, size_t out_len);
 
 /*
- * Combines a rule with a property: a model file whose runs are the pairs of a run of the rule and a run of the property
+ * Combines a rule with a property: a model file whose paths are the pairs of a path of the rule and a path of the property
  * that agree on letters, and whose marks are the property's. The rule is a model file with one mark table or two; letters
  * has one byte for each of its states, a letter 0 to 15; the property is a model file with one mark table and a 16-bit mask
  * for each edge behind its marks, bit l for letter l (docs/FORMAT.md), at most FAHKELO_PROPERTY_MOST bytes.

@@ -27,11 +27,7 @@ fn all_different<A: Access>(list: &[u16], n: usize, work: &mut [u16]) -> bool {
 
 /// A list that breaks nowhere is an accepting path with that k.
 fn accepts<A: Access>(file: &[u8], h: Header, list: &[u16], k: usize, work: &mut [u16]) -> bool {
-    if list.len() < 2 {
-        return false;
-    }
-    let edges = list.len() - 1;
-    if edges <= k {
+    if list.len() <= k + 1 {
         return false;
     }
     get::<A>(list, 0) == h.start

@@ -1,3 +1,2 @@
--- The answers of the finder as kinds and figures, and what these tell.
+-- The answers of search and next as kinds and figures.
 pub mod Kinds
-pub mod NothingLost

@@ -11,9 +11,9 @@ use harness::say;
 use harness::second_of;
 use harness::third_of;
 use harness::written;
+use harness::wrong_work;
 use table::put;
 use trials::wrong_answer;
-use trials::wrong_work;
 
 // What a case says in numbers: the least and the greatest size of the file that is lent, the mark table that step, search
 // and next name, the ceiling, the best length that a step starts from, the search's allowance, the entries of the answer

@@ -1,20 +1,11 @@
 // How many tables were looked at after a call, and how many of them were not as they should be.
 use crate::calls::Answers;
+use harness::sum;
 use harness::wrong_of;
 
 pub struct Judged {
     pub looked: u64,
     pub wrong: u64,
-}
-
-// A sum, up to a bound that no run comes near.
-fn sum(count: u64, more: u64) -> u64 {
-    if count < 1000000000 {
-        if more < 1000000000 {
-            return count + more;
-        }
-    }
-    count
 }
 
 // With the tables of four calls more: one for the step, two each for the search, for next and for the distances.

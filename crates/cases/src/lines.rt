@@ -1,6 +1,6 @@
-// Runs a case that is written as a line: a name, a model, what is changed in its file, the tables and the list that are
-// lent. What a step, a search, next and the distances answer is printed, or counted where the line stands for many
-// calls.
+// Runs a case that is written as a line: a name, a model, what is changed in its file, the tables that are lent, and the
+// list, as items (crates/case_text/src/items.rt). What a step, a search, next and the distances answer is printed, or
+// counted where the line stands for many calls.
 ghost use Prim.Native.Nat.{_≤_, _<_};
 ghost use lib.ListN.{length};
 use crate::calls::CaseNumbers;
@@ -12,31 +12,19 @@ use crate::setting::is_setting;
 use crate::sweeps::changes;
 use crate::sweeps::lengths;
 use crate::sweeps::once;
-use harness::NumberRead;
-use harness::byte_at;
-use harness::digits;
-use harness::find;
-use harness::next_number;
+use case_text::NumberRead;
+use case_text::byte_at;
+use case_text::digits;
+use case_text::find;
+use case_text::make_entries;
+use case_text::next_number;
+use case_text::skip;
+use case_text::within;
+use harness::first;
 use harness::part;
 use harness::put16;
 use harness::say;
-use harness::skip;
 use harness::text;
-use table::put;
-
-// The longest list that a model can have.
-type List = [u16; 4097];
-
-// A number that is at most as large as there is room for; one that had to be cut shows in print.
-fn within(value: usize, most: usize) -> usize
-    ensures { λ r. ⌜ r ≤ most ⌝ }
-{
-    if value <= most {
-        return value;
-    }
-    text(b" cut");
-    most
-}
 
 // A case's size, allowance and entries, from four places of a line, and what it shares with others.
 fn figures_at(line: &[u8], from: usize, size: usize, shown: bool, shared: Setting) -> CaseNumbers
@@ -96,68 +84,11 @@ fn put_changes(pairs: &[u8], file: &mut File) {
     }
 }
 
-// Puts a state into the list.
-fn enter(list: &mut List, at: usize, state: usize) {
-    if at < 4097 {
-        put(list, at, state % 65536);
-    }
-}
-
-// Reads the list of states from a place of a line on; answers how many there are.
-fn put_states(line: &[u8], from: usize, list: &mut List) -> usize
-    requires { ⌜ from ≤ length (now line) ⌝ }
-{
-    let mut n = 0;
-    let mut p = skip(line, from);
-    while p < line.len() {
-        let state = digits(line, p);
-        if state.next <= p {
-            return n;
-        }
-        enter(list, n, state.value);
-        n += 1;
-        p = skip(line, state.next);
-    }
-    n
-}
-
-// The first states of the ring of 4,096, round and round.
-fn put_ring(count: usize, list: &mut List)
-    requires { ⌜ count < 100000 ⌝ }
-{
-    let mut i = 0;
-    while i < count {
-        enter(list, i, i % 4096);
-        i += 1;
-    }
-}
-
-// The list that the end of a line gives: states, or `ring` and how many states of the ring. Answers its entries.
-fn put_list(line: &[u8], slash: usize, list: &mut List) -> usize
-    requires { ⌜ slash ≤ length (now line) ⌝ }
-{
-    if byte_behind(line, slash, 1) == b'r' {
-        let count = next_number(line, slash);
-        put_ring(count.value, list);
-        return within(count.value, 4097);
-    }
-    within(put_states(line, slash, list), 4097)
-}
-
-// The first entries of a list.
-fn first(list: &[u16], count: usize) -> &[u16] {
-    if count <= list.len() {
-        &list[..count]
-    } else {
-        list
-    }
-}
-
 // Runs a case on the file and with the list that it lends: once, at every length, or with every byte changed.
 fn run_lent(
     mark: u8,
     file: &mut File,
-    list: &List,
+    list: &[u16; 4097],
     count: usize,
     f: CaseNumbers,
     before: Judged,
@@ -178,11 +109,12 @@ fn run_parts(line: &[u8], colon: usize, end: usize, f: CaseNumbers, before: Judg
     requires { ⌜ (f .size ≤ 25800) × (f .room ≤ 4097) × (f .entries ≤ 24576) ⌝ }
 {
     let mut file = [0u8; 25800];
+    let mut bytes = [0u8; 8194];
     let mut list = [0u16; 4097];
     let slash = find(line, end, b'/');
     put_model(byte_behind(line, colon, 2), &mut file);
     put_changes(part(line, end, slash), &mut file);
-    let count = put_list(line, slash, &mut list);
+    let count = make_entries(part(line, slash, line.len()), &mut bytes, &mut list);
     run_lent(
         byte_behind(line, colon, 1),
         &mut file,

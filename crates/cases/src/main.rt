@@ -8,7 +8,7 @@ mod setting;
 mod sweeps;
 
 use calls::spoilt;
-use harness::find;
+use case_text::find;
 use harness::part;
 use harness::say;
 use judged::Judged;

@@ -2,11 +2,11 @@
 // the record that a step starts from.
 ghost use Prim.Native.Nat.{_≤_};
 ghost use lib.ListN.{length};
+use case_text::byte_at;
+use case_text::digits;
+use case_text::next_number;
+use case_text::skip;
 use harness::NO_LENGTH;
-use harness::byte_at;
-use harness::digits;
-use harness::next_number;
-use harness::skip;
 
 pub struct Setting {
     pub mark_table: u16,

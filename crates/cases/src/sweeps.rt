@@ -7,7 +7,7 @@ use crate::calls::try_all;
 use crate::judged::Judged;
 use crate::judged::and;
 use crate::model::File;
-use harness::byte_at;
+use case_text::byte_at;
 use harness::part;
 use harness::put_byte;
 use harness::refusal_of;

@@ -1,6 +1,2 @@
--- The laws of a combination.
-pub mod LetterLaws
+-- The laws of what a combination answers and writes.
 pub mod ReasonLaws
-pub mod ClaimLaws
-pub mod PropertyLaws
-pub mod ImpliedLaws

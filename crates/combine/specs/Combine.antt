@@ -1,56 +1,11 @@
--- The combination of a rule file with a property file: its reasons to refuse, its answer, and the output afterwards.
+-- What a combination promises: its answer and its output, which are defined in `combination`, and what each answer of the
+-- code says.
 use Prim.Native.Nat.{ℕ}
-use mathlib.Core.Bool.{Bool, _||_, not}
-use mathlib.Core.List.{List, [], _∷_, _++_}
-use mathlib.Core.Option.{Option, some}
-use lib.ListN.{length}
-use lib.Dec.{eqb, ltb}
-use Rattle.lasso.specs.Lists.{anyb}
-use Rattle.lasso.specs.Graph.{Graph}
-use Rattle.format.specs.Layout.{states}
-use Rattle.format.specs.Rules.{Reason, firstBroken, rules}
-use Rattle.writer.specs.File.{edgeTotal, fileOf}
-use Rattle.property.specs.Property.{badProperty}
-use Rattle.product_file.specs.Combined.{combined}
-use Rattle.outcomes.specs.Outcome.{Outcome, refused, answered, outcome, LosesNothing}
-use Rattle.outcomes.specs.Tables.{unlessRefused, written}
+use Rattle.outcomes.specs.Outcome.{Outcome, refused, answered, LosesNothing}
+pub use Rattle.combine_letters.specs.Letters.{badLetters}
+pub use Rattle.combination.specs.Combination.{tooLarge, combinedFile, combineReasons, combineBroken, combineOutcome, combineOutput}
 use Rattle.combine.specs.declared.CombineAnswer.{CombineAnswer}
 use Rattle.combine.specs.declared.CombineAnswer.the-variants.{Refused, Written}
-
--- 16. the letter table has not one entry per state or holds a letter above 15
-abbrev pub badLetters : (n : ℕ) (letters : List ℕ) → Bool
-badLetters n letters = not (eqb (length letters) n) || anyb (ltb 15) letters
-
--- 18. the result would have more than 4,096 states or 8,192 edges
-abbrev pub tooLarge : Graph → Bool
-tooLarge g = ltb 4096 (g .size) || ltb 8192 (edgeTotal g)
-
--- the file that a combination writes
-abbrev pub combinedFile : (f letters p : List ℕ) → List ℕ
-combinedFile f letters p = fileOf (combined f letters p)
-
--- the reasons to refuse a combination, in checking order: the rule's 1 to 11, 16, 17, 18, and 15 if the output, which has
--- room for so many bytes, has fewer than the result
-abbrev pub combineReasons : (f letters p : List ℕ) (room : ℕ) → List Reason
-combineReasons f letters p room =
-    rules f ++
-    record { number = 16; holds = badLetters (states f) letters } ∷
-    record { number = 17; holds = badProperty p } ∷
-    record { number = 18; holds = tooLarge (combined f letters p) } ∷
-    record { number = 15; holds = ltb room (length (combinedFile f letters p)) } ∷ []
-
--- the number of the first reason that holds, if one does
-abbrev pub combineBroken : (f letters p : List ℕ) (room : ℕ) → Option ℕ
-combineBroken f letters p room = firstBroken (combineReasons f letters p room)
-
--- the answer: refused with the first reason that holds, or the number of bytes written
-abbrev pub combineOutcome : (f letters p : List ℕ) (room : ℕ) → Outcome ℕ
-combineOutcome f letters p room = outcome (combineBroken f letters p room) (length (combinedFile f letters p))
-
--- the output afterwards: untouched if the call is refused, else the file from byte 0 on; later bytes do not change
-abbrev pub combineOutput : (f letters p output : List ℕ) → List ℕ
-combineOutput f letters p output =
-    written (unlessRefused (combineBroken f letters p (length output)) (some (combinedFile f letters p))) output
 
 -- what each answer of the code says: refused with its number, or so many bytes written
 abbrev pub combineOutcomeOf : CombineAnswer → Outcome ℕ

@@ -1,4 +1,2 @@
--- What a combination answers and writes, when it is refused, and what the file is that it writes.
+-- What each answer of a combination says.
 pub mod Combine
-pub mod Claim
-pub mod Examples

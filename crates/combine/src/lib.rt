@@ -5,11 +5,13 @@ ghost use lib.ListN.{length};
 ghost use Rattle.format.specs.Layout.{states};
 ghost use Rattle.model.specs.Values.{Valid};
 ghost use Rattle.property.specs.Property.{badProperty, ValidProperty};
-ghost use Rattle.combine.specs.Combine.{badLetters, combineOutcome, combineOutput, combineOutcomeOf};
+ghost use Rattle.combine_letters.specs.Letters.{badLetters};
+ghost use Rattle.combine.specs.Combine.{combineOutcome, combineOutput, combineOutcomeOf};
+use checking::check;
+use combine_letters::letters_broken;
 use format::total_of;
 use model::Checked;
 use model::Header;
-use model::check;
 use product_file::count_edges;
 use product_file::write_product;
 use property::check_property;
@@ -41,23 +43,6 @@ pub fn combine(rule: &[u8], letters: &[u8], property: &[u8], output: &mut [u8]) 
             with_property(rule, h, letters, property, output)
         }
     }
-}
-
-// Reason 16: there is not one letter per state, or a letter is above 15.
-fn letters_broken(letters: &[u8], n: usize) -> bool
-    ensures { λ r. ⌜ r ≡ badLetters n (now (letters .entry)) ⌝ }
-{
-    if letters.len() != n {
-        return true;
-    }
-    let mut s = 0;
-    while s < n {
-        if 15 < letters[s] {
-            return true;
-        }
-        s += 1;
-    }
-    false
 }
 
 // From reason 17 on: an accepted rule with its letters.

@@ -1,18 +1,19 @@
 // Runs the cases that it reads: prints what a combination answers, what it writes and what a search of that finds, and how
 // many answers and outputs are not as they should be.
 mod calls;
-mod items;
 
 ghost use Prim.Native.Nat.{_≤_};
 ghost use lib.ListN.{length};
 use calls::Seen;
-use harness::byte_at;
-use harness::find;
-use harness::next_number;
+use case_text::byte_at;
+use case_text::end_behind;
+use case_text::find;
+use case_text::make;
+use case_text::next_number;
 use harness::part;
 use harness::say;
+use harness::sum;
 use harness::text;
-use items::make;
 use libc::STDIN_FILENO;
 
 // How many cases were run, how many answers are not the expected ones, and how many outputs and tables are wrong.
@@ -30,16 +31,6 @@ struct Ends {
     property: usize,
 }
 
-// A sum, up to a bound that no run comes near.
-fn sum(count: u64, more: u64) -> u64 {
-    if count < 1000000000 {
-        if more < 1000000000 {
-            return count + more;
-        }
-    }
-    count
-}
-
 // With one case more.
 fn and(before: Judged, seen: Seen) -> Judged {
     Judged {
@@ -47,17 +38,6 @@ fn and(before: Judged, seen: Seen) -> Judged {
         other: sum(before.other, seen.other),
         wrong: sum(before.wrong, seen.wrong),
     }
-}
-
-// The end of the part of a line that begins behind a place.
-fn end_behind(line: &[u8], place: usize) -> usize
-    requires { ⌜ place ≤ length (now line) ⌝ }
-    ensures { λ r. ⌜ (place ≤ r) × (r ≤ length (now (line .entry))) ⌝ }
-{
-    if place < line.len() {
-        return find(line, place + 1, b'/');
-    }
-    line.len()
 }
 
 // Where the parts of a line end.

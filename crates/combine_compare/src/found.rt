@@ -27,7 +27,7 @@ fn begins_with(table: &[u16], list: u64, count: usize) -> bool {
 // What a search of a model must answer, with an allowance and an answer table that are large enough.
 fn right(m: Model) -> Seen {
     let mut roll = [0u64; 64];
-    let t = exhaustive::explore(m, &mut roll);
+    let t = exhaustive::explore(m, 4096, &mut roll);
     exhaustive::of_search(t, &roll, 65535, 16, false)
 }
 

@@ -39,7 +39,7 @@ fn compare_ceiling(
     tally: &mut [u64],
 ) {
     let mut roll = [0u64; ROLL];
-    let within = exhaustive::explore_within(m, ceiling as usize, &mut roll);
+    let within = exhaustive::explore(m, ceiling as usize, &mut roll);
     add(tally, CEILINGS, 1);
     checks::check_steps(t, within, ceiling, file, mark_table, tally);
     checks::check_searches(t, within, &roll, ceiling, file, mark_table, tally);
@@ -98,7 +98,7 @@ fn compare_placed(p: Placed, states: usize, first: bool, tally: &mut [u64])
     let mut file = [0u8; 170];
     let mut roll = [0u64; ROLL];
     let length = exhaustive::write_placed(&mut file, p, states);
-    let t = exhaustive::explore(m, &mut roll);
+    let t = exhaustive::explore(m, 4096, &mut roll);
     counted(p, states, first, t, tally);
     compare_file(m, states, t, &roll, &file[..length], p.named, tally);
 }

@@ -18,33 +18,33 @@ pub fn complete(
     file: &[u8],
     h: Header,
     work: &mut [u16],
-    length: Transitions,
+    transitions: Transitions,
     from: usize,
     passed: Passed,
 )
-    requires { ⌜ Prepared (now file) h (now work) (length .0) ⌝ }
-    requires { ⌜ from ≤ length .0 ⌝ }
-    requires { ⌜ Extends (graphIn (now file) h) (length .0) (upTo (graphIn (now file) h) (now work) from) ⌝ }
-    requires { ⌜ PassedAt (now file) h (now work) (length .0) from passed ⌝ }
-    ensures { λ _. ⌜ Completed (graphIn (now (file .entry)) h) (length .0) from
+    requires { ⌜ Prepared (now file) h (now work) (transitions .0) ⌝ }
+    requires { ⌜ from ≤ transitions .0 ⌝ }
+    requires { ⌜ Extends (graphIn (now file) h) (transitions .0) (upTo (graphIn (now file) h) (now work) from) ⌝ }
+    requires { ⌜ PassedAt (now file) h (now work) (transitions .0) from passed ⌝ }
+    ensures { λ _. ⌜ Completed (graphIn (now (file .entry)) h) (transitions .0) from
         (now (work .entry)) (now (work .exit)) ⌝ }
 {
-    let last = length.number();
+    let last = transitions.number();
     let mut place = from;
     let mut p = passed;
     while place < last {
-        let c = first_follower(file, h, work, length, place, p);
-        p = append(file, h, work, length, place, c.state, c.passed);
+        let c = first_follower(file, h, work, transitions, place, p);
+        p = append(file, h, work, transitions, place, c.state, c.passed);
         place += 1;
     }
 }
 
 // Puts the first of the shortest accepting paths into region 0.
-pub fn first(file: &[u8], h: Header, work: &mut [u16], length: Transitions)
-    requires { ⌜ Prepared (now file) h (now work) (length .0) ⌝ }
-    ensures { λ _. ⌜ HoldsFirst (graphIn (now (file .entry)) h) (length .0) (now (work .exit)) ⌝ }
+pub fn first(file: &[u8], h: Header, work: &mut [u16], transitions: Transitions)
+    requires { ⌜ Prepared (now file) h (now work) (transitions .0) ⌝ }
+    ensures { λ _. ⌜ HoldsFirst (graphIn (now (file .entry)) h) (transitions .0) (now (work .exit)) ⌝ }
     ensures kept { λ _. ⌜ Kept (h .states) (now (work .entry)) (now (work .exit)) ⌝ }
 {
-    let p = retreat(file, h, work, length, 0, unknown(0));
-    complete(file, h, work, length, 0, p);
+    let p = retreat(file, h, work, transitions, 0, unknown(0));
+    complete(file, h, work, transitions, 0, p);
 }

@@ -28,7 +28,7 @@ use Rattle.next.specs.Next.{Followed, followed, dueReasons, nextReasons}
 use Rattle.paths.specs.Breaks.{firstBreak}
 use Rattle.paths.proofs.BreakLaws.{breaks-shown}
 use Rattle.grader.specs.Grade.{Said, accepting, shortest, verdict, Grade, gradeOf, gradeOutcome}
-use Rattle.grader.proofs.VerdictLaws.{verdicts-shown}
+use Rattle.grade_verdicts.proofs.ShownLaws.{verdicts-shown}
 use Rattle.conditions.specs.Graded.{IsGraded, GradesSay, GradedShortest, FoundIsShortest}
 use Rattle.conditions.proofs.FirstLaws.{noneHolds-firstBroken, clear-none, none-parts, answered-none}
 

@@ -18,7 +18,7 @@ use Rattle.search.specs.Search.{Searched, searchOutcome, searchAnswer}
 use Rattle.next.specs.Next.{Followed, nextOutcome, nextAnswer}
 use Rattle.paths.specs.Breaks.{AllBelow, BreaksFirst}
 use Rattle.grader.specs.Grade.{Said, accepting, shortest, gradeOutcome}
-use Rattle.grader.specs.Shown.{AcceptingAt}
+use Rattle.grade_verdicts.specs.Shown.{AcceptingAt}
 use Rattle.conditions.specs.Reasons.{NoneHolds}
 
 -- the answer is this verdict with this place

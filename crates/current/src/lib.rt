@@ -23,11 +23,11 @@ pub fn list_at(h: Header, work: &[u16], place: usize) -> usize
 }
 
 // The place where the loop starts: the first place that holds the last state.
-fn loop_start(h: Header, work: &[u16], length: Transitions) -> usize
-    requires { ⌜ length .0 ≤ lib.ListN.length (now work) ⌝ }
-    ensures { λ k. ⌜ (k ≡ loopStart (listIn h (now (work .entry)) (length .0))) × (k ≤ length .0) ⌝ }
+fn loop_start(h: Header, work: &[u16], transitions: Transitions) -> usize
+    requires { ⌜ transitions .0 ≤ length (now work) ⌝ }
+    ensures { λ k. ⌜ (k ≡ loopStart (listIn h (now (work .entry)) (transitions .0))) × (k ≤ transitions .0) ⌝ }
 {
-    let end = length.number();
+    let end = transitions.number();
     let last = list_at(h, work, end);
     let mut k = 0;
     while list_at(h, work, k) != last {
@@ -52,16 +52,16 @@ fn write_part(h: Header, work: &[u16], from: usize, entries: Entries, part: &mut
 }
 
 // Writes the whole list, the stem first, then the loop from its start on; answers the place where the loop starts.
-pub fn write_list(h: Header, work: &[u16], length: Transitions, answer: &mut [u16]) -> usize
-    requires { ⌜ length .0 ≤ lib.ListN.length (now work) ⌝ }
-    requires { ⌜ length .0 < lib.ListN.length (now answer) ⌝ }
+pub fn write_list(h: Header, work: &[u16], transitions: Transitions, answer: &mut [u16]) -> usize
+    requires { ⌜ transitions .0 ≤ length (now work) ⌝ }
+    requires { ⌜ transitions .0 < length (now answer) ⌝ }
     requires { ⌜ h .start < 65536 ⌝ }
-    ensures start { λ k. ⌜ (k ≡ loopStart (listIn h (now (work .entry)) (length .0))) × (k ≤ length .0) ⌝ }
+    ensures start { λ k. ⌜ (k ≡ loopStart (listIn h (now (work .entry)) (transitions .0))) × (k ≤ transitions .0) ⌝ }
     ensures list { λ k. ⌜ now (answer .exit)
-        ≡ listIn h (now (work .entry)) (length .0) ++ drop (length .0 + 1) (now (answer .entry)) ⌝ }
+        ≡ listIn h (now (work .entry)) (transitions .0) ++ drop (transitions .0 + 1) (now (answer .entry)) ⌝ }
 {
-    let k = loop_start(h, work, length);
-    let entries = length.entries();
+    let k = loop_start(h, work, transitions);
+    let entries = transitions.entries();
     write_part(h, work, 0, Entries(k), answer);
     let rest = entries.0 - k;
     write_part(h, work, k, Entries(rest), &mut answer[k..]);

@@ -10,7 +10,7 @@ use lib.Seq.{take-all}
 use Rattle.lasso.proofs.Tests.{lt-or-ge}
 use Rattle.format.specs.Rules.{rules, firstBroken}
 use Rattle.reading.specs.Reading.{FirstBytes}
-use Rattle.reading.proofs.CutLaws.{cut-refused}
+use Rattle.input_sizes.proofs.CutLaws.{cut-refused}
 use Rattle.sheet_text.specs.SheetText.{textOf}
 use Rattle.desk.specs.Desk.{inputBytes, inputText}
 use Rattle.desk.specs.Sizes.{FirstBytesDecide}

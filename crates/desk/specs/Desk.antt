@@ -3,7 +3,7 @@ use Prim.Native.Nat.{ℕ}
 use mathlib.Core.Bool.{Bool}
 use mathlib.Core.List.{List}
 use mathlib.Core.Option.{Option}
-use Rattle.reading.specs.Sizes.{fileBytes}
+use Rattle.input_sizes.specs.Sizes.{fileBytes}
 use Rattle.reading.specs.Reading.{inputOf}
 use Rattle.sheet_text.specs.SheetText.{sheetRefusal, sheetText}
 

@@ -6,7 +6,7 @@ ghost use Rattle.text.specs.Writing.{Wrote};
 ghost use Rattle.sheet_text.specs.SheetText.{sheetRoom};
 ghost use Rattle.desk.specs.Desk.{answerEntries, workEntries, inputText, deskText};
 use reading::input_bytes;
-use reading::read_input;
+use reading::read_model;
 use sheet::sheet;
 
 // The bytes of the buffer for an input: one more than the longest file has, so that no longer input passes for it.
@@ -39,7 +39,7 @@ pub fn desk_sheet(read: &[u8], failed: bool, text: &mut [u8; TEXT_ROOM]) -> usiz
 // Reads an input from a descriptor, prints its sheet to another, and answers whether all of the sheet was printed.
 pub fn print_sheet(from: i32, to: i32) -> bool {
     let mut input = [0u8; INPUT_ROOM];
-    let reading = read_input(from, &mut input, INPUT_ROOM);
+    let reading = read_model(from, &mut input);
     let count = reading.count;
     let failed = reading.failed;
     let mut text = [0u8; TEXT_ROOM];

@@ -18,14 +18,14 @@ use Rattle.model.proofs.Laws.{accepted-facts}
 use Rattle.property.specs.Property.{badProperty}
 use Rattle.property.proofs.PropertyLaws.{bad-kept, property-facts, property-length}
 use Rattle.outcomes.specs.Outcome.{Outcome, refused}
-use Rattle.reading.specs.Sizes.{fileBytes}
+use Rattle.input_sizes.specs.Sizes.{fileBytes, lettersBytes, propertyBytes}
 use Rattle.reading.specs.Reading.{FirstBytes}
-use Rattle.reading.proofs.CutLaws.{cut-refused}
+use Rattle.input_sizes.proofs.CutLaws.{cut-refused}
 use Rattle.combine.specs.Combine.{badLetters, combinedFile, combineOutcome}
 use Rattle.combine.proofs.ReasonLaws.{CombineIs, refused-rule, refused-16, refused-17}
 use Rattle.combine.specs.declared.CombineAnswer.the-variants.{Refused}
 use Rattle.desk_combining.specs.Combining.{outputBytes, combining, fileTold, lineTold, outputText, errorText}
-use Rattle.desk_combining.specs.Sizes.{lettersBytes, propertyBytes, FirstBytesOfEachDecide}
+use Rattle.desk_combining.specs.Sizes.{FirstBytesOfEachDecide}
 
 -- the same is told of three inputs and of three others
 abbrev SameTold : (f letters p f' letters' p' : List ℕ) → Type 0

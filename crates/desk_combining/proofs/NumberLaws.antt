@@ -17,9 +17,9 @@ use Rattle.outcomes.specs.Outcome.{Outcome, refused, answered, outcome}
 use Rattle.writer.specs.File.{edgeTotal, fileOf}
 use Rattle.writer.proofs.FileLaws.{file-length-is}
 use Rattle.property.specs.Property.{badProperty}
-use Rattle.product_file.specs.Combined.{combined}
+use Rattle.combined.specs.Combined.{combined}
 use Rattle.combine.specs.Combine.{badLetters, tooLarge, combinedFile, combineReasons, combineBroken, combineOutcome}
-use Rattle.combine.proofs.ReasonLaws.{firstBehind}
+use Rattle.combination.proofs.ReasonLaws.{firstBehind}
 use Rattle.desk_combining.specs.Combining.{outputBytes, NumberFits}
 use Rattle.desk_combining.specs.Sizes.{RefusedNumbers}
 

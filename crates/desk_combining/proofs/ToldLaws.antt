@@ -11,7 +11,7 @@ use Rattle.text.proofs.WroteLaws.{wrote-none, wrote-as}
 use Rattle.outcomes.specs.Outcome.{Outcome, outcome}
 use Rattle.outcomes.specs.Tables.{unlessRefused, written}
 use Rattle.combine.specs.Combine.{combinedFile, combineBroken, combineOutcome, combineOutput}
-use Rattle.combine.proofs.ClaimLaws.{combination-holds}
+use Rattle.combination.proofs.ClaimLaws.{combination-holds}
 use Rattle.desk_combining.specs.Combining.{outputBytes, fileTold, bytesTold, lineTold, outputText, errorText}
 
 module _ (f letters p out : List ℕ) (long : length out ≡ outputBytes) where

@@ -9,16 +9,8 @@ use Rattle.format.specs.Layout.{states}
 use Rattle.format.specs.Rules.{Accepted}
 use Rattle.outcomes.specs.Outcome.{refused}
 use Rattle.combine.specs.Combine.{badLetters}
-use Rattle.reading.specs.Sizes.{fileBytes}
+use Rattle.input_sizes.specs.Sizes.{fileBytes, lettersBytes, propertyBytes}
 use Rattle.desk_combining.specs.Combining.{combining, outputText, errorText}
-
--- one more than the longest letter table has
-abbrev pub lettersBytes : ℕ
-lettersBytes = 4097
-
--- one more than the longest property file has
-abbrev pub propertyBytes : ℕ
-propertyBytes = 41499
 
 -- what is written for three inputs is what is written for the first 25,627 bytes of the rule, the first 4,097 letters and
 -- the first 41,499 bytes of the property

@@ -11,7 +11,9 @@ ghost use Rattle.desk_combining.specs.Combining.{bytesTold, lineTold, ou
 use combine::CombineAnswer;
 use combine::combine;
 use reading::input_bytes;
-use reading::read_input;
+use reading::read_letters;
+use reading::read_model;
+use reading::read_property;
 use sheet_head::write_refusal;
 
 // The bytes of the buffers for a rule, a letter table and a property: one more than the longest of each has, so that no
@@ -130,13 +132,13 @@ pub fn print_combination(
     errors_to: i32,
 ) -> bool {
     let mut rule = [0u8; RULE_ROOM];
-    let rule_read = read_input(rule_from, &mut rule, RULE_ROOM);
+    let rule_read = read_model(rule_from, &mut rule);
     let rule_count = rule_read.count;
     let mut letters = [0u8; LETTERS_ROOM];
-    let letters_read = read_input(letters_from, &mut letters, LETTERS_ROOM);
+    let letters_read = read_letters(letters_from, &mut letters);
     let letters_count = letters_read.count;
     let mut property = [0u8; PROPERTY_ROOM];
-    let property_read = read_input(property_from, &mut property, PROPERTY_ROOM);
+    let property_read = read_property(property_from, &mut property);
     let property_count = property_read.count;
     let failed = Failures {
         rule: rule_read.failed,

@@ -29,20 +29,15 @@ pub fn holds(set: u64, at: usize) -> bool {
     set & bit(at) != 0
 }
 
-// A count of bits as a count of anything.
-fn wide(count: u32) -> usize {
-    count as usize
-}
-
 // How many numbers a set holds.
 pub fn size(set: u64) -> usize
     ensures { λ r. ⌜ r ≤ 64 ⌝ }
 {
-    let count = wide(u64::count_ones(set));
+    let count = u64::count_ones(set);
     if 64 < count {
         return 64;
     }
-    count
+    count as usize
 }
 
 // The number at a place of a set in ascending order, or 64 if there are not so many.
@@ -95,17 +90,4 @@ pub fn with_digit(list: u64, place: usize, value: usize) -> u64 {
 // The list with one entry more at its end.
 pub fn and(list: u64, value: usize) -> u64 {
     (list << 4) ^ digit_at(value, 0)
-}
-
-// The list without its last entry.
-pub fn front(list: u64) -> u64 {
-    list >> 4
-}
-
-// The last so many entries of a list.
-pub fn last(list: u64, count: usize) -> u64 {
-    if count < 16 {
-        return lower(list, 4 * count);
-    }
-    list
 }

@@ -2,7 +2,6 @@
 // accepting paths up to the ceiling.
 ghost use Prim.Native.Nat.{_≤_};
 use crate::digits::digit;
-use crate::digits::front;
 use crate::digits::member;
 use crate::digits::size;
 use crate::search::Truth;
@@ -89,7 +88,7 @@ pub fn of_step(t: Truth, done: u16, best: u64, short: bool) -> Seen {
 
 // Where the loop of a list with so many transitions starts: after the states that are not on it.
 fn loop_start(list: u64, least: usize) -> u64 {
-    let on_loop = size(loop_states(front(list), least, digit(list, 0)));
+    let on_loop = size(loop_states(list >> 4, least, digit(list, 0)));
     if on_loop <= least {
         return (least - on_loop) as u64;
     }
@@ -156,12 +155,19 @@ fn following(t: Truth, roll: &[u64], list: u64, entries: usize) -> usize {
     place_after(roll, t.lists, list)
 }
 
-// The answer of next with room for so many entries, given the place of the following list, 0 if the earlier list is no
-// shortest accepting path, and whether the working table is too short.
-fn next_at(t: Truth, roll: &[u64], place: usize, space: usize, short: bool) -> Seen {
+// The answer of next after a list with so many entries, with room for so many, the working table being too short or not.
+pub fn of_next(
+    t: Truth,
+    roll: &[u64],
+    list: u64,
+    entries: usize,
+    space: usize,
+    short: bool,
+) -> Seen {
     if short {
         return plain(NEXT_REFUSED, 12, 0);
     }
+    let place = following(t, roll, list, entries);
     if place == 0 {
         return plain(NEXT_REFUSED, 13, 0);
     }
@@ -172,16 +178,4 @@ fn next_at(t: Truth, roll: &[u64], place: usize, space: usize, short: bool) -> S
         return plain(NEXT_REFUSED, 15, 0);
     }
     found(NEXT_FOUND, t.least, list_at(roll, place), 0)
-}
-
-// The answer of next after a list with so many entries.
-pub fn of_next(
-    t: Truth,
-    roll: &[u64],
-    list: u64,
-    entries: usize,
-    space: usize,
-    short: bool,
-) -> Seen {
-    next_at(t, roll, following(t, roll, list, entries), space, short)
 }

@@ -36,6 +36,5 @@ pub use placed::turns;
 pub use placed::write_placed;
 pub use search::Truth;
 pub use search::explore;
-pub use search::explore_within;
 pub use sweeps::distances;
 pub use sweeps::of_distances;

@@ -1,8 +1,7 @@
 // The lists that next is lent: right ones, wrong ones near a right one, and pseudo-random ones.
 ghost use Prim.Native.Nat.{_<_, _≤_};
 use crate::digits::and;
-use crate::digits::front;
-use crate::digits::last;
+use crate::digits::lower;
 use crate::digits::with_digit;
 use crate::models::Model;
 use crate::models::drawn;
@@ -13,21 +12,14 @@ pub struct Earlier {
     pub entries: usize,
 }
 
-// The entries that are tried in the place of a right one: 0 to 7, of which some are states, and 65,535.
-fn value_for(turn: usize) -> usize {
-    if turn % 9 == 8 {
-        return 15;
-    }
-    turn % 9
-}
-
 // A right list or a wrong one near it, by turn: for nine turns each, with one entry changed, the last first, and with one
-// entry more; for five turns, the list itself; then without its last entry.
+// entry more; for five turns, the list itself; then without its last entry. The entries that are tried are 0 to 7, of
+// which some are states, and 65,535, whose digit is 15.
 pub fn near(list: u64, entries: usize, turn: usize) -> Earlier
     requires { ⌜ entries ≤ 15 ⌝ }
     ensures { λ r. ⌜ r .entries ≤ 16 ⌝ }
 {
-    let value = value_for(turn);
+    let value = if turn % 9 == 8 { 15 } else { turn % 9 };
     if turn / 9 < entries {
         return Earlier {
             list: with_digit(list, turn / 9, value),
@@ -53,7 +45,7 @@ pub fn near(list: u64, entries: usize, turn: usize) -> Earlier
         };
     }
     Earlier {
-        list: front(list),
+        list: list >> 4,
         entries: entries - 1,
     }
 }
@@ -81,7 +73,7 @@ pub fn random_list(x: u64, first: usize, turn: usize) -> Earlier
     ensures { λ r. ⌜ r .entries ≤ 16 ⌝ }
 {
     let entries = ((x >> 60) % 9) as usize;
-    let list = last(x & 0x7777777777777777, entries);
+    let list = lower(x & 0x7777777777777777, 4 * entries);
     if entries == 0 {
         return Earlier {
             list: 0,

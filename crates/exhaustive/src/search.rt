@@ -4,7 +4,6 @@
 use crate::digits::and;
 use crate::digits::bit;
 use crate::digits::digit;
-use crate::digits::front;
 use crate::digits::holds;
 use crate::digits::size;
 use crate::digits::with_digit;
@@ -91,22 +90,6 @@ fn lowered(lengths: u64, marked: u64, count: usize) -> u64 {
     result
 }
 
-// How many lists are kept before an accepting path of a length is: none if it is shorter than those kept.
-fn kept_before(t: Truth, count: usize) -> usize {
-    if t.least == 0 {
-        return 0;
-    }
-    if count < t.least {
-        return 0;
-    }
-    t.lists
-}
-
-// Whether an accepting path of a length is longer than those kept.
-fn is_longer(t: Truth, count: usize) -> bool {
-    t.least != 0 && t.least < count
-}
-
 // Stores a list at a place of the roll, where there is room.
 fn put_at(roll: &mut [u64], place: usize, list: u64) {
     if place < roll.len() {
@@ -125,16 +108,17 @@ fn one_more(count: usize) -> usize {
 // Keeps an accepting path: alone if it is shorter than those kept, behind them if it is as long.
 fn kept(t: Truth, list: u64, count: usize, lengths: u64, roll: &mut [u64]) -> Truth {
     let candidates = t.candidates;
-    if is_longer(t, count) {
+    let least = t.least;
+    if least != 0 && least < count {
         return Truth {
             states: t.states,
-            least: t.least,
+            least: least,
             lists: t.lists,
             lengths: lengths,
             candidates: candidates,
         };
     }
-    let place = kept_before(t, count);
+    let place = if least == count { t.lists } else { 0 };
     put_at(roll, place, list);
     Truth {
         states: t.states,
@@ -181,7 +165,7 @@ fn left(trail: Trail) -> Trail {
         return trail;
     }
     Trail {
-        list: front(trail.list),
+        list: trail.list >> 4,
         count: count - 1,
         passed: trail.passed ^ bit(state),
         next: state + 1,
@@ -238,10 +222,11 @@ fn start(m: Model) -> Trail {
     }
 }
 
-// Follows all paths up to a ceiling of a model whose steps are all edges, in dictionary order among those of one
-// length; the shortest accepting ones go to the roll. It has far more turns than it needs; should they not be enough, it
-// answers more lists than the roll has room for.
-fn follow_all(m: Model, ceiling: usize, roll: &mut [u64]) -> Truth {
+// Follows all paths of a model up to a ceiling, along its edges and its implied steps, in dictionary order among those of
+// one length; the shortest accepting ones go to the roll. It has far more turns than it needs; should they not be enough,
+// it answers more lists than the roll has room for.
+pub fn explore(model: Model, ceiling: usize, roll: &mut [u64]) -> Truth {
+    let m = explicit(model);
     let mut trail = start(m);
     let mut t = nothing(m);
     let mut turns: usize = 0;
@@ -260,15 +245,4 @@ fn follow_all(m: Model, ceiling: usize, roll: &mut [u64]) -> Truth {
         lengths: 0,
         candidates: 0,
     }
-}
-
-// Follows all paths of a model up to a ceiling, along its edges and its implied steps; the shortest accepting ones go
-// to the roll.
-pub fn explore_within(m: Model, ceiling: usize, roll: &mut [u64]) -> Truth {
-    follow_all(explicit(m), ceiling, roll)
-}
-
-// Follows all paths of a model: all are shorter than this ceiling.
-pub fn explore(m: Model, roll: &mut [u64]) -> Truth {
-    explore_within(m, 4096, roll)
 }

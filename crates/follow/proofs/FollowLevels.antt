@@ -7,10 +7,10 @@ use mathlib.Core.Option.{Option, some}
 use native.Mathlib.Omega.{arith}
 use Rattle.lasso.specs.Graph.{Graph, WellFormed}
 use Rattle.lasso.specs.Distance.{dist}
-use Rattle.spread.specs.declared.SpreadAnswer.{SpreadAnswer}
+use Rattle.edge_search.specs.declared.SpreadAnswer.{SpreadAnswer}
 use Rattle.frontier.specs.Regions.{entry, valueOf}
 use Rattle.lasso.specs.Limit.{under}
-use Rattle.spread.specs.Promises.{SpreadFrom}
+use Rattle.edge_search.specs.Promises.{SpreadFrom}
 use Rattle.walks.specs.Through.{viaMark, markedSources, DistancesWithin}
 use Rattle.lasso.proofs.UnderLaws.{under-under}
 use Rattle.spread.proofs.SearchLaws.{value-entry, level-entry}

@@ -19,8 +19,8 @@ use Rattle.model.specs.Model.{graphIn}
 use Rattle.model.proofs.Laws.{Sizes, valid-sizes, valid-well-formed}
 use Rattle.table.specs.Changes.{SameOutside}
 use Rattle.table.proofs.Laws.{sameOutside-refl, sameOutside-trans}
-use Rattle.spread.specs.declared.SpreadAnswer.{SpreadAnswer}
-use Rattle.spread.specs.Promises.{SpreadFrom}
+use Rattle.edge_search.specs.declared.SpreadAnswer.{SpreadAnswer}
+use Rattle.edge_search.specs.Promises.{SpreadFrom}
 use Rattle.walks.specs.Through.{markedSources, DistancesWithin}
 use Rattle.spread.proofs.SearchLaws.{spread-sameOutside}
 use Rattle.stems.specs.Stems.{StemEntries}

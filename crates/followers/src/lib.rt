@@ -43,18 +43,18 @@ fn try_next(
     file: &[u8],
     h: Header,
     work: &mut [u16],
-    length: Transitions,
+    transitions: Transitions,
     place: usize,
     bound: usize,
     t: usize,
     passed: Passed,
 ) -> Tested
-    requires { ⌜ Prepared (now file) h (now work) (length .0) ⌝ }
-    requires { ⌜ place < length .0 ⌝ }
+    requires { ⌜ Prepared (now file) h (now work) (transitions .0) ⌝ }
+    requires { ⌜ place < transitions .0 ⌝ }
     requires { ⌜ t < h .states ⌝ }
     requires { ⌜ T (pathb (graphIn (now file) h) (upTo (graphIn (now file) h) (now work) place ++ t ∷ [])) ⌝ }
-    requires { ⌜ PassedAt (now file) h (now work) (length .0) place passed ⌝ }
-    ensures { λ r. ⌜ TrySays (now (file .entry)) h (now (work .entry)) (now (work .exit)) (length .0) place bound t r ⌝ }
+    requires { ⌜ PassedAt (now file) h (now work) (transitions .0) place passed ⌝ }
+    ensures { λ r. ⌜ TrySays (now (file .entry)) h (now (work .entry)) (now (work .exit)) (transitions .0) place bound t r ⌝ }
 {
     if t < bound {
         return Tested {
@@ -62,7 +62,7 @@ fn try_next(
             passed: passed,
         };
     }
-    may_follow(file, h, work, length, place, t, passed)
+    may_follow(file, h, work, transitions, place, t, passed)
 }
 
 // The least state from a bound on that may stand after the list up to a place. What was known of a longer list is given.
@@ -70,25 +70,25 @@ pub fn least_follower(
     file: &[u8],
     h: Header,
     work: &mut [u16],
-    length: Transitions,
+    transitions: Transitions,
     place: usize,
     bound: usize,
     passed: Passed,
 ) -> Found
-    requires { ⌜ Prepared (now file) h (now work) (length .0) ⌝ }
-    requires { ⌜ place < length .0 ⌝ }
+    requires { ⌜ Prepared (now file) h (now work) (transitions .0) ⌝ }
+    requires { ⌜ place < transitions .0 ⌝ }
     requires { ⌜ T (pathb (graphIn (now file) h) (upTo (graphIn (now file) h) (now work) place)) ⌝ }
-    requires { ⌜ KnownFrom (now file) h (now work) (length .0) place passed ⌝ }
-    ensures { λ r. ⌜ LeastFound (now (file .entry)) h (now (work .entry)) (now (work .exit)) (length .0) place bound r ⌝ }
+    requires { ⌜ KnownFrom (now file) h (now work) (transitions .0) place passed ⌝ }
+    ensures { λ r. ⌜ LeastFound (now (file .entry)) h (now (work .entry)) (now (work .exit)) (transitions .0) place bound r ⌝ }
 {
-    let mut p = retreat(file, h, work, length, place, passed);
+    let mut p = retreat(file, h, work, transitions, place, passed);
     let s = list_at(h, work, place);
     let part = row_part(file, h, s);
     let d = degree(part, h, s);
     let mut k = 0;
     while k < d {
         let t = successor(part, h, s, k);
-        let r = try_next(file, h, work, length, place, bound, t, p);
+        let r = try_next(file, h, work, transitions, place, bound, t, p);
         p = r.passed;
         if r.yes {
             return Found {
@@ -109,15 +109,15 @@ pub fn first_follower(
     file: &[u8],
     h: Header,
     work: &mut [u16],
-    length: Transitions,
+    transitions: Transitions,
     place: usize,
     passed: Passed,
 ) -> Chosen
-    requires { ⌜ Prepared (now file) h (now work) (length .0) ⌝ }
-    requires { ⌜ place < length .0 ⌝ }
-    requires { ⌜ Extends (graphIn (now file) h) (length .0) (upTo (graphIn (now file) h) (now work) place) ⌝ }
-    requires { ⌜ PassedAt (now file) h (now work) (length .0) place passed ⌝ }
-    ensures { λ r. ⌜ FirstFound (now (file .entry)) h (now (work .entry)) (now (work .exit)) (length .0) place r ⌝ }
+    requires { ⌜ Prepared (now file) h (now work) (transitions .0) ⌝ }
+    requires { ⌜ place < transitions .0 ⌝ }
+    requires { ⌜ Extends (graphIn (now file) h) (transitions .0) (upTo (graphIn (now file) h) (now work) place) ⌝ }
+    requires { ⌜ PassedAt (now file) h (now work) (transitions .0) place passed ⌝ }
+    ensures { λ r. ⌜ FirstFound (now (file .entry)) h (now (work .entry)) (now (work .exit)) (transitions .0) place r ⌝ }
 {
     let s = list_at(h, work, place);
     let part = row_part(file, h, s);
@@ -126,7 +126,7 @@ pub fn first_follower(
     let mut tried = 0;
     while tried + 1 < d {
         let t = successor(part, h, s, tried);
-        let r = may_follow(file, h, work, length, place, t, p);
+        let r = may_follow(file, h, work, transitions, place, t, p);
         p = r.passed;
         if r.yes {
             return Chosen {

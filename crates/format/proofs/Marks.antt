@@ -1,5 +1,5 @@
 -- Where the mark tables stand, which totals they give, and that no bit past the end of a file is set.
-use Prim.Native.Nat.{ℕ, _+_, _*_, _-_, _/_, _%_, _^_, _≤_, _<_}
+use Prim.Native.Nat.{ℕ, _+_, _*_, _-_, _/_, _%_, _≤_, _<_}
 use mathlib.Core.Path.{_≡_, ap, subst, _∙_}
 use mathlib.Core.Bool.{false, _||_, not}
 use mathlib.Core.Logic.{inl, inr}

@@ -7,7 +7,7 @@ use mathlib.Core.List.{List, [], _∷_, _++_}
 use mathlib.Core.Option.{Option, some, none}
 use mathlib.Core.Logic.{inl, inr}
 use native.Mathlib.Omega.{arith}
-use borrow.Author.Tests.{lt-ltb, le-ltb, le-leb, ltb-false}
+use borrow.Author.Tests.{lt-ltb, le-ltb, le-leb}
 use lib.ListN.{length, replicate, length-replicate}
 use Rattle.lasso.proofs.Tests.{lt-or-ge}
 use Rattle.lasso.specs.Lists.{pick, someIf}

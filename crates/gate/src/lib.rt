@@ -4,9 +4,9 @@
 ghost use mathlib.Core.Path.{_≡_};
 ghost use lib.ListN.{length};
 ghost use Rattle.gate.specs.Gate.{gateOf, workEntered, highCeiling, Zeroed};
+use checking::check;
 use lasso::Transitions;
 use model::Checked;
-use model::check;
 use table::clear;
 
 // What a search names beside the file and the tables that it is lent: the mark table, the length that no list may exceed,

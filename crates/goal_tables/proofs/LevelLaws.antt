@@ -10,9 +10,9 @@ use Rattle.lasso.specs.Graph.{Graph, WellFormed}
 use Rattle.lasso.specs.Distance.{dist}
 use Rattle.table.proofs.Laws.{sameOutside-trans}
 use Rattle.frontier.specs.Regions.{entry}
-use Rattle.spread.specs.declared.SpreadAnswer.{SpreadAnswer}
-use Rattle.spread.specs.declared.SpreadAnswer.the-variants.{Nothing}
-use Rattle.spread.specs.Promises.{SpreadFrom}
+use Rattle.edge_search.specs.declared.SpreadAnswer.{SpreadAnswer}
+use Rattle.edge_search.specs.declared.SpreadAnswer.the-variants.{Nothing}
+use Rattle.edge_search.specs.Promises.{SpreadFrom}
 use Rattle.spread.proofs.SearchLaws.{level-entry, level-within, spread-nothing}
 use Rattle.walks.specs.Through.{viaMark, markedSources, DistancesWithin}
 use Rattle.walks.proofs.ThroughLaws.{viaMark-marked, viaMark-levels}

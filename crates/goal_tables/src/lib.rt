@@ -9,12 +9,12 @@ ghost use Rattle.follow.specs.Follow.{StatesTo};
 ghost use Rattle.goals.specs.Goals.{LastMark, LaterTable};
 ghost use Rattle.goal_tables.specs.Tables.{Ground, LevelsVia, LaterMade, SoonerMade, Tables};
 use current::list_at;
+use edge_search::SpreadAnswer;
 use ends::flag_closing;
 use ends::flag_marked;
 use lasso::Transitions;
 use model::Header;
 use model::is_marked;
-use spread::SpreadAnswer;
 use table::copy;
 use table::get;
 use table::put;
@@ -64,14 +64,14 @@ fn later_levels(file: &[u8], h: Header, work: &mut [u16], x: usize, limit: usize
 }
 
 // Makes the table for lists with a mark behind the loop start at place b.
-fn make_later(file: &[u8], h: Header, work: &mut [u16], length: Transitions, b: usize)
-    requires { ⌜ Ground (now file) h (now work) (length .0) b ⌝ }
-    ensures { λ _. ⌜ LaterMade (graphIn (now (file .entry)) h) (length .0) (stateAt h (now (work .entry))) b
+fn make_later(file: &[u8], h: Header, work: &mut [u16], transitions: Transitions, b: usize)
+    requires { ⌜ Ground (now file) h (now work) (transitions .0) b ⌝ }
+    ensures { λ _. ⌜ LaterMade (graphIn (now (file .entry)) h) (transitions .0) (stateAt h (now (work .entry))) b
         (now (work .entry)) (now (work .exit)) ⌝ }
 {
     let n = h.states;
     let x = list_at(h, work, b);
-    let left = length.number() - b;
+    let left = transitions.number() - b;
     let count = later_levels(file, h, work, x, left);
     flag_closing(file, h, work, left - 1, b + 1);
     keep_ways(file, h, work, count);
@@ -79,16 +79,23 @@ fn make_later(file: &[u8], h: Header, work: &mut [u16], length: Transitions, b: 
 }
 
 // Makes the table for lists with no mark behind the loop start at place b, from the one for lists with a mark.
-fn make_sooner(file: &[u8], h: Header, work: &mut [u16], length: Transitions, b: usize, mark: usize)
-    requires { ⌜ Ground (now file) h (now work) (length .0) b ⌝ }
+fn make_sooner(
+    file: &[u8],
+    h: Header,
+    work: &mut [u16],
+    transitions: Transitions,
+    b: usize,
+    mark: usize,
+)
+    requires { ⌜ Ground (now file) h (now work) (transitions .0) b ⌝ }
     requires { ⌜ LastMark (graphIn (now file) h) (stateAt h (now work)) b mark ⌝ }
-    requires { ⌜ LaterTable (graphIn (now file) h) (length .0) (stateAt h (now work)) b (now work) ⌝ }
-    ensures { λ _. ⌜ SoonerMade (graphIn (now (file .entry)) h) (length .0) (stateAt h (now (work .entry))) b mark
+    requires { ⌜ LaterTable (graphIn (now file) h) (transitions .0) (stateAt h (now work)) b (now work) ⌝ }
+    ensures { λ _. ⌜ SoonerMade (graphIn (now (file .entry)) h) (transitions .0) (stateAt h (now (work .entry))) b mark
         (now (work .entry)) (now (work .exit)) ⌝ }
 {
     let n = h.states;
     let x = list_at(h, work, b);
-    let left = length.number() - b;
+    let left = transitions.number() - b;
     let own = get(work, 5 * n + x);
     let count = distances(file, h, work, x, left);
     put(work, 5 * n + x, own);
@@ -98,16 +105,16 @@ fn make_sooner(file: &[u8], h: Header, work: &mut [u16], length: Transitions, b:
 }
 
 // Makes both tables behind the loop start at place b; if it is marked itself, they are the same.
-pub fn make_tables(file: &[u8], h: Header, work: &mut [u16], length: Transitions, b: usize)
-    requires { ⌜ Ground (now file) h (now work) (length .0) b ⌝ }
-    ensures { λ _. ⌜ Tables (graphIn (now (file .entry)) h) (length .0) (stateAt h (now (work .entry))) b
+pub fn make_tables(file: &[u8], h: Header, work: &mut [u16], transitions: Transitions, b: usize)
+    requires { ⌜ Ground (now file) h (now work) (transitions .0) b ⌝ }
+    ensures { λ _. ⌜ Tables (graphIn (now (file .entry)) h) (transitions .0) (stateAt h (now (work .entry))) b
         (now (work .exit)) ⌝ }
     ensures same { λ _. ⌜ SameOutside (2 * h .states) (6 * h .states) (now (work .entry)) (now (work .exit)) ⌝ }
 {
     let mark = last_mark(file, h, work, b);
-    make_later(file, h, work, length, b);
+    make_later(file, h, work, transitions, b);
     if mark == b + 1 {
         return;
     }
-    make_sooner(file, h, work, length, b, mark);
+    make_sooner(file, h, work, transitions, b, mark);
 }

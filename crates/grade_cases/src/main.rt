@@ -1,23 +1,22 @@
 // Runs the cases that it reads: prints what the grader says of a list with a claimed k and where the list breaks, and how
 // many working tables are not as they should be.
-mod numbers;
-
 ghost use Prim.Native.Nat.{_≤_};
 ghost use lib.ListN.{length};
+use case_text::byte_at;
+use case_text::find;
+use case_text::make;
+use case_text::make_entries;
+use case_text::next_number;
 use grade_trials::Tried;
-use grade_trials::first;
-use grade_trials::wrong_work;
 use harness::VARIED;
-use harness::byte_at;
 use harness::fill;
-use harness::find;
-use harness::next_number;
+use harness::first;
 use harness::part;
 use harness::say;
+use harness::sum;
 use harness::text;
+use harness::wrong_work;
 use libc::STDIN_FILENO;
-use numbers::make;
-use numbers::put_words;
 use table::put;
 
 // What a case says in numbers: how many bytes of its file are lent, the claimed k, how many entries of the working table
@@ -33,16 +32,6 @@ struct CaseNumbers {
 struct Judged {
     looked: u64,
     wrong: u64,
-}
-
-// A sum, up to a bound that no run comes near.
-fn sum(count: u64, more: u64) -> u64 {
-    if count < 1000000000 {
-        if more < 1000000000 {
-            return count + more;
-        }
-    }
-    count
 }
 
 // The numbers of a case, from the part of its line that holds them; they are kept below what there is room for. The mark
@@ -62,26 +51,31 @@ fn numbers_in(words: &[u8]) -> CaseNumbers
     }
 }
 
-// The grade that a case asks for: the file is described by one text, the list by another.
-fn grade(file_text: &[u8], list_text: &[u8], n: CaseNumbers) -> Tried
-    requires { ⌜ (n .size ≤ 25700) × (n .room ≤ 24600) ⌝ }
+// The grade of the list that a text describes, on a file.
+fn grade_list(file: &[u8], list_text: &[u8], n: CaseNumbers) -> Tried
+    requires { ⌜ n .room ≤ 24600 ⌝ }
 {
-    let mut words = [0u16; 12850];
-    let mut file = [0u8; 25700];
+    let mut bytes = [0u8; 140032];
     let mut list = [0u16; 70016];
     let mut work = [0u16; 24600];
-    make(file_text, &mut words);
-    put_words(&words, &mut file);
-    let entries = make(list_text, &mut list);
-    let lent = first(&list, entries);
+    let entries = make_entries(list_text, &mut bytes, &mut list);
     grade_trials::grade(
-        part(&file, 0, n.size),
+        file,
         n.mark_table,
-        lent,
+        first(&list, entries),
         n.k,
         &mut work,
         n.room,
     )
+}
+
+// The grade that a case asks for: the file is described by one text, the list by another.
+fn grade(file_text: &[u8], list_text: &[u8], n: CaseNumbers) -> Tried
+    requires { ⌜ (n .size ≤ 25700) × (n .room ≤ 24600) ⌝ }
+{
+    let mut file = [0u8; 25700];
+    make(file_text, &mut file);
+    grade_list(part(&file, 0, n.size), list_text, n)
 }
 
 // Which text an answer has: two for each thing that is said, without a place and with one.

@@ -3,7 +3,7 @@ ghost use Prim.Native.Nat.{_≤_};
 use grade_apart::Claim;
 use grade_apart::entry;
 use grade_trials::Tried;
-use grade_trials::first;
+use harness::first;
 use harness::second_of;
 use harness::written;
 

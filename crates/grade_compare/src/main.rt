@@ -102,7 +102,7 @@ fn compare_placed(p: Placed, states: usize, before: Tally) -> Tally
     let mut file = [0u8; 170];
     let mut roll = [0u64; 64];
     let size = exhaustive::write_placed(&mut file, p, states);
-    let truth = exhaustive::explore(m, &mut roll);
+    let truth = exhaustive::explore(m, 4096, &mut roll);
     let lent = part(&file, 0, size);
     let t = compare_lists(
         exhaustive::explicit(m),

@@ -5,8 +5,7 @@ use grader::GradeAnswer;
 use grader::Verdict;
 use harness::VARIED;
 use harness::fill;
-use harness::holds;
-use harness::left_after;
+use harness::wrong_work;
 use paths::FirstBreak;
 
 // What is said of a list: nothing, since the call was refused, or the verdict.
@@ -69,25 +68,6 @@ fn answered(given: GradeAnswer) -> Tried {
             wrong: 0,
         },
         GradeAnswer::Graded(verdict, broken) => graded(verdict, broken),
-    }
-}
-
-// 0 if the working table holds what it must after a refusal with a number, or 0 for a verdict; else 1.
-pub fn wrong_work(work: &[u16], refusal: usize) -> u64
-    ensures { λ r. ⌜ r ≤ 1 ⌝ }
-{
-    if holds(work, 0, left_after(refusal)) {
-        return 0;
-    }
-    1
-}
-
-// The first so many entries of a list, all of them if there are fewer.
-pub fn first(list: &[u16], count: usize) -> &[u16] {
-    if count <= list.len() {
-        &list[..count]
-    } else {
-        list
     }
 }
 

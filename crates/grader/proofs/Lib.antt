@@ -1,4 +1,2 @@
--- The laws of the grader: the flags of a list, the verdict, and that its outcome loses nothing.
-pub mod FlagLaws
-pub mod VerdictLaws
+-- The laws of the grader: what it answers, and that its outcome loses nothing.
 pub mod GradeLaws

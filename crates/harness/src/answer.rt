@@ -95,3 +95,13 @@ pub fn written(code: u64) -> usize {
     }
     0
 }
+
+// A sum, up to a bound that no run comes near.
+pub fn sum(count: u64, more: u64) -> u64 {
+    if count < 1000000000 {
+        if more < 1000000000 {
+            return count + more;
+        }
+    }
+    count
+}

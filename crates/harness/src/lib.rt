@@ -1,9 +1,8 @@
-// Test support: answers as one number, texts with numbers in print, tables that are filled and looked at, model files,
-// and lines of text that are read.
+// Test support: answers as one number, texts with numbers in print, tables that are filled and looked at, bytes of model
+// files.
 mod answer;
 mod files;
 mod print;
-mod reading;
 mod tables;
 
 pub use answer::DISTANCES_REFUSED;
@@ -25,30 +24,25 @@ pub use answer::first_of;
 pub use answer::kind_of;
 pub use answer::refusal_of;
 pub use answer::second_of;
+pub use answer::sum;
 pub use answer::third_of;
 pub use answer::with_wrong;
 pub use answer::written;
 pub use answer::wrong_of;
-pub use files::example_d;
 pub use files::header_word;
+pub use files::part;
 pub use files::put_byte;
-pub use files::put_circle;
 pub use files::put16;
 pub use print::NONE;
 pub use print::entries;
 pub use print::say;
 pub use print::text;
-pub use reading::NumberRead;
-pub use reading::byte_at;
-pub use reading::digits;
-pub use reading::find;
-pub use reading::next_number;
-pub use reading::part;
-pub use reading::skip;
 pub use tables::NINES;
 pub use tables::VARIED;
 pub use tables::ZEROS;
 pub use tables::entry;
 pub use tables::fill;
+pub use tables::first;
 pub use tables::holds;
-pub use tables::left_after;
+pub use tables::unlike;
+pub use tables::wrong_work;

@@ -1,5 +1,5 @@
 // Fills tables with something before a call, and looks whether they hold it.
-ghost use Prim.Native.Nat.{_<_};
+ghost use Prim.Native.Nat.{_≤_, _<_};
 use table::get;
 use table::put;
 
@@ -23,7 +23,7 @@ fn value_at(filling: usize, at: usize) -> usize
 
 // What a working table that was filled with varied numbers must hold after a call that was refused with a number, or 0 for
 // any other answer: it is untouched after 1 to 12, and zero after every other answer.
-pub fn left_after(refusal: usize) -> usize {
+fn left_after(refusal: usize) -> usize {
     match refusal {
         1..=12 => VARIED,
         _ => ZEROS,
@@ -51,6 +51,23 @@ pub fn holds(table: &[u16], from: usize, filling: usize) -> bool {
     true
 }
 
+// 0 if a table holds its filling from a place on, else 1.
+pub fn unlike(table: &[u16], from: usize, filling: usize) -> u64
+    ensures { λ r. ⌜ r ≤ 1 ⌝ }
+{
+    if holds(table, from, filling) {
+        return 0;
+    }
+    1
+}
+
+// 0 if the working table holds what it must after a refusal with a number, or 0 for another answer; else 1.
+pub fn wrong_work(work: &[u16], refusal: usize) -> u64
+    ensures { λ r. ⌜ r ≤ 1 ⌝ }
+{
+    unlike(work, 0, left_after(refusal))
+}
+
 // The entry at a place, 0 behind the end.
 pub fn entry(table: &[u16], at: usize) -> usize
     ensures { λ r. ⌜ r < 65536 ⌝ }
@@ -59,4 +76,13 @@ pub fn entry(table: &[u16], at: usize) -> usize
         return get(table, at);
     }
     0
+}
+
+// The first so many entries of a table, all of them if there are fewer.
+pub fn first(table: &[u16], count: usize) -> &[u16] {
+    if count <= table.len() {
+        &table[..count]
+    } else {
+        table
+    }
 }

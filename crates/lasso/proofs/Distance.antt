@@ -102,10 +102,6 @@ distPlus-range g s t d e = omega (arith, found-has g 1 s t d e)
 pub dist-walk : (g : Graph) (s t d : ℕ) → dist g s t ≡ some d → Walk g s t d
 dist-walk g s t d e = reach-walk g d s t (found-has g 0 s t d e .2)
 
--- the positive distance is attained by a walk
-pub distPlus-walk : (g : Graph) (s t d : ℕ) → distPlus g s t ≡ some d → Walk g s t d
-distPlus-walk g s t d e = reach-walk g d s t (found-has g 1 s t d e .2)
-
 -- a walk bounds the distance
 pub dist-le : {g : Graph} {s t m : ℕ} → WellFormed g → s < g .size → Walk g s t m
     → (d : ℕ) × (dist g s t ≡ some d) × (d ≤ m)

@@ -229,10 +229,6 @@ module _ (g : Graph) (q : List ℕ) (t : ℕ) (path : T (pathb g (q ++ t ∷ [])
   completes-extends l (inr (inl o)) = mark-ahead-extends l o
   completes-extends l (inr (inr o)) = passed-extends l o
 
-  -- a path from the initial state extends to a lasso of l edges exactly if one of the three walks exists
-  pub extends-iff : (l : ℕ) → Extends g l (q ++ t ∷ []) ↔ Completes g l q t
-  extends-iff l = (extends-completes g l q t, completes-extends l)
-
   -- With the least length for l it is enough that the lasso has at most l edges: none has fewer.
   pub extends-least-iff : WellFormed g → (l : ℕ) → leastLength g ≡ some l → Extends g l (q ++ t ∷ []) ↔ CompletesWithin g l q t
   extends-least-iff w l least = (λ x. (l, le-refl l, extends-completes g l q t x), back)

@@ -150,10 +150,6 @@ lasso→lassob {g} {q} {xs} m l =
     let path : T (pathb g xs) = l .path in
     search join
 
--- a list is a lasso exactly if its loop holds some marked state
-pub lasso-iff : (g : Graph) (xs : List ℕ) → T (lassob g xs) ↔ ((q : ℕ) × T (g .marked q) × Lasso g q xs)
-lasso-iff g xs = (lassob→lasso g xs, λ l. lasso→lassob (l .1) (l .2))
-
 -- an accepting lasso through q: one whose states before the last are all different
 abbrev pub AcceptingThrough : Graph → ℕ → List ℕ → Type 0
 AcceptingThrough g q xs = Lasso g q xs × T (differentb (take (edges xs) xs))

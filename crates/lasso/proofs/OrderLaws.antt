@@ -144,7 +144,9 @@ sameb-refl (x ∷ xs) = both (eqb x x) (sameb xs xs) (eqb-refl x) (sameb-refl xs
 
 -- the list after p, where p stands first
 pub following-here : (p q : List ℕ) (qs : List (List ℕ)) → p ≡ q → following p (q ∷ qs) ≡ head? qs
-following-here p q qs e = let t : sameb p q ≡ true = T-true (sameb p q) (subst (λ (z : List ℕ). T (sameb p z)) e (sameb-refl p)) in rw t
+following-here p q qs e =
+    let same : sameb p q ≡ true = T-true (sameb p q) (subst (λ (z : List ℕ). T (sameb p z)) e (sameb-refl p)) in
+    ap (λ (b : Bool). pick b (head? qs) (following p qs)) same
 
 -- the list after p, where another list stands first
 pub following-later : (p q : List ℕ) (qs : List (List ℕ)) → (p ≡ q → ⊥) → following p (q ∷ qs) ≡ following p qs

@@ -14,17 +14,10 @@ use Rattle.lasso.specs.Graph.{Graph, WellFormed, edges, lassob}
 use Rattle.lasso.specs.Roll.{leastLength, roll}
 use Rattle.lasso.specs.Following.{following}
 use Rattle.lasso.specs.Extends.{Extends}
+use Rattle.lasso.specs.Shown.{Differ, OrderShown}
 use Rattle.lasso.proofs.Tests.{eq-or-apart, lt-or-ge}
-use Rattle.lasso.proofs.OrderLaws.{Before, before-head, before-tail, before-cases, head-least, following-least, following-none}
+use Rattle.lasso.proofs.OrderLaws.{Before, before-head, before-tail, before-cases, before-total, head-least, following-least, following-none}
 use Rattle.lasso.proofs.RollLaws.{roll-strict, roll-length, roll-lasso, lasso-in-roll, lasso-length}
-
--- the first place where two lists differ, with the smaller entry in the first list
-pub record Differ (xs ys : List ℕ) : Type 0 where
-  pub place : ℕ
-  pub in-first : place < length xs
-  pub in-second : place < length ys
-  pub same : take place xs ≡ take place ys
-  pub less : getD xs place 0 < getD ys place 0
 
 -- of two lists in dictionary order the first has the smaller entry where they first differ
 pub before-differ : (xs ys : List ℕ) → Before xs ys → Differ xs ys
@@ -46,6 +39,13 @@ differ-before [] ys j p q e l = absurd (omega arith)
 differ-before (x ∷ xs) [] j p q e l = absurd (omega arith)
 differ-before (x ∷ xs) (y ∷ ys) zero p q e l = before-head x y xs ys l
 differ-before (x ∷ xs) (y ∷ ys) (suc j) p q e l = before-tail x y xs ys (cc) (differ-before xs ys j (omega arith) (omega arith) (cc) l)
+
+-- what dictionary order is
+pub order-shown : OrderShown
+order-shown xs ys = record {
+  by-place = (before-differ xs ys, λ d. differ-before xs ys (d .place) (d .in-first) (d .in-second) (d .same) (d .less));
+  total = before-total xs ys;
+}
 
 -- lists with the same first j entries have the same entry at each place below j
 pub take-same : (xs ys : List ℕ) (j i : ℕ) → take j xs ≡ take j ys → i < j → getD xs i 0 ≡ getD ys i 0

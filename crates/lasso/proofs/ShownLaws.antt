@@ -1,24 +1,26 @@
--- What was to be shown about paths is so.
+-- What was to be shown about paths is so, and the roll and distances are what they are said to be.
 use Prim.Native.Nat.{ℕ, suc, _+_, _-_, _≤_, _<_}
 use mathlib.Core.Path.{_≡_, refl, sym, _∙_, ap, subst}
 use mathlib.Core.Logic.{inl, inr}
 use mathlib.Core.List.{List, [], _∷_, List·Memᴰ}
 use mathlib.Core.Option.{Option}
 use native.Mathlib.Omega.{arith}
-use lib.ListN.{getD}
+use lib.ListN.{length, getD}
 use lib.Dec.{T, eqb}
 use Rattle.lasso.specs.Lists.{memb, anyb, upFrom}
 use Rattle.lasso.specs.Graph.{Graph, edgeb, pathb, edges, loopsb, lassob, acceptingb, loopStart}
-use Rattle.lasso.specs.Roll.{leastLength}
-use Rattle.lasso.specs.Distance.{dist}
-use Rattle.lasso.specs.Shown.{HasLength, OfLeastLength, ToBeShown, NoEdgeOut, PathLength, DistanceShown}
+use Rattle.lasso.specs.Distance.{dist, distPlus}
+use Rattle.lasso.specs.Roll.{leastLength, roll}
+use Rattle.lasso.specs.Shown.{HasLength, OfLeastLength, ToBeShown, RollShown, NoEdgeOut, PathLength, DistanceShown, DistancePlusShown}
 use Rattle.lasso.proofs.Tests.{parts, join, memb-at, eq→eqb, eq-or-apart, range-upFrom, some-anyb}
 use Rattle.lasso.proofs.Least.{IsLeast, isLeast-by, isLeast-bounds, isLeast-iff}
 use Rattle.lasso.proofs.Walk.{Walk, walk-from, walk-to, walk-length, walk-uncons, run-path, run-last, path-segment}
-use Rattle.lasso.proofs.Distance.{dist-least}
+use Rattle.lasso.proofs.Distance.{dist-least, distPlus-least}
 use Rattle.lasso.proofs.Lasso.{Lasso, accepting-iff, accepting-length, loop-start}
 use Rattle.lasso.proofs.Cut.{lasso-accepting, least-lasso-accepting}
-use Rattle.lasso.proofs.RollLaws.{accepting-lasso, leastLength-least}
+use Rattle.lasso.proofs.Sorted.{sorted-at}
+use Rattle.lasso.proofs.OrderLaws.{Before, before-irrefl}
+use Rattle.lasso.proofs.RollLaws.{accepting-lasso, leastLength-least, roll-strict, in-roll}
 use Rattle.lasso.proofs.RoundLaws.{loop-lasso}
 
 -- an accepting path of a length is a lasso of that length
@@ -84,6 +86,26 @@ to-be-shown g wf = record {
   loop-there = loops-there g;
 }
 
+-- of two places of the roll the earlier one holds the list that is before
+roll-ordered : (g : Graph) (i j : ℕ) → i < j → j < length (roll g) → Before (getD (roll g) i []) (getD (roll g) j [])
+roll-ordered g = sorted-at Before [] (roll g) (roll-strict g)
+
+-- two places of the roll, of which the first is the earlier one, do not hold the same list
+roll-apart : (g : Graph) (i j : ℕ) → i < j → j < length (roll g) → getD (roll g) i [] ≡ getD (roll g) j [] → ⊥
+roll-apart g i j less l e =
+    before-irrefl (getD (roll g) j []) (subst (λ (xs : List ℕ). Before xs (getD (roll g) j [])) e (roll-ordered g i j less l))
+
+pub roll-shown : RollShown
+roll-shown g wf = record {
+  holds = in-roll g wf;
+  ordered = roll-ordered g;
+  once = λ i j in-i in-j e. elim (eq-or-apart i j) [
+    | inl same ↦ same
+    | inr (inl less) ↦ absurd (roll-apart g i j less in-j e)
+    | inr (inr more) ↦ absurd (roll-apart g j i more in-i (sym e))
+  ];
+}
+
 -- a path that goes on from a place leaves its state by an edge
 path-goes-on : (g : Graph) (xs : List ℕ) (j : ℕ) → T (pathb g xs) → j < edges xs → (t : ℕ) × T (edgeb g (getD xs j 0) t)
 path-goes-on g xs j h less =
@@ -128,3 +150,8 @@ path-walk g s t n (xs, path, long, first, last) =
 pub distance-shown : DistanceShown
 distance-shown g wf s t l =
     isLeast-iff (Walk g s t) (PathLength g s t) (dist g s t) (walk-path g s t) (path-walk g s t) (dist-least wf s t l)
+
+pub distance-plus-shown : DistancePlusShown
+distance-plus-shown g wf s t =
+    isLeast-iff (λ n. (1 ≤ n) × Walk g s t n) (λ n. (1 ≤ n) × PathLength g s t n) (distPlus g s t)
+    (λ n h. (h .0, walk-path g s t n (h .1))) (λ n h. (h .0, path-walk g s t n (h .1))) (distPlus-least wf s t)

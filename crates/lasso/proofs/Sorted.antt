@@ -38,6 +38,12 @@ module _ {A : Type 0} where
   all-places P d [] h = tt
   all-places P d (x ∷ xs) h = (h 0 (omega arith), all-places P d xs (λ j l. h (suc j) (omega arith)))
 
+  -- what every entry has, the entry at a place has
+  pub all-at : (P : A → Type 0) (d : A) (xs : List A) → All P xs → (j : ℕ) → j < length xs → P (getD xs j d)
+  all-at P d [] h j l = absurd (omega arith)
+  all-at P d (x ∷ xs) h zero l = h .0
+  all-at P d (x ∷ xs) h (suc j) l = all-at P d xs (h .1) j (omega arith)
+
   -- both parts have it, the whole has it
   pub all-append : (P : A → Type 0) (xs ys : List A) → All P xs → All P ys → All P (xs ++ ys)
   all-append P [] ys h k = k
@@ -47,6 +53,14 @@ module _ {A : Type 0} where
   pub all-keep : (P : A → Type 0) (p : A → Bool) (xs : List A) → All P xs → All P (keep p xs)
   all-keep P p [] h = tt
   all-keep P p (x ∷ xs) h = elim (p x) as (λ b. All P (consIf b x (keep p xs))) [ true ↦ (h .0, all-keep P p xs (h .1)) | false ↦ all-keep P p xs (h .1) ]
+
+  -- of two places of a sorted list the earlier one stands in the relation to the later one
+  pub sorted-at : (R : A → A → Type 0) (d : A) (xs : List A) → Sorted R xs → (i j : ℕ) → i < j → j < length xs
+      → R (getD xs i d) (getD xs j d)
+  sorted-at R d [] h i j less l = absurd (omega arith)
+  sorted-at R d (x ∷ xs) h i zero less l = absurd (omega arith)
+  sorted-at R d (x ∷ xs) h zero (suc j) less l = all-at (R x) d xs (h .0) j (omega arith)
+  sorted-at R d (x ∷ xs) h (suc i) (suc j) less l = sorted-at R d xs (h .1) i j (omega arith) (omega arith)
 
   -- what is kept of a sorted list is sorted
   pub sorted-keep : (R : A → A → Type 0) (p : A → Bool) (xs : List A) → Sorted R xs → Sorted R (keep p xs)

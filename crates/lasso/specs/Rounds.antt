@@ -56,7 +56,7 @@ bestLength rec = rec .best
 
 -- the record after one more round, given that round's length
 abbrev pub withRound : Record → Option ℕ → Record
-withRound rec length = record { done = rec .done + 1; best = lesser (rec .best) length }
+withRound rec found = record { done = rec .done + 1; best = lesser (rec .best) found }
 
 -- no candidate is left: the count equals or exceeds the number of candidates
 abbrev pub finishedb : Graph → Record → Bool

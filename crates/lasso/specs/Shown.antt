@@ -1,18 +1,19 @@
--- What the contract asks to be shown about paths: statements, each proved for every well-formed graph. No length in them
--- is bounded.
+-- What the contract asks to be shown about paths, and what dictionary order, the roll and distances are: statements, each
+-- proved for all lists or for every well-formed graph. No length in them is bounded.
 use Prim.Native.Nat.{ℕ, suc, _≤_, _<_}
 use mathlib.Core.Path.{_≡_}
-use mathlib.Core.Logic.{_↔_}
+use mathlib.Core.Logic.{_↔_, _⊎_}
 use mathlib.Core.Bool.{Bool}
-use mathlib.Core.List.{List, []}
+use mathlib.Core.List.{List, [], List·Memᴰ}
 use mathlib.Core.Option.{Option}
 use lib.ListN.{length, getD, take}
 use lib.Dec.{T}
 use Rattle.lasso.specs.Lists.{memb, differentb}
 use Rattle.lasso.specs.Least.{IsLeast}
 use Rattle.lasso.specs.Graph.{Graph, WellFormed, pathb, edges, loopsb, lassob, acceptingb, loopStart, loop}
-use Rattle.lasso.specs.Roll.{leastLength}
-use Rattle.lasso.specs.Distance.{dist}
+use Rattle.lasso.specs.Order.{beforeb}
+use Rattle.lasso.specs.Roll.{leastLength, roll}
+use Rattle.lasso.specs.Distance.{dist, distPlus}
 
 -- some list passes the test
 abbrev pub Exists : (List ℕ → Bool) → Type 0
@@ -54,6 +55,38 @@ pub record Shown (g : Graph) : Type 0 where
 abbrev pub ToBeShown : Type 0
 ToBeShown = (g : Graph) → WellFormed g → Shown g
 
+-- The first place where two lists differ, with the smaller state in the first list.
+pub record Differ (xs ys : List ℕ) : Type 0 where
+  pub place : ℕ
+  pub in-first : place < length xs
+  pub in-second : place < length ys
+  pub same : take place xs ≡ take place ys
+  pub less : getD xs place 0 < getD ys place 0
+
+-- What dictionary order is.
+pub record OrderSays (xs ys : List ℕ) : Type 0 where
+  -- the first list is before the second exactly if it has the smaller state at the first place where they differ
+  pub by-place : T (beforeb xs ys) ↔ Differ xs ys
+  -- two lists of one length are the same, or one of them is before the other
+  pub total : length xs ≡ length ys → (xs ≡ ys) ⊎ (T (beforeb xs ys) ⊎ T (beforeb ys xs))
+
+-- so it is with all lists
+abbrev pub OrderShown : Type 0
+OrderShown = (xs ys : List ℕ) → OrderSays xs ys
+
+-- What the roll is: all shortest accepting paths, each once, in dictionary order.
+pub record RollSays (g : Graph) : Type 0 where
+  -- a list is in the roll exactly if it is of least length among the accepting paths
+  pub holds : (xs : List ℕ) → List·Memᴰ xs (roll g) ↔ OfLeastLength (acceptingb g) xs
+  -- of two places the earlier one holds the list that is before the other in dictionary order
+  pub ordered : (i j : ℕ) → i < j → j < length (roll g) → T (beforeb (getD (roll g) i []) (getD (roll g) j []))
+  -- so no list stands at two places
+  pub once : (i j : ℕ) → i < length (roll g) → j < length (roll g) → getD (roll g) i [] ≡ getD (roll g) j [] → i ≡ j
+
+-- so it is with every well-formed graph
+abbrev pub RollShown : Type 0
+RollShown = (g : Graph) → WellFormed g → RollSays g
+
 -- The state s ends the run, and lies on no loop.
 pub record EndsRun (g : Graph) (s : ℕ) : Type 0 where
   -- no path goes on from s
@@ -76,3 +109,7 @@ PathLength g s t n =
 -- d(s, t) is the least length of a path from s to t; it is none if there is no such path
 abbrev pub DistanceShown : Type 0
 DistanceShown = (g : Graph) → WellFormed g → (s t : ℕ) → s < g .size → IsLeast (PathLength g s t) (dist g s t)
+
+-- the least length of a path with at least one edge from s to t is found, though lengths above N are not tried
+abbrev pub DistancePlusShown : Type 0
+DistancePlusShown = (g : Graph) → WellFormed g → (s t : ℕ) → IsLeast (λ n. (1 ≤ n) × PathLength g s t n) (distPlus g s t)

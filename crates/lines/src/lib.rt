@@ -42,17 +42,23 @@ fn write_loop(text: &mut [u8], at: usize, states: &[u16]) -> usize
 
 // Writes the line of the list that stands in a table from entry 0 on, given the place where its loop starts and its
 // length.
-pub fn write_line(text: &mut [u8], at: usize, list: &[u16], k: usize, length: Transitions) -> usize
-    requires { ⌜ (k ≤ length .0) × (length .0 ≤ lib.ListN.length (now list)) ⌝ }
-    requires { ⌜ at + lib.ListN.length (stemLoop (take k (now list)) (take (length .0 - k) (drop k (now list))))
-        ≤ lib.ListN.length (now text) ⌝ }
+pub fn write_line(
+    text: &mut [u8],
+    at: usize,
+    list: &[u16],
+    k: usize,
+    transitions: Transitions,
+) -> usize
+    requires { ⌜ (k ≤ transitions .0) × (transitions .0 ≤ length (now list)) ⌝ }
+    requires { ⌜ at + length (stemLoop (take k (now list)) (take (transitions .0 - k) (drop k (now list))))
+        ≤ length (now text) ⌝ }
     ensures { λ r. ⌜ Wrote (now (text .entry)) at
-        (stemLoop (take k (now (list .entry))) (take (length .0 - k) (drop k (now (list .entry)))))
+        (stemLoop (take k (now (list .entry))) (take (transitions .0 - k) (drop k (now (list .entry)))))
         (now (text .exit)) r ⌝ }
 {
     let after_stem = write_stem(text, at, &list[..k]);
     let after_bar = write_byte(text, after_stem, b'|');
-    let end = length.number();
+    let end = transitions.number();
     let after_loop = write_loop(text, after_bar, &list[k..end]);
     write_byte(text, after_loop, b'\n')
 }

@@ -16,24 +16,24 @@ use passed::unknown;
 use table::get;
 
 // Puts the path after the one in region 0 there, and answers true; or answers false if that one is the last.
-pub fn advance(file: &[u8], h: Header, work: &mut [u16], length: Transitions) -> bool
-    requires { ⌜ Prepared (now file) h (now work) (length .0) ⌝ }
-    requires { ⌜ List·Memᴰ (upTo (graphIn (now file) h) (now work) (length .0)) (roll (graphIn (now file) h)) ⌝ }
-    ensures { λ r. ⌜ Replaced (graphIn (now (file .entry)) h) (length .0) (now (work .entry)) (now (work .exit)) r ⌝ }
+pub fn advance(file: &[u8], h: Header, work: &mut [u16], transitions: Transitions) -> bool
+    requires { ⌜ Prepared (now file) h (now work) (transitions .0) ⌝ }
+    requires { ⌜ List·Memᴰ (upTo (graphIn (now file) h) (now work) (transitions .0)) (roll (graphIn (now file) h)) ⌝ }
+    ensures { λ r. ⌜ Replaced (graphIn (now (file .entry)) h) (transitions .0) (now (work .entry)) (now (work .exit)) r ⌝ }
     ensures kept { λ _. ⌜ Kept (h .states) (now (work .entry)) (now (work .exit)) ⌝ }
 {
-    let mut place = length.number();
+    let mut place = transitions.number();
     let mut p = unknown(place);
     while 0 < place {
         place -= 1;
         let bound = get(work, place) + 1;
-        let found = least_follower(file, h, work, length, place, bound, p);
+        let found = least_follower(file, h, work, transitions, place, bound, p);
         p = found.passed;
         let next = found.follower;
         match next {
             Follower::State(t) => {
-                let r = append(file, h, work, length, place, t, p);
-                complete(file, h, work, length, place + 1, r);
+                let r = append(file, h, work, transitions, place, t, p);
+                complete(file, h, work, transitions, place + 1, r);
                 return true;
             }
             Follower::Nothing => {}

@@ -29,7 +29,7 @@ use Rattle.search.specs.declared.SearchAnswer.the-variants as SearchAnswers
 use Rattle.next.specs.declared.NextAnswer.{NextAnswer}
 use Rattle.next.specs.declared.NextAnswer.the-variants as NextAnswers
 use Rattle.gate.specs.Gate.{namedRules, highCeiling, ceilingReason}
-use Rattle.answers.specs.Kinds.{figuresIn}
+use Rattle.figures.specs.Kinds.{figuresIn}
 use Rattle.sequence.specs.Calls.{Call, search, next, Answer, ofSearch, ofNext, finderAt, foundLength}
 use Rattle.logged.specs.Log.{reportOf, reportRow, callRow, entriesOf, Made}
 

@@ -5,7 +5,8 @@ use mathlib.Core.Path.{_≡_}
 use mathlib.Core.List.{List, [], _∷_, _++_}
 use mathlib.Core.Option.{Option, some, none}
 use lib.ListN.{length, take, drop}
-use Rattle.answers.specs.Kinds.{Report, searchReport, nextReport, figuresIn}
+use Rattle.figures.specs.Kinds.{Report, figuresIn}
+use Rattle.answers.specs.Kinds.{searchReport, nextReport}
 use Rattle.sequence.specs.Calls.{Call, Answer, ofSearch, ofNext, Result, finderAt, foundLength}
 
 -- the kind and the figures of an answer

@@ -20,6 +20,7 @@ use Rattle.format.specs.Rules.{firstBroken, rulesWith, Accepted}
 use Rattle.model.specs.Model.{rowGraph, withImplied, graphIn, graphOf, stepsOf, listIf}
 use Rattle.model.specs.declared.Header.{Header}
 use Rattle.model.specs.Values.{Valid, headerOf}
+use Rattle.model.specs.Shown.{FilesWellFormed}
 use Rattle.format.proofs.Reasons.{none-clear, not-not}
 use Rattle.format.proofs.Kept.{states-kept, length-kept, row-first-kept, rows-ascend-kept, row-last-kept, targets-kept, order-kept, spare-kept, row-end-within}
 use Rattle.model.proofs.Implied.{implied-length, staying-well-formed}
@@ -144,7 +145,7 @@ facts-well-formed {f} F table =
     }
 
 -- the graph of an accepted file is well formed, whichever mark table is named
-pub accepted-well-formed : (f : List ℕ) (t : ℕ) → Accepted f → WellFormed (graphOf f t)
+pub accepted-well-formed : FilesWellFormed
 accepted-well-formed f t a = staying-well-formed (stays f) (facts-well-formed (accepted-facts f a) t)
 
 -- the graph read by a valid header is the file's own, with the mark table that the header names

@@ -2,3 +2,4 @@
 pub mod Model
 pub mod Values
 pub mod Stays
+pub mod Shown

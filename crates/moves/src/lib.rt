@@ -93,15 +93,15 @@ pub fn retreat(
     file: &[u8],
     h: Header,
     work: &[u16],
-    length: Transitions,
+    transitions: Transitions,
     place: usize,
     passed: Passed,
 ) -> Passed
-    requires { ⌜ Prepared (now file) h (now work) (length .0) ⌝ }
-    requires { ⌜ place ≤ length .0 ⌝ }
+    requires { ⌜ Prepared (now file) h (now work) (transitions .0) ⌝ }
+    requires { ⌜ place ≤ transitions .0 ⌝ }
     requires { ⌜ StatesTo h (now work) place ⌝ }
-    requires { ⌜ KnownFrom (now file) h (now work) (length .0) place passed ⌝ }
-    ensures { λ r. ⌜ PassedAt (now (file .entry)) h (now (work .entry)) (length .0) place r ⌝ }
+    requires { ⌜ KnownFrom (now file) h (now work) (transitions .0) place passed ⌝ }
+    ensures { λ r. ⌜ PassedAt (now (file .entry)) h (now (work .entry)) (transitions .0) place r ⌝ }
 {
     let start = start_back(h, work, place, passed.start);
     let mark = mark_back(file, h, work, place, passed.mark);
@@ -144,17 +144,17 @@ pub fn append(
     file: &[u8],
     h: Header,
     work: &mut [u16],
-    length: Transitions,
+    transitions: Transitions,
     place: usize,
     t: usize,
     passed: Passed,
 ) -> Passed
-    requires { ⌜ Prepared (now file) h (now work) (length .0) ⌝ }
-    requires { ⌜ place < length .0 ⌝ }
+    requires { ⌜ Prepared (now file) h (now work) (transitions .0) ⌝ }
+    requires { ⌜ place < transitions .0 ⌝ }
     requires { ⌜ StatesTo h (now work) place ⌝ }
     requires { ⌜ t < h .states ⌝ }
-    requires { ⌜ PassedAt (now file) h (now work) (length .0) place passed ⌝ }
-    ensures { λ r. ⌜ Appended (now (file .entry)) h (now (work .entry)) (now (work .exit)) (length .0) place t r ⌝ }
+    requires { ⌜ PassedAt (now file) h (now work) (transitions .0) place passed ⌝ }
+    ensures { λ r. ⌜ Appended (now (file .entry)) h (now (work .entry)) (now (work .exit)) (transitions .0) place t r ⌝ }
 {
     put(work, place, t);
     let start = start_after(h, work, place, passed.start);

@@ -18,7 +18,7 @@ use Rattle.next.specs.declared.NextAnswer.the-variants as NextAnswers
 
 -- A next not refused: found (L, k), or no more.
 pub data Followed : Type 0 where
-  found : (length loopStart : ℕ) → Followed
+  found : (l k : ℕ) → Followed
   noMore : Followed
 
 -- which outcome each answer of the code's next is

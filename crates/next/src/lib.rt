@@ -11,10 +11,10 @@ ghost use Rattle.model.specs.Values.{Valid};
 ghost use Rattle.gate.specs.Gate.{workOf};
 ghost use Rattle.candidates.specs.Promises.{RoundsReady};
 ghost use Rattle.next.specs.Next.{nextOutcomeOf, nextOutcome, nextAnswer};
-use cursor::ALL_ROUNDS;
-use cursor::Begun;
-use cursor::FULL_CEILING;
-use cursor::begin;
+use begun::ALL_ROUNDS;
+use begun::Begun;
+use begun::FULL_CEILING;
+use begun::begin;
 use cursor::to_list;
 use cursor::to_next;
 use cursor::write_list;
@@ -37,40 +37,40 @@ pub enum NextAnswer {
 fn next_list(
     file: &[u8],
     h: Header,
-    length: Transitions,
+    transitions: Transitions,
     earlier: &[u16],
     answer: &mut [u16],
     work: &mut [u16],
 ) -> NextAnswer
     requires { ⌜ RoundsReady (now file) h (now work) ⌝ }
-    requires { ⌜ leastLength (graphIn (now file) h) ≡ some (length .0) ⌝ }
+    requires { ⌜ leastLength (graphIn (now file) h) ≡ some (transitions .0) ⌝ }
     ensures outcome { λ r. ⌜ nextOutcomeOf r
         ≡ nextOutcome (now (file .entry)) (h .table) (now (earlier .entry))
-        (lib.ListN.length (now (answer .entry)))
-        (lib.ListN.length (now (work .entry))) ⌝ }
+        (length (now (answer .entry)))
+        (length (now (work .entry))) ⌝ }
     ensures answer { λ _. ⌜ now (answer .exit)
         ≡ nextAnswer (now (file .entry)) (h .table) (now (earlier .entry)) (now (answer .entry))
-        (lib.ListN.length (now (work .entry))) ⌝ }
-    ensures kept { λ _. ⌜ lib.ListN.length (now (work .exit)) ≡ lib.ListN.length (now (work .entry)) ⌝ }
+        (length (now (work .entry))) ⌝ }
+    ensures kept { λ _. ⌜ length (now (work .exit)) ≡ length (now (work .entry)) ⌝ }
 {
-    if !is_lasso(file, h, earlier, length) {
+    if !is_lasso(file, h, earlier, transitions) {
         return NextAnswer::Refused(13);
     }
-    if 4096 < length.0 {
+    if 4096 < transitions.0 {
         return NextAnswer::Refused(14);
     }
-    to_list(file, h, length, earlier, work);
-    if !to_next(file, h, length, work) {
+    to_list(file, h, transitions, earlier, work);
+    if !to_next(file, h, transitions, work) {
         return NextAnswer::NoMore;
     }
-    let entries = length.entries();
+    let entries = transitions.entries();
     let room = Entries(answer.len());
     if room.0 < entries.0 {
         return NextAnswer::Refused(15);
     }
-    let k = write_list(h, work, length, answer);
+    let k = write_list(h, work, transitions, answer);
     let loop_start = k as u16;
-    NextAnswer::Found(length, loop_start)
+    NextAnswer::Found(transitions, loop_start)
 }
 
 // All rounds and then, if there is an accepting path, the one after the earlier list. The rounds are never stopped.
@@ -82,20 +82,20 @@ fn next_of_model(
     work: &mut [u16],
 ) -> NextAnswer
     requires { ⌜ Valid (now file) h ⌝ }
-    requires { ⌜ 6 * h .states ≤ lib.ListN.length (now work) ⌝ }
+    requires { ⌜ 6 * h .states ≤ length (now work) ⌝ }
     ensures outcome { λ r. ⌜ nextOutcomeOf r
         ≡ nextOutcome (now (file .entry)) (h .table) (now (earlier .entry))
-        (lib.ListN.length (now (answer .entry))) (lib.ListN.length (now (work .entry))) ⌝ }
+        (length (now (answer .entry))) (length (now (work .entry))) ⌝ }
     ensures answer { λ _. ⌜ now (answer .exit)
         ≡ nextAnswer (now (file .entry)) (h .table) (now (earlier .entry)) (now (answer .entry))
-        (lib.ListN.length (now (work .entry))) ⌝ }
-    ensures kept { λ _. ⌜ lib.ListN.length (now (work .exit)) ≡ lib.ListN.length (now (work .entry)) ⌝ }
+        (length (now (work .entry))) ⌝ }
+    ensures kept { λ _. ⌜ length (now (work .exit)) ≡ length (now (work .entry)) ⌝ }
 {
     let begun = begin(file, h, Transitions(FULL_CEILING), ALL_ROUNDS, work);
     match begun {
         Begun::Stopped(_) => NextAnswer::Refused(13),
         Begun::NoneWithin(_) => NextAnswer::Refused(13),
-        Begun::Length(length, _) => next_list(file, h, length, earlier, answer, work),
+        Begun::Length(transitions, _) => next_list(file, h, transitions, earlier, answer, work),
     }
 }
 

@@ -14,8 +14,8 @@ ghost use Rattle.paths.specs.Breaks.{breakOf, firstBreak};
 use lasso::Entries;
 use lasso::Transitions;
 use model::Header;
-use model::has_edge;
 use model::is_marked;
+use model_edges::has_edge;
 use table::get;
 
 // The first place where a list breaks, counted from 0: none, or a place, which may be as great as a list is long.
@@ -112,13 +112,13 @@ pub fn closes(file: &[u8], h: Header, list: &[u16]) -> bool
 }
 
 // The list is a lasso of the given length.
-pub fn is_lasso(file: &[u8], h: Header, list: &[u16], length: Transitions) -> bool
+pub fn is_lasso(file: &[u8], h: Header, list: &[u16], transitions: Transitions) -> bool
     requires { ⌜ Valid (now file) h ⌝ }
     ensures { λ r. ⌜ r
         ≡ (lassob (graphIn (now (file .entry)) h) (now (list .entry))
-        && eqb (edges (now (list .entry))) (length .0)) ⌝ }
+        && eqb (edges (now (list .entry))) (transitions .0)) ⌝ }
 {
-    let entries = length.entries();
+    let entries = transitions.entries();
     let given = Entries(list.len());
     if given.0 != entries.0 {
         return false;

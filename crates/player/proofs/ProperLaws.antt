@@ -15,18 +15,17 @@ use Rattle.lasso.specs.Lists.{pick}
 use Rattle.lasso.specs.Graph.{Graph}
 use Rattle.lasso.proofs.Tests.{fst, snd, either, T-false, eq-or-apart}
 use Rattle.model.specs.Model.{graphOf}
-use Rattle.format.specs.Rules.{Accepted}
 use Rattle.gate.specs.Gate.{asking, noTable}
 use Rattle.next.specs.Next.{notShortest}
 use Rattle.next.proofs.NextLaws.{notShortest-apart}
 use Rattle.sequence.specs.Calls.{Call, search, next, tableNamed, Result, finderAt, received}
-use Rattle.sequence.specs.Book.{bookResults}
 use Rattle.sequence.specs.Claim.{lastReceived, Lent, ProperCall, Proper}
 use Rattle.sequence.proofs.Places.{roll-entries}
 use Rattle.sequence.proofs.Sequence.{condition-3}
 use Rattle.script.specs.Commands.{action, markTable, third, allowance, lentList, commandLength, overb, callOf}
 use Rattle.script.proofs.CommandLaws.{action-known, call-search, call-copy}
-use Rattle.player.specs.Played.{keepCopy, callsOf, played, results, copyb, copiesb}
+use Rattle.player.specs.Played.{keepCopy, callsOf, played, copyb, copiesb}
+use Rattle.player.specs.Log.{CopiesPlayed}
 use Rattle.player.proofs.PlayedLaws.{calls-over, calls-more}
 
 -- the empty list is no shortest accepting path
@@ -112,6 +111,5 @@ pub played-proper : (f : List ℕ) (t : ℕ) (s a w log : List ℕ) → T (copie
 played-proper f t s a w log h = copies-proper f t (length log / 4) s none a w h
 
 -- so its results on an accepted file are the book's
-pub played-book : (f : List ℕ) (t : ℕ) (s a w log : List ℕ) → Accepted f → T (copiesb t (length log / 4) s)
-    → results f s a w log ≡ bookResults f 0 (played f s a w log)
+pub played-book : CopiesPlayed
 played-book f t s a w log accepted h = condition-3 f accepted t (played f s a w log) (played-proper f t s a w log h) .results

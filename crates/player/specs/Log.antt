@@ -1,16 +1,17 @@
 -- The log and the tables after a sequence of calls.
-use Prim.Native.Nat.{ℕ, _*_}
+use Prim.Native.Nat.{ℕ, _*_, _/_}
 use mathlib.Core.Path.{_≡_}
 use mathlib.Core.List.{List, [], _∷_, _++_}
 use mathlib.Core.Option.{none}
 use lib.ListN.{length, drop}
+use lib.Dec.{T}
 use Rattle.lasso.specs.Lists.{collect}
 use Rattle.format.specs.Rules.{Accepted}
 use Rattle.sequence.specs.Calls.{Result}
 use Rattle.sequence.specs.Book.{bookResults}
 use Rattle.sequence.specs.Claim.{Proper}
 use Rattle.logged.specs.Log.{callRow}
-use Rattle.player.specs.Played.{played}
+use Rattle.player.specs.Played.{played, results, copiesb}
 
 -- the numbers of some calls, four for each, one after another
 abbrev pub rows : List Result → List ℕ
@@ -37,3 +38,10 @@ abbrev pub BookPlayed : (f script a w log log' : List ℕ) → Type 0
 BookPlayed f script a w log log' =
     Accepted f → (t : ℕ) → Proper f t none (played f script a w log)
     → log' ≡ logAfterAll log (bookResults f 0 (played f script a w log))
+
+-- condition 3 of the scripts whose commands name one mark table and lend no list of their own, save those that 22 refuses: if
+-- the file is accepted, what the finder does at each call that is played is the book's
+abbrev pub CopiesPlayed : Type 0
+CopiesPlayed =
+    (f : List ℕ) (t : ℕ) (script a w log : List ℕ) → Accepted f → T (copiesb t (length log / 4) script)
+    → results f script a w log ≡ bookResults f 0 (played f script a w log)

@@ -1,2 +1,1 @@
--- The laws of the model file of a combination.
-pub mod CombinedLaws
+-- The proofs of the model file of a combination.

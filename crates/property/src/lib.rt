@@ -6,6 +6,8 @@ ghost use Rattle.lasso.specs.Lists.{keep};
 ghost use Rattle.format.specs.Bytes.{words, bitb};
 ghost use Rattle.format.specs.Layout.{rowTargets, markBit};
 ghost use Rattle.property.specs.Property.{propertyCheckOf, rowMasks, zeroMask, ValidProperty};
+use checking::check_head;
+use checking::check_tables;
 use format::bit;
 use format::edge_part;
 use format::entry_at;
@@ -15,8 +17,6 @@ use format::total_of;
 use format::word;
 use model::Checked;
 use model::Header;
-use model::check_head;
-use model::check_tables;
 
 // Applies the rules 1 to 11 in order; there is one mark table, and the total length counts the masks behind it.
 pub fn check_property(file: &[u8]) -> Checked

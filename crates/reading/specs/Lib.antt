@@ -1,3 +1,2 @@
--- What C's answer to a read tells, what counts as the input, and how many bytes of a model file decide.
+-- What C's answer to a read tells, and what counts as the input.
 pub mod Reading
-pub mod Sizes

@@ -1,8 +1,9 @@
-// Reading an input from a descriptor. An error is not the end of the input.
+// Reading an input from a descriptor. An error is not the end of the input. Each kind of input has a buffer of one size: one
+// byte more than the longest input has, so that no longer one passes for it, and no more is read than decides.
 ghost use mathlib.Core.Path.{_≡_};
-ghost use Prim.Native.Nat.{_≤_};
 ghost use lib.ListN.{length, take};
 ghost use Rattle.text.specs.Writing.{Within};
+ghost use Rattle.input_sizes.specs.Sizes.{fileBytes, lettersBytes, propertyBytes};
 ghost use Rattle.reading.specs.Reading.{failedRead, inputOf, FirstBytes};
 
 // What was read: so many bytes at the front of the buffer, and whether a read failed before the end of the input.
@@ -30,13 +31,12 @@ fn read_once(from: i32, buffer: &mut [u8]) -> Reading
     }
 }
 
-// Reads until enough bytes are read, the input ends or a read fails. The buffer has room for the bytes that are enough.
-pub fn read_input(from: i32, buffer: &mut [u8], enough: usize) -> Reading
-    requires { ⌜ enough ≤ length (now buffer) ⌝ }
+// Reads until the buffer is full, the input ends or a read fails.
+fn read_input(from: i32, buffer: &mut [u8]) -> Reading
     ensures { λ r. ⌜ Within (r .count) (now (buffer .exit)) ⌝ }
 {
     let mut count = 0;
-    while count < enough {
+    while count < buffer.len() {
         let reading = read_once(from, &mut buffer[count..]);
         let more = reading.count;
         if more == 0 {
@@ -51,6 +51,30 @@ pub fn read_input(from: i32, buffer: &mut [u8], enough: usize) -> Reading
         count: count,
         failed: false,
     }
+}
+
+// Reads a model file.
+pub fn read_model(from: i32, buffer: &mut [u8]) -> Reading
+    requires { ⌜ length (now buffer) ≡ fileBytes ⌝ }
+    ensures { λ r. ⌜ Within (r .count) (now (buffer .exit)) ⌝ }
+{
+    read_input(from, buffer)
+}
+
+// Reads the letters of a rule.
+pub fn read_letters(from: i32, buffer: &mut [u8]) -> Reading
+    requires { ⌜ length (now buffer) ≡ lettersBytes ⌝ }
+    ensures { λ r. ⌜ Within (r .count) (now (buffer .exit)) ⌝ }
+{
+    read_input(from, buffer)
+}
+
+// Reads a property.
+pub fn read_property(from: i32, buffer: &mut [u8]) -> Reading
+    requires { ⌜ length (now buffer) ≡ propertyBytes ⌝ }
+    ensures { λ r. ⌜ Within (r .count) (now (buffer .exit)) ⌝ }
+{
+    read_input(from, buffer)
 }
 
 // The number of bytes at the front of what was read that count as the input: none if a read failed, else at most so many.

@@ -23,23 +23,23 @@ use text::write_figure;
 // Writes the line of the current list, and the list itself to the answer table.
 fn write_current(
     h: Header,
-    length: Transitions,
+    transitions: Transitions,
     answer: &mut [u16],
     work: &[u16],
     text: &mut [u8],
     at: usize,
 ) -> usize
-    requires { ⌜ length .0 ≤ lib.ListN.length (now work) ⌝ }
-    requires { ⌜ length .0 < lib.ListN.length (now answer) ⌝ }
+    requires { ⌜ transitions .0 ≤ length (now work) ⌝ }
+    requires { ⌜ transitions .0 < length (now answer) ⌝ }
     requires { ⌜ h .start < 65536 ⌝ }
-    requires { ⌜ at + lib.ListN.length (line (listIn h (now work) (length .0))) ≤ lib.ListN.length (now text) ⌝ }
+    requires { ⌜ at + length (line (listIn h (now work) (transitions .0))) ≤ length (now text) ⌝ }
     ensures line { λ r. ⌜ Wrote (now (text .entry)) at
-        (line (listIn h (now (work .entry)) (length .0))) (now (text .exit)) r ⌝ }
+        (line (listIn h (now (work .entry)) (transitions .0))) (now (text .exit)) r ⌝ }
     ensures list { λ _. ⌜ now (answer .exit)
-        ≡ listIn h (now (work .entry)) (length .0) ++ drop (length .0 + 1) (now (answer .entry)) ⌝ }
+        ≡ listIn h (now (work .entry)) (transitions .0) ++ drop (transitions .0 + 1) (now (answer .entry)) ⌝ }
 {
-    let k = write_list(h, work, length, answer);
-    write_line(text, at, answer, k, length)
+    let k = write_list(h, work, transitions, answer);
+    write_line(text, at, answer, k, transitions)
 }
 
 // Writes the closing line.
@@ -57,29 +57,29 @@ fn write_closing(text: &mut [u8], at: usize, count: usize, more: bool) -> usize
 pub fn write_lists(
     file: &[u8],
     h: Header,
-    length: Transitions,
+    transitions: Transitions,
     answer: &mut [u16],
     work: &mut [u16],
     text: &mut [u8],
     at: usize,
 ) -> usize
     requires { ⌜ RoundsReady (now file) h (now work) ⌝ }
-    requires { ⌜ leastLength (graphIn (now file) h) ≡ some (length .0) ⌝ }
-    requires { ⌜ length .0 < lib.ListN.length (now answer) ⌝ }
-    requires { ⌜ at + listsRoom ≤ lib.ListN.length (now text) ⌝ }
+    requires { ⌜ leastLength (graphIn (now file) h) ≡ some (transitions .0) ⌝ }
+    requires { ⌜ transitions .0 < length (now answer) ⌝ }
+    requires { ⌜ at + listsRoom ≤ length (now text) ⌝ }
     ensures text { λ r. ⌜ Wrote (now (text .entry)) at
         (listsText (roll (graphIn (now (file .entry)) h))) (now (text .exit)) r ⌝ }
     ensures answer { λ _. ⌜ now (answer .exit)
         ≡ written (lastPrinted (roll (graphIn (now (file .entry)) h))) (now (answer .entry)) ⌝ }
-    ensures kept { λ _. ⌜ lib.ListN.length (now (work .exit)) ≡ lib.ListN.length (now (work .entry)) ⌝ }
+    ensures kept { λ _. ⌜ length (now (work .exit)) ≡ length (now (work .entry)) ⌝ }
 {
-    to_first(file, h, length, work);
+    to_first(file, h, transitions, work);
     let mut next = at;
     let mut count = 0;
     loop {
-        next = write_current(h, length, answer, work, text, next);
+        next = write_current(h, transitions, answer, work, text, next);
         count += 1;
-        let more = to_next(file, h, length, work);
+        let more = to_next(file, h, transitions, work);
         if !more {
             return write_closing(text, next, count, false);
         }

@@ -12,9 +12,9 @@ use Rattle.lasso.proofs.Tests.{lt-or-ge}
 use Rattle.lasso.proofs.Least.{isLeast-has}
 use Rattle.frontier.specs.Regions.{entryOf, valueOf}
 use Rattle.lasso.specs.Limit.{under}
-use Rattle.spread.specs.Hit.{hitLength}
+use Rattle.hits.specs.Hit.{hitLength}
 use Rattle.lasso.proofs.UnderLaws.{under-lt, under-ge}
-use Rattle.spread.proofs.HitLaws.{hitLength-cong, hitLength-under, hitLength-least}
+use Rattle.hits.proofs.HitLaws.{hitLength-cong, hitLength-under, hitLength-least}
 
 -- an entry stands for the value that it was made for
 pub valueOf-entryOf : (a : Option ℕ) → valueOf (entryOf a) ≡ a

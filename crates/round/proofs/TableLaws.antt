@@ -19,9 +19,9 @@ use Rattle.table.specs.Changes.{SameOutside}
 use Rattle.table.proofs.Laws.{sameOutside-refl, sameOutside-widen, sameOutside-trans, sameOutside-set}
 use Rattle.frontier.specs.Regions.{entry, entryOf, valueOf}
 use Rattle.lasso.specs.Limit.{under}
-use Rattle.spread.specs.Hit.{hitLength}
+use Rattle.hits.specs.Hit.{hitLength}
 use Rattle.walks.specs.Through.{DistancesWithin}
-use Rattle.spread.specs.Promises.{FoundFrom, ExhaustedFrom}
+use Rattle.edge_search.specs.Promises.{FoundFrom, ExhaustedFrom}
 use Rattle.frontier.specs.Buckets.{sources}
 use Rattle.lasso.proofs.UnderLaws.{under-some}
 use Rattle.candidates.specs.Promises.{RoundsReady}

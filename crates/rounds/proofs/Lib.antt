@@ -1,3 +1,2 @@
 -- The laws of the rounds of a search.
-pub mod LimitLaws
 pub mod RecordLaws

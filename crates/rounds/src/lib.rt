@@ -1,61 +1,19 @@
 // The rounds of a search. Region 0 of the working table holds the distances from the start throughout.
 ghost use mathlib.Core.Path.{_≡_};
-ghost use mathlib.Core.Option.{some};
-ghost use Prim.Native.Nat.{_*_, _<_, min};
-ghost use lib.ListN.{length, getD};
-ghost use Rattle.lasso.specs.Rounds.{candidates, bestLength, lesser, afterRound, afterAllowed};
+ghost use Prim.Native.Nat.{_*_, _<_};
+ghost use lib.ListN.{length};
+ghost use Rattle.lasso.specs.Rounds.{candidates, afterRound, afterAllowed};
 ghost use Rattle.lasso.specs.Values.{recordOf};
 ghost use Rattle.model.specs.Model.{graphIn};
 ghost use Rattle.table.specs.Changes.{SameOutside};
 ghost use Rattle.candidates.specs.Promises.{RoundsReady};
+use after_round::after_round;
 use candidates::candidate_at;
 use candidates::is_candidate;
 use lasso::Best;
 use lasso::RoundRecord;
 use lasso::Transitions;
 use model::Header;
-use round::round;
-
-// The lesser of two numbers.
-fn lower(a: usize, b: usize) -> usize
-    ensures { λ r. ⌜ r ≡ min a b ⌝ }
-{
-    if a < b { a } else { b }
-}
-
-// The greatest length that a round needs to find: none above the ceiling counts, no accepting path is longer than the
-// number of states, and none that is longer than the best so far counts. No other function of the rounds acts on the ceiling.
-fn limit_of(so_far: RoundRecord, n: usize, ceiling: Transitions) -> usize
-    ensures { λ limit. ⌜ lesser (bestLength (recordOf «so_far»)) (some (min n (ceiling .0))) ≡ some limit ⌝ }
-{
-    let bound = lower(n, ceiling.number());
-    let best = so_far.best;
-    match best {
-        Best::None => bound,
-        Best::Length(length) => lower(length.number(), bound),
-    }
-}
-
-// The record after the round for candidate r, whose place is the count. A length above the best need not be found; the
-// best is kept, also one above the ceiling.
-fn after_round(
-    file: &[u8],
-    h: Header,
-    work: &mut [u16],
-    r: usize,
-    ceiling: Transitions,
-    so_far: RoundRecord,
-) -> RoundRecord
-    requires { ⌜ RoundsReady (now file) h (now work) ⌝ }
-    requires { ⌜ «so_far» .done < length (candidates (graphIn (now file) h)) ⌝ }
-    requires { ⌜ r ≡ getD (candidates (graphIn (now file) h)) («so_far» .done) 0 ⌝ }
-    ensures { λ a. ⌜ recordOf a ≡ afterRound (graphIn (now (file .entry)) h) (ceiling .0) (recordOf «so_far») ⌝ }
-    ensures same { λ _. ⌜ SameOutside (2 * h .states) (6 * h .states) (now (work .entry)) (now (work .exit)) ⌝ }
-{
-    let limit = limit_of(so_far, h.states, ceiling);
-    let found = round(file, h, work, r, limit);
-    so_far.with_round(found)
-}
 
 // The record after one more round under a ceiling: the one for the candidate whose place is the count.
 pub fn next_round(

@@ -23,7 +23,7 @@ use Rattle.search.specs.declared.SearchAnswer.the-variants as SearchAnsw
 -- A search not refused: stopped with the record, found (L, k, rounds), or none within the ceiling (rounds).
 pub data Searched : Type 0 where
   stopped : Record → Searched
-  found : (length loopStart rounds : ℕ) → Searched
+  found : (l k rounds : ℕ) → Searched
   noneWithin : (rounds : ℕ) → Searched
 
 -- which outcome each answer of the code's search is
@@ -72,17 +72,17 @@ abbrev pub searchOutcome : List ℕ → Ask → ℕ → ℕ → Outcome Searched
 searchOutcome f ask answer work =
     outcome (firstBroken (searchReasons f ask answer work)) (searched (graphAsked f ask) ask)
 
--- a search asks enough: it names that mark table, it is allowed so many rounds, its ceiling is not below the length, and 21
+-- a search asks enough: it names that mark table, it is allowed so many rounds, its ceiling is not below that length, and 21
 -- does not refuse it
-pub record AsksEnough (t rounds length : ℕ) (ask : Ask) : Type 0 where
+pub record AsksEnough (t rounds l : ℕ) (ask : Ask) : Type 0 where
   pub named : ask .table ≡ t
   pub allowed : rounds ≤ ask .allowance
-  pub within : length ≤ ask .ceiling .0
+  pub within : l ≤ ask .ceiling .0
   pub not-high : ask .ceiling .0 ≤ 4096
 
 -- something is so of every search that asks enough
-abbrev pub WithEnough : (t rounds length : ℕ) → (Ask → Type 0) → Type 0
-WithEnough t rounds length P = (ask : Ask) → AsksEnough t rounds length ask → P ask
+abbrev pub WithEnough : (t rounds l : ℕ) → (Ask → Type 0) → Type 0
+WithEnough t rounds l P = (ask : Ask) → AsksEnough t rounds l ask → P ask
 
 -- the list that a search writes
 abbrev pub searchList : List ℕ → Ask → ℕ → ℕ → Option (List ℕ)

@@ -13,8 +13,8 @@ ghost use Rattle.model.specs.Values.{Valid};
 ghost use Rattle.gate.specs.Gate.{workOf};
 ghost use Rattle.candidates.specs.Promises.{RoundsReady};
 ghost use Rattle.search.specs.Search.{searchOutcomeOf, searchOutcome, searchAnswer, WithEnough};
-use cursor::Begun;
-use cursor::begin;
+use begun::Begun;
+use begun::begin;
 use cursor::to_first;
 use cursor::write_list;
 use gate::Ask;
@@ -41,33 +41,33 @@ pub enum SearchAnswer {
 fn first_list(
     file: &[u8],
     h: Header,
-    length: Transitions,
+    transitions: Transitions,
     rounds: u16,
     answer: &mut [u16],
     work: &mut [u16],
 ) -> SearchAnswer
     requires { ⌜ RoundsReady (now file) h (now work) ⌝ }
-    requires { ⌜ leastLength (graphIn (now file) h) ≡ some (length .0) ⌝ }
-    requires { ⌜ rounds ≡ lib.ListN.length (candidates (graphIn (now file) h)) ⌝ }
-    ensures outcome { λ r. ⌜ WithEnough (h .table) rounds (length .0) (λ ask. searchOutcomeOf r
+    requires { ⌜ leastLength (graphIn (now file) h) ≡ some (transitions .0) ⌝ }
+    requires { ⌜ rounds ≡ length (candidates (graphIn (now file) h)) ⌝ }
+    ensures outcome { λ r. ⌜ WithEnough (h .table) rounds (transitions .0) (λ ask. searchOutcomeOf r
         ≡ searchOutcome (now (file .entry)) ask
-        (lib.ListN.length (now (answer .entry))) (lib.ListN.length (now (work .entry)))) ⌝ }
-    ensures answer { λ _. ⌜ WithEnough (h .table) rounds (length .0) (λ ask. now (answer .exit)
-        ≡ searchAnswer (now (file .entry)) ask (now (answer .entry)) (lib.ListN.length (now (work .entry)))) ⌝ }
-    ensures kept { λ _. ⌜ lib.ListN.length (now (work .exit)) ≡ lib.ListN.length (now (work .entry)) ⌝ }
+        (length (now (answer .entry))) (length (now (work .entry)))) ⌝ }
+    ensures answer { λ _. ⌜ WithEnough (h .table) rounds (transitions .0) (λ ask. now (answer .exit)
+        ≡ searchAnswer (now (file .entry)) ask (now (answer .entry)) (length (now (work .entry)))) ⌝ }
+    ensures kept { λ _. ⌜ length (now (work .exit)) ≡ length (now (work .entry)) ⌝ }
 {
-    if 4096 < length.0 {
+    if 4096 < transitions.0 {
         return SearchAnswer::Refused(14);
     }
-    let entries = length.entries();
+    let entries = transitions.entries();
     let room = Entries(answer.len());
     if room.0 < entries.0 {
         return SearchAnswer::Refused(15);
     }
-    to_first(file, h, length, work);
-    let k = write_list(h, work, length, answer);
+    to_first(file, h, transitions, work);
+    let k = write_list(h, work, transitions, answer);
     let loop_start = k as u16;
-    SearchAnswer::Found(length, loop_start, rounds)
+    SearchAnswer::Found(transitions, loop_start, rounds)
 }
 
 // The rounds that the allowance admits and, if it suffices, the first of the shortest accepting paths, if they are within
@@ -94,7 +94,14 @@ fn search_model(
     match begun {
         Begun::Stopped(record) => SearchAnswer::Stopped(record),
         Begun::NoneWithin(rounds) => SearchAnswer::NoneWithin(rounds),
-        Begun::Length(length, rounds) => first_list(file, h, length, rounds, answer, work),
+        Begun::Length(transitions, rounds) => first_list(
+            file,
+            h,
+            transitions,
+            rounds,
+            answer,
+            work,
+        ),
     }
 }
 

@@ -2,14 +2,17 @@
 -- last, which list follows it, and what one more list adds.
 use Prim.Native.Nat.{ℕ, zero, suc, _≤_, _<_}
 use native.Mathlib.Omega.{arith}
-use mathlib.Core.Path.{_≡_, refl, ap, subst}
-use mathlib.Core.Logic.{_↔_}
+use native.Mathlib.Nat.{eq-or-lt-of-le}
+use borrow.Author.Tests.{eq-eqb, ne-eqb, le-leb, lt-leb}
+use mathlib.Core.Path.{_≡_, refl, sym, _∙_, ap, subst}
+use mathlib.Core.Logic.{_↔_, inl, inr}
+use mathlib.Core.Bool.{Bool, true, false}
 use mathlib.Core.List.{List, [], _∷_, _++_, List·Memᴰ, List·Memᴰ·head, List·Memᴰ·tail, List·Memᴰ·not-nil}
 use mathlib.Core.Option.{Option, some, none}
 use lib.ListN.{length, getD, take, getElem?}
 use lib.Seq.{take-append-seam}
-use lib.Dec.{eqb, eqb·zero-suc, eqb·suc-suc}
-use Rattle.lasso.proofs.Tests.{T-true, eq→eqb}
+use lib.Dec.{eqb}
+use Rattle.lasso.specs.Lists.{pick}
 use Rattle.lasso.specs.Graph.{Graph, edges}
 use Rattle.lasso.specs.Roll.{ofLeast, leastLength, roll, rollWithin}
 use Rattle.lasso.specs.Following.{following}
@@ -18,7 +21,7 @@ use Rattle.lasso.proofs.OrderLaws.{Before, following-at}
 use Rattle.lasso.proofs.RollLaws.{ofLength-length}
 use Rattle.lasso.proofs.CeilingLaws.{within-roll}
 use Rattle.outcomes.specs.Tables.{written}
-use Rattle.sequence.specs.Book.{listAt}
+use Rattle.sequence.specs.Book.{noneLeft, listAt}
 
 -- a place that holds an entry is a place of the list
 pub getElem-lt : {A : Type 0} {x : A} (xs : List A) (i : ℕ) → getElem? xs i ≡ some x → i < length xs
@@ -34,11 +37,32 @@ getElem-none (x ∷ xs) (suc i) h =
     let (to, from) = getElem-none xs i (omega arith) in
     (λ e. omega (arith, to e), λ e. from (omega arith))
 
+-- a number that is less is not equal
+less-eqb : (a b : ℕ) → a < b → eqb a b ≡ false
+less-eqb a b l = ne-eqb a b (λ e. omega arith)
+
+-- before the number of lists a list is left
+one-left : (rs : List (List ℕ)) (h : ℕ) → h < length rs → noneLeft rs h ≡ false
+one-left rs h less = search (less-eqb, lt-leb)
+
+-- there none is
+none-left : (rs : List (List ℕ)) (h : ℕ) → h ≡ length rs → noneLeft rs h ≡ true
+none-left rs h e = let le : length rs ≤ h = omega arith in search (eq-eqb, le-leb)
+
+-- a place of the list holds its entry, whatever stands for none
+getElem-some : {A : Type 0} (xs : List A) (i : ℕ) (d : A) → i < length xs → getElem? xs i ≡ some (getD xs i d)
+getElem-some [] i d l = absurd (omega arith)
+getElem-some (x ∷ xs) zero d l = refl
+getElem-some (x ∷ xs) (suc i) d l = getElem-some xs i d (omega arith)
+
 -- up to the end of a list, the book's list at a place is what the place holds
 pub listAt-getElem : (rs : List (List ℕ)) (h : ℕ) → h ≤ length rs → listAt rs h ≡ getElem? rs h
-listAt-getElem [] h l = rw (T-true (eqb h 0) (eq→eqb h 0 (omega arith)))
-listAt-getElem (x ∷ rs) zero l = rw (eqb·zero-suc (length rs))
-listAt-getElem (x ∷ rs) (suc h) l = rw (eqb·suc-suc h (length rs)) (listAt-getElem rs h (omega arith))
+listAt-getElem rs h l =
+    let due : Bool → Option (List ℕ) = λ left. pick left none (some (getD rs h [])) in
+    elim (eq-or-lt-of-le l) [
+      | inl e ↦ ap due (none-left rs h e) ∙ sym (getElem-none rs h l .1 e)
+      | inr less ↦ ap due (one-left rs h less) ∙ sym (getElem-some rs h [] less)
+    ]
 
 -- what a place holds is an entry
 pub getElem-mem : {A : Type 0} {x : A} (xs : List A) (i : ℕ) → getElem? xs i ≡ some x → List·Memᴰ x xs

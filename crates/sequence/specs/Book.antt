@@ -1,5 +1,6 @@
 -- The book of condition 3: it is fed the file and the calls' arguments, and keeps one number h.
 use Prim.Native.Nat.{ℕ, suc}
+use mathlib.Core.Bool.{Bool}
 use mathlib.Core.List.{List, [], _∷_, _++_}
 use mathlib.Core.Option.{Option, some, none}
 use lib.ListN.{length, getD}
@@ -20,9 +21,13 @@ pub record Page : Type 0 where
   pub result : Result
   pub after : ℕ
 
--- the list that a next gets in the book: none if h is the number of lists in the roll, otherwise the one at place h
+-- no list of the roll is left: h is their number
+abbrev pub noneLeft : List (List ℕ) → ℕ → Bool
+noneLeft rs h = eqb h (length rs)
+
+-- the list that a next gets in the book: none if none is left, otherwise the one at place h
 abbrev pub listAt : List (List ℕ) → ℕ → Option (List ℕ)
-listAt rs h = pick (eqb h (length rs)) none (some (getD rs h []))
+listAt rs h = pick (noneLeft rs h) none (some (getD rs h []))
 
 -- h after a search not refused: 1 if it found the roll's first list
 abbrev pub afterSearch : ℕ → Searched → ℕ

@@ -28,6 +28,7 @@ use Rattle.sheet_text.specs.SheetText.{rollText, textOf, sheetAsk, sheetRefusal
 use Rattle.roll_text.proofs.RoomLaws.{roll-room, lines-room, closing-room}
 use Rattle.sheet_head.proofs.HeadLaws.{head-room}
 use Rattle.sheet_text.proofs.SheetLaws.{headOf, rollText-some}
+use Rattle.sheet.specs.Sheet.{SheetsFit}
 
 -- a file that is not refused breaks none of 1 to 11
 refusal-accepted : (f : List ℕ) (answer work : ℕ) → sheetRefusal f answer work ≡ none → Accepted f
@@ -71,7 +72,7 @@ module _ (f : List ℕ) (accepted : Accepted f) where
           omega (arith, ap length q, length-append (headOf f) rest, length-append (figure shortestWord l) (listsText (roll (graphOf f 0))), headOf-room, listsText-room l e, figure-room shortestWord l (omega (arith, facts .states-range)))
 
 -- no sheet is longer than the room asked
-pub sheetText-length : (f : List ℕ) (answer work : ℕ) → length (sheetText f answer work) ≤ sheetRoom
+pub sheetText-length : SheetsFit
 sheetText-length f answer work = go (sheetRefusal f answer work) refl
   where
     go : (o : Option ℕ) → sheetRefusal f answer work ≡ o → length (textOf o f) ≤ sheetRoom

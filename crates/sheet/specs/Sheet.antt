@@ -1,7 +1,7 @@
 -- The sheet where it has room and where it has none: what is written, and the tables afterwards.
 use mathlib.Core.Bool.{Bool}
 use mathlib.Core.List.{List, []}
-use Prim.Native.Nat.{ℕ}
+use Prim.Native.Nat.{ℕ, _≤_}
 use lib.ListN.{length}
 use lib.Dec.{ltb}
 use Rattle.lasso.specs.Lists.{pick}
@@ -23,3 +23,7 @@ sheetAnswered f a w t = pick (smallText t) a (sheetAnswer f a (length w))
 -- the working table w afterwards: untouched if the text is too small
 abbrev pub sheetWorked : (f w t : List ℕ) → List ℕ
 sheetWorked f w t = pick (smallText t) w (workOf f 0 w)
+
+-- no sheet is longer than the room that is asked for its text
+abbrev pub SheetsFit : Type 0
+SheetsFit = (f : List ℕ) (answer work : ℕ) → length (sheetText f answer work) ≤ sheetRoom

@@ -11,10 +11,10 @@ ghost use Rattle.model.specs.Values.{Valid};
 ghost use Rattle.candidates.specs.Promises.{RoundsReady};
 ghost use Rattle.text.specs.Writing.{Wrote};
 ghost use Rattle.sheet_text.specs.SheetText.{sheetText, sheetAnswer, sheetRoom};
-use cursor::ALL_ROUNDS;
-use cursor::Begun;
-use cursor::FULL_CEILING;
-use cursor::begin;
+use begun::ALL_ROUNDS;
+use begun::Begun;
+use begun::FULL_CEILING;
+use begun::begin;
 use lasso::Entries;
 use lasso::Transitions;
 use model::Header;
@@ -28,32 +28,32 @@ use text::write_figure;
 fn write_shortest(
     file: &[u8],
     h: Header,
-    length: Transitions,
+    transitions: Transitions,
     rounds: u16,
     answer: &mut [u16],
     work: &mut [u16],
     text: &mut [u8],
 ) -> usize
     requires { ⌜ RoundsReady (now file) h (now work) × (h .table ≡ 0) ⌝ }
-    requires { ⌜ leastLength (graphIn (now file) h) ≡ some (length .0) ⌝ }
-    requires { ⌜ rounds ≡ lib.ListN.length (candidates (graphIn (now file) h)) ⌝ }
-    requires { ⌜ sheetRoom ≤ lib.ListN.length (now text) ⌝ }
+    requires { ⌜ leastLength (graphIn (now file) h) ≡ some (transitions .0) ⌝ }
+    requires { ⌜ rounds ≡ length (candidates (graphIn (now file) h)) ⌝ }
+    requires { ⌜ sheetRoom ≤ length (now text) ⌝ }
     ensures text { λ r. ⌜ Wrote (now (text .entry)) 0
-        (sheetText (now (file .entry)) (lib.ListN.length (now (answer .entry))) (lib.ListN.length (now (work .entry))))
+        (sheetText (now (file .entry)) (length (now (answer .entry))) (length (now (work .entry))))
         (now (text .exit)) r ⌝ }
     ensures answer { λ _. ⌜ now (answer .exit) ≡
-        sheetAnswer (now (file .entry)) (now (answer .entry)) (lib.ListN.length (now (work .entry))) ⌝ }
-    ensures kept { λ _. ⌜ lib.ListN.length (now (work .exit)) ≡ lib.ListN.length (now (work .entry)) ⌝ }
+        sheetAnswer (now (file .entry)) (now (answer .entry)) (length (now (work .entry))) ⌝ }
+    ensures kept { λ _. ⌜ length (now (work .exit)) ≡ length (now (work .entry)) ⌝ }
 {
-    let entries = length.entries();
+    let entries = transitions.entries();
     let room = Entries(answer.len());
     if room.0 < entries.0 {
         return write_refusal(text, 15);
     }
     let at = write_head(text, h, rounds as usize);
-    let number = length.number();
+    let number = transitions.number();
     let after_length = write_figure(text, at, b"shortest ", number);
-    write_lists(file, h, length, answer, work, text, after_length)
+    write_lists(file, h, transitions, answer, work, text, after_length)
 }
 
 // Writes the sheet of an accepted file.
@@ -81,10 +81,10 @@ pub fn sheet_model(
             let at = write_head(text, h, rounds as usize);
             write_bytes(text, at, b"none\n")
         }
-        Begun::Length(length, rounds) => write_shortest(
+        Begun::Length(transitions, rounds) => write_shortest(
             file,
             h,
-            length,
+            transitions,
             rounds,
             answer,
             work,

@@ -18,10 +18,11 @@ use Rattle.lasso.proofs.UnderLaws.{under-some, some-under, under-under}
 use Rattle.lasso.proofs.Walk.{Walk, walk-edge}
 use Rattle.frontier.specs.Regions.{entry, valueOf}
 use Rattle.frontier.specs.Buckets.{sources, Greatest, SourcesListed, Planned}
-use Rattle.spread.specs.Hit.{hitLength}
-use Rattle.spread.specs.Promises.{Apart, ApartInPlan, LevelListed, Bounds, BoundsInPlan, Spread}
-use Rattle.spread.specs.declared.SpreadAnswer.the-variants.{Length, Nothing}
-use Rattle.spread.proofs.HitLaws.{Timed, hitLength-least, hitLength-under}
+use Rattle.hits.specs.Hit.{hitLength}
+use Rattle.edge_search.specs.Promises.{Apart, ApartInPlan, Spread}
+use Rattle.spread.specs.Bounds.{LevelListed, Bounds, BoundsInPlan}
+use Rattle.edge_search.specs.declared.SpreadAnswer.the-variants.{Length, Nothing}
+use Rattle.hits.proofs.HitLaws.{Timed, hitLength-least, hitLength-under}
 
 -- a list of one entry is that entry alone
 pub only-one : (xs : List ℕ) (t : ℕ) → length xs ≡ 1 → getD xs 0 0 ≡ t → xs ≡ t ∷ []

@@ -1,7 +1,4 @@
--- The laws of hits, of the search's working table, and of what the searches find for their callers.
-pub mod HitLaws
-pub mod RowLaws
-pub mod EndLaws
+-- The laws of the search's working table, of its bound, and of what the searches find for their callers.
 pub mod SearchLaws
 pub mod BoundLaws
 pub mod ListLaws

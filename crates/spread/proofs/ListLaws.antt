@@ -9,7 +9,7 @@ use lib.Dec.{T, eqb, eqb→eq}
 use borrow.Author.Tests.{eqb-false}
 use Rattle.frontier.specs.Regions.{entry}
 use Rattle.frontier.specs.Buckets.{sources, Greatest, SourcesListed, Planned}
-use Rattle.spread.specs.Promises.{ListedAt}
+use Rattle.spread.specs.Bounds.{ListedAt}
 
 -- the cursor in the list of a level, while s is looked for: it names the greatest source of the level below a state above s
 pub record Looking (source : ℕ → Option ℕ) (n level s cursor : ℕ) : Type 0 where

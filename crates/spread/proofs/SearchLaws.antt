@@ -12,15 +12,15 @@ use Rattle.lasso.proofs.Least.{isLeast-unique}
 use Rattle.lasso.proofs.Walk.{Walk, walk-end-state}
 use Rattle.table.specs.Changes.{SameOutside}
 use Rattle.table.proofs.Laws.{sameOutside-trans}
-use Rattle.spread.specs.declared.SpreadAnswer.{SpreadAnswer}
-use Rattle.spread.specs.declared.SpreadAnswer.the-variants.{Length, Nothing}
+use Rattle.edge_search.specs.declared.SpreadAnswer.{SpreadAnswer}
+use Rattle.edge_search.specs.declared.SpreadAnswer.the-variants.{Length, Nothing}
 use Rattle.frontier.specs.Regions.{entry, valueOf, entryOf}
 use Rattle.lasso.specs.Limit.{under}
-use Rattle.spread.specs.Hit.{hitLevel, hitLength}
-use Rattle.spread.specs.Promises.{ExhaustedFrom, SpreadFrom}
+use Rattle.hits.specs.Hit.{hitLevel, hitLength}
+use Rattle.edge_search.specs.Promises.{ExhaustedFrom, SpreadFrom}
 use Rattle.lasso.proofs.UnderLaws.{under-lt, under-some, some-under, under-under}
 use Rattle.frontier.proofs.BucketLaws.{source-entry, entry-source}
-use Rattle.spread.proofs.HitLaws.{Timed, Single, hitLength-least, hitLevel-cong, hitLength-cong, hitLevel-single, hitLevel-under, hitLength-under}
+use Rattle.hits.proofs.HitLaws.{Timed, Single, hitLength-least, hitLevel-cong, hitLength-cong, hitLevel-single, hitLevel-under, hitLength-under}
 
 -- an entry stands for the value that it was made from
 pub value-entry : (a : Option ℕ) → valueOf (entryOf a) ≡ a

@@ -1,3 +1,2 @@
--- What the search finds: the least level at which each state is hit, and the least length into the target.
-pub mod Hit
-pub mod Promises
+-- How far the search looks.
+pub mod Bounds

@@ -12,12 +12,12 @@ ghost use Rattle.frontier.specs.Regions.{entryOf};
 ghost use Rattle.candidates.specs.Promises.{RoundsReady};
 ghost use Rattle.starts.specs.LoopStarts.{startLoop, StartLoops};
 ghost use Rattle.starts.specs.Flags.{FlagsRow, FlagsStarts};
+use edge_search::SpreadAnswer;
 use lasso::Transitions;
 use model::Header;
 use model::degree;
 use model::row_part;
 use model::successor;
-use spread::SpreadAnswer;
 use table::clear;
 use table::get;
 use table::put;
@@ -63,18 +63,18 @@ fn flag_starts(file: &[u8], h: Header, work: &mut [u16])
 }
 
 // The entry of region 1 for state s.
-fn start_loop(file: &[u8], h: Header, work: &mut [u16], length: Transitions, s: usize) -> usize
+fn start_loop(file: &[u8], h: Header, work: &mut [u16], transitions: Transitions, s: usize) -> usize
     requires { ⌜ RoundsReady (now file) h (now work) ⌝ }
-    requires { ⌜ length .0 ≤ h .states ⌝ }
+    requires { ⌜ transitions .0 ≤ h .states ⌝ }
     requires { ⌜ s < h .states ⌝ }
-    ensures { λ r. ⌜ (r ≡ entryOf (startLoop (graphIn (now (file .entry)) h) (length .0) s)) × (r < 65536) ⌝ }
+    ensures { λ r. ⌜ (r ≡ entryOf (startLoop (graphIn (now (file .entry)) h) (transitions .0) s)) × (r < 65536) ⌝ }
     ensures same { λ r. ⌜ SameOutside (2 * h .states) (6 * h .states) (now (work .entry)) (now (work .exit)) ⌝ }
 {
     let reached = get(work, s);
     if reached == 0 {
         return 0;
     }
-    let most = length.number();
+    let most = transitions.number();
     if most < reached {
         return 0;
     }
@@ -86,10 +86,10 @@ fn start_loop(file: &[u8], h: Header, work: &mut [u16], length: Transitions, s: 
 }
 
 // Puts the loop length of each state that can start the loop of a shortest lasso into region 1.
-pub fn prepare(file: &[u8], h: Header, work: &mut [u16], length: Transitions)
+pub fn prepare(file: &[u8], h: Header, work: &mut [u16], transitions: Transitions)
     requires { ⌜ RoundsReady (now file) h (now work) ⌝ }
-    requires { ⌜ leastLength (graphIn (now file) h) ≡ some (length .0) ⌝ }
-    ensures { λ _. ⌜ StartLoops (graphIn (now (file .entry)) h) (length .0) (now (work .exit)) ⌝ }
+    requires { ⌜ leastLength (graphIn (now file) h) ≡ some (transitions .0) ⌝ }
+    ensures { λ _. ⌜ StartLoops (graphIn (now (file .entry)) h) (transitions .0) (now (work .exit)) ⌝ }
     ensures same { λ _. ⌜ SameOutside (h .states) (6 * h .states) (now (work .entry)) (now (work .exit)) ⌝ }
 {
     let n = h.states;
@@ -97,7 +97,7 @@ pub fn prepare(file: &[u8], h: Header, work: &mut [u16], length: Transitions)
     let mut s = 0;
     while s < n {
         if get(work, n + s) != 0 {
-            let value = start_loop(file, h, work, length, s);
+            let value = start_loop(file, h, work, transitions, s);
             put(work, n + s, value);
         }
         s += 1;

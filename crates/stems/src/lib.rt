@@ -44,16 +44,16 @@ fn put_stems(work: &mut [u16], n: usize)
 }
 
 // Puts the stems into region 1: the loop starts are the ends of ways back over the distances from the start.
-pub fn prepare(file: &[u8], h: Header, work: &mut [u16], length: Transitions)
+pub fn prepare(file: &[u8], h: Header, work: &mut [u16], transitions: Transitions)
     requires { ⌜ RoundsReady (now file) h (now work) ⌝ }
-    requires { ⌜ leastLength (graphIn (now file) h) ≡ some (length .0) ⌝ }
-    ensures { λ _. ⌜ StemEntries (graphIn (now (file .entry)) h) (length .0) (now (work .exit)) ⌝ }
+    requires { ⌜ leastLength (graphIn (now file) h) ≡ some (transitions .0) ⌝ }
+    ensures { λ _. ⌜ StemEntries (graphIn (now (file .entry)) h) (transitions .0) (now (work .exit)) ⌝ }
     ensures same { λ _. ⌜ SameOutside (h .states) (6 * h .states) (now (work .entry)) (now (work .exit)) ⌝ }
 {
-    starts::prepare(file, h, work, length);
+    starts::prepare(file, h, work, transitions);
     let n = h.states;
     let start = h.start;
-    let limit = length.number();
+    let limit = transitions.number();
     let count = distances(file, h, work, start, limit);
     copy(work, n, 4 * n, n);
     keep_ways(file, h, work, count);

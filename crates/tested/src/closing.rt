@@ -80,20 +80,20 @@ pub fn may_close(
     file: &[u8],
     h: Header,
     work: &mut [u16],
-    length: Transitions,
+    transitions: Transitions,
     place: usize,
     t: usize,
 ) -> bool
-    requires { ⌜ Prepared (now file) h (now work) (length .0) ⌝ }
-    requires { ⌜ place < length .0 ⌝ }
+    requires { ⌜ Prepared (now file) h (now work) (transitions .0) ⌝ }
+    requires { ⌜ place < transitions .0 ⌝ }
     requires { ⌜ t < h .states ⌝ }
     requires { ⌜ T (pathb (graphIn (now file) h) (upTo (graphIn (now file) h) (now work) place ++ t ∷ [])) ⌝ }
     requires { ⌜ (OnStem (h .states) (now work) place t → ⊥) ⌝ }
-    ensures { λ r. ⌜ Decides (MayFollow (graphIn (now (file .entry)) h) (length .0) (now (work .entry)) place t) r ⌝ }
+    ensures { λ r. ⌜ Decides (MayFollow (graphIn (now (file .entry)) h) (transitions .0) (now (work .entry)) place t) r ⌝ }
     ensures same { λ r. ⌜ SameOutside (2 * h .states) (6 * h .states) (now (work .entry)) (now (work .exit)) ⌝ }
 {
     let n = h.states;
-    let left = length.number() - (place + 1);
+    let left = transitions.number() - (place + 1);
     distances(file, h, work, t, left + 1);
     if closes_marked(file, h, work, place, left) {
         return true;

@@ -6,7 +6,6 @@ ghost use mathlib.Core.List.{[], _∷_, _++_};
 ghost use mathlib.Core.Bool.{true};
 ghost use mathlib.Core.Path.{_≡_};
 ghost use Prim.Native.Nat.{_*_, _<_};
-ghost use lib.ListN.{length};
 ghost use lib.Dec.{T};
 ghost use Rattle.lasso.specs.Graph.{pathb};
 ghost use Rattle.model.specs.Model.{graphIn};
@@ -30,20 +29,20 @@ fn ensure_tables(
     file: &[u8],
     h: Header,
     work: &mut [u16],
-    length: Transitions,
+    transitions: Transitions,
     b: usize,
     made: bool,
 )
-    requires { ⌜ Ground (now file) h (now work) (length .0) b ⌝ }
-    requires { ⌜ (made ≡ true → Tables (graphIn (now file) h) (length .0) (stateAt h (now work)) b (now work)) ⌝ }
-    ensures { λ _. ⌜ Tables (graphIn (now (file .entry)) h) (length .0) (stateAt h (now (work .entry))) b
+    requires { ⌜ Ground (now file) h (now work) (transitions .0) b ⌝ }
+    requires { ⌜ (made ≡ true → Tables (graphIn (now file) h) (transitions .0) (stateAt h (now work)) b (now work)) ⌝ }
+    ensures { λ _. ⌜ Tables (graphIn (now (file .entry)) h) (transitions .0) (stateAt h (now (work .entry))) b
         (now (work .exit)) ⌝ }
     ensures same { λ _. ⌜ SameOutside (2 * h .states) (6 * h .states) (now (work .entry)) (now (work .exit)) ⌝ }
 {
     if made {
         return;
     }
-    make_tables(file, h, work, length, b);
+    make_tables(file, h, work, transitions, b);
 }
 
 // The answer of a test: whether the state may stand there, and what is known of the list then.
@@ -61,17 +60,17 @@ pub fn may_follow(
     file: &[u8],
     h: Header,
     work: &mut [u16],
-    length: Transitions,
+    transitions: Transitions,
     place: usize,
     t: usize,
     passed: Passed,
 ) -> Tested
-    requires { ⌜ Prepared (now file) h (now work) (length .0) ⌝ }
-    requires { ⌜ place < length .0 ⌝ }
+    requires { ⌜ Prepared (now file) h (now work) (transitions .0) ⌝ }
+    requires { ⌜ place < transitions .0 ⌝ }
     requires { ⌜ t < h .states ⌝ }
     requires { ⌜ T (pathb (graphIn (now file) h) (upTo (graphIn (now file) h) (now work) place ++ t ∷ [])) ⌝ }
-    requires { ⌜ PassedAt (now file) h (now work) (length .0) place passed ⌝ }
-    ensures { λ r. ⌜ TestSays (now (file .entry)) h (now (work .entry)) (now (work .exit)) (length .0) place t r ⌝ }
+    requires { ⌜ PassedAt (now file) h (now work) (transitions .0) place passed ⌝ }
+    ensures { λ r. ⌜ TestSays (now (file .entry)) h (now (work .entry)) (now (work .exit)) (transitions .0) place t r ⌝ }
 {
     let n = h.states;
     let start = passed.start;
@@ -89,7 +88,7 @@ pub fn may_follow(
         };
     }
     let b = start - 1;
-    if place + 1 == length.number() {
+    if place + 1 == transitions.number() {
         return Tested {
             yes: at_last(h, work, start, mark, t),
             passed: passed,
@@ -99,7 +98,7 @@ pub fn may_follow(
     if searches < SEARCHES {
         let done = searches + 1;
         return Tested {
-            yes: may_close(file, h, work, length, place, t),
+            yes: may_close(file, h, work, transitions, place, t),
             passed: Passed {
                 start: start,
                 mark: mark,
@@ -108,7 +107,7 @@ pub fn may_follow(
             },
         };
     }
-    ensure_tables(file, h, work, length, b, passed.made);
+    ensure_tables(file, h, work, transitions, b, passed.made);
     Tested {
         yes: before_last(n, work, b, mark, place, t),
         passed: Passed {

@@ -9,7 +9,7 @@ use borrow.Author.Tests.{lt-ltb, le-ltb}
 use lib.ListN.{length, length-append}
 use Rattle.lasso.specs.Lists.{pick}
 use Rattle.lasso.proofs.Tests.{lt-or-ge}
-use Rattle.text.specs.Decimal.{digit, digitsWithin, decimal}
+use Rattle.text.specs.Decimal.{digit, digitsWithin, decimal, DecimalShown}
 
 -- a number below ten has one digit
 within-small : (most n : ℕ) → n < 10 → digitsWithin (suc most) n ≡ digit n ∷ []
@@ -42,6 +42,10 @@ pub decimal-large : (n : ℕ) → 10 ≤ n → decimal n ≡ decimal (n / 10) ++
 unfolding decimal
 decimal-large n le =
     within-large n n le ∙ ap (λ (ds : List ℕ). ds ++ digit (n % 10) ∷ []) (within-enough n (suc (n / 10)) (n / 10) (omega arith) (omega arith))
+
+-- what a number in decimal is
+pub decimal-shown : DecimalShown
+decimal-shown n = record { one-digit = decimal-small n; more-digits = decimal-large n }
 
 -- a number from ten on has one digit more than its tenth
 pub decimal-length : (n : ℕ) → 10 ≤ n → length (decimal n) ≡ length (decimal (n / 10)) + 1

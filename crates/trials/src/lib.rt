@@ -9,4 +9,3 @@ pub use calls::next;
 pub use calls::search;
 pub use calls::step;
 pub use look::wrong_answer;
-pub use look::wrong_work;

@@ -1,34 +1,17 @@
 // The look at the tables after a call, which were filled with varied numbers before it.
 ghost use Prim.Native.Nat.{_≤_};
 use harness::VARIED;
-use harness::holds;
-use harness::left_after;
 use harness::refusal_of;
+use harness::unlike;
 use harness::with_wrong;
 use harness::written;
-
-// 0 if a table holds its filling from a place on, else 1.
-fn unlike(table: &[u16], from: usize, filling: usize) -> u64
-    ensures { λ r. ⌜ r ≤ 1 ⌝ }
-{
-    if holds(table, from, filling) {
-        return 0;
-    }
-    1
-}
+use harness::wrong_work;
 
 // 0 if the answer table is untouched from the place on where the list that was written ends, else 1.
 pub fn wrong_answer(table: &[u16], written: usize) -> u64
     ensures { λ r. ⌜ r ≤ 1 ⌝ }
 {
     unlike(table, written, VARIED)
-}
-
-// 0 if the working table holds what it must after a refusal with a number, or 0 for another answer; else 1.
-pub fn wrong_work(work: &[u16], refusal: usize) -> u64
-    ensures { λ r. ⌜ r ≤ 1 ⌝ }
-{
-    unlike(work, 0, left_after(refusal))
 }
 
 // The number of an answer with what was seen of the working table.

@@ -12,15 +12,15 @@ use Rattle.lasso.specs.Distance.{dist}
 use Rattle.lasso.proofs.Tests.{T-true}
 use Rattle.lasso.proofs.Least.{IsLeast, isLeast-by, isLeast-iff, isLeast-unique}
 use Rattle.lasso.proofs.Walk.{Walk, walk-here, walk-zero, walk-end-state, walk-to, walk-append, walk-length}
-use Rattle.lasso.proofs.Distance.{dist-least, dist-walk, dist-le, dist-below}
-use Rattle.spread.specs.declared.SpreadAnswer.{SpreadAnswer}
-use Rattle.spread.specs.declared.SpreadAnswer.the-variants.{Length, Nothing}
-use Rattle.frontier.specs.Regions.{entry, valueOf, entryOf}
+use Rattle.lasso.proofs.Distance.{dist-least, dist-walk, dist-le}
+use Rattle.edge_search.specs.declared.SpreadAnswer.{SpreadAnswer}
+use Rattle.edge_search.specs.declared.SpreadAnswer.the-variants.{Length, Nothing}
+use Rattle.frontier.specs.Regions.{entry, valueOf}
 use Rattle.lasso.specs.Limit.{under}
-use Rattle.spread.specs.Promises.{ExhaustedFrom, SpreadFrom}
+use Rattle.edge_search.specs.Promises.{ExhaustedFrom, SpreadFrom}
 use Rattle.walks.specs.Through.{onlyIf, markedDist, viaMark, loopLength, DistancesWithin, markedSources, LoopLength}
-use Rattle.lasso.proofs.UnderLaws.{under-under, under-all}
-use Rattle.spread.proofs.HitLaws.{Timed, hitLevel-least, hitLength-least}
+use Rattle.lasso.proofs.UnderLaws.{under-under}
+use Rattle.hits.proofs.HitLaws.{Timed, hitLevel-least, hitLength-least}
 use Rattle.spread.proofs.SearchLaws.{value-entry, spread-nothing, exhausted-levels, searched-length}
 
 -- k is the length of a walk from x to a marked state q, and m more that P allows from q
@@ -79,13 +79,6 @@ module _ {g : Graph} (wf : WellFormed g) (x : ℕ) (l : x < g .size) where
           let e : q ≡ x = walk-zero w in
           (x, 0, a, subst (λ (y : ℕ). T (g .marked y)) e t, walk-here x, (omega arith, walk-to v e), omega arith)
       turned k p (q, a, suc m, t, v, w, s) = (q, a, suc m, t, v, (omega arith, w), s)
-
--- with as many levels as states the distances are all there
-pub distances-all : {g : Graph} {x limit count : ℕ} {w w' : List ℕ} → limit ≡ g .size → DistancesWithin g x limit w w' count
-    → (t : ℕ) → t < g .size → entry 2 (g .size) w' t ≡ entryOf (dist g x t)
-distances-all {g} {x} {limit} e d t l =
-    d .distances t l
-    ∙ ap entryOf (under-all (suc limit) (dist g x t) (λ k q. omega (arith, dist-below g x t k q)))
 
 -- a greater limit makes no difference to a number that is given only if a test is passed
 onlyIf-under : (b : Bool) (limit bound : ℕ) (a : Option ℕ) → limit ≤ bound

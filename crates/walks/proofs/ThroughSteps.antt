@@ -15,15 +15,15 @@ use Rattle.lasso.specs.Graph.{Graph, WellFormed}
 use Rattle.lasso.proofs.Tests.{lt-or-ge}
 use Rattle.table.specs.Changes.{SameOutside, Cleared}
 use Rattle.table.proofs.Laws.{sameOutside-refl, sameOutside-sym, set-sameOutside, sameOutside-set, sameOutside-trans, sameOutside-widen}
-use Rattle.spread.specs.declared.SpreadAnswer.{SpreadAnswer}
-use Rattle.spread.specs.declared.SpreadAnswer.the-variants.{Nothing}
+use Rattle.edge_search.specs.declared.SpreadAnswer.{SpreadAnswer}
+use Rattle.edge_search.specs.declared.SpreadAnswer.the-variants.{Nothing}
 use Rattle.frontier.specs.Regions.{entry, valueOf}
 use Rattle.lasso.specs.Limit.{under}
 use Rattle.frontier.specs.Buckets.{sources, withSource, Planned}
-use Rattle.spread.specs.Promises.{SpreadFrom, Spread}
+use Rattle.edge_search.specs.Promises.{SpreadFrom, Spread}
 use Rattle.walks.specs.Through.{onlyIf, SameButOne, DistancesWithin, markedSources, OneSource, PlannedAt, KeptMarked}
 use Rattle.frontier.proofs.BucketLaws.{source-entry, entry-source}
-use Rattle.spread.proofs.HitLaws.{Single}
+use Rattle.hits.proofs.HitLaws.{Single}
 use Rattle.spread.proofs.SearchLaws.{spread-nothing, spread-same, exhausted-distances}
 
 -- a change inside region 2 is a change inside the regions that a search uses

@@ -8,12 +8,12 @@ use Rattle.lasso.specs.Lists.{pick}
 use Rattle.lasso.specs.Graph.{Graph}
 use Rattle.lasso.specs.Distance.{dist}
 use Rattle.table.specs.Changes.{SameOutside}
-use Rattle.spread.specs.declared.SpreadAnswer.{SpreadAnswer}
-use Rattle.spread.specs.declared.SpreadAnswer.the-variants.{Length, Nothing}
+use Rattle.edge_search.specs.declared.SpreadAnswer.{SpreadAnswer}
+use Rattle.edge_search.specs.declared.SpreadAnswer.the-variants.{Length, Nothing}
 use Rattle.frontier.specs.Regions.{entry, valueOf, entryOf}
 use Rattle.lasso.specs.Limit.{under}
-use Rattle.spread.specs.Hit.{hitLevel, hitLength}
-use Rattle.spread.specs.Promises.{SpreadFrom}
+use Rattle.hits.specs.Hit.{hitLevel, hitLength}
+use Rattle.edge_search.specs.Promises.{SpreadFrom}
 use Rattle.frontier.specs.Buckets.{Planned}
 use Rattle.frontier.specs.Search.{Queue}
 

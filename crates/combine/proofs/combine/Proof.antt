@@ -7,7 +7,7 @@ use Rattle.format.specs.Layout.{states}
 use Rattle.model.specs.Values.{Valid}
 use Rattle.model.proofs.Answers.{check-refused, check-valid}
 use Rattle.model.proofs.Laws.{header-numbers}
-use Rattle.combine.specs.Combine.{badLetters}
+use Rattle.combine_letters.specs.Letters.{badLetters}
 use Rattle.combine.proofs.ReasonLaws.{refused-rule, refused-16}
 use Rattle.combine.proofs.combine.Statement.{statement}
 use Rattle.combine.proofs.combine.Tie as tie

@@ -18,14 +18,14 @@ abbrev μ-loop : tie.MeasureT-loop
 μ-loop file h work₀ length from last place₀ p₀ work place p = last - place
 
 -- in the loop the list is not yet complete
-inside : (c : tie.In-loop Inv-loop μ-loop) → c .before .loop .place < c .before .before .before .before .before .args .length .0
+inside : (c : tie.In-loop Inv-loop μ-loop) → c .before .loop .place < c .before .before .before .before .before .args .transitions .0
 inside c = omega (arith, c .before .before .number .ensures)
 
 -- with the state found the list is completed one place more
 longer : (c : tie.After-first-follower Inv-loop μ-loop) →
     let l = c .before .before .before in
     let a = l .before .before .before .before .args in
-    Completing (a .file .now) (a .h) (a .length .0) (a .from) (a .work .now) (set (c .first-follower .last .1 .1 .0) (l .loop .place) (c .first-follower .result .state)) (l .loop .place + 1)
+    Completing (a .file .now) (a .h) (a .transitions .0) (a .from) (a .work .now) (set (c .first-follower .last .1 .1 .0) (l .loop .place) (c .first-follower .result .state)) (l .loop .place + 1)
 longer c =
     let loop = c .before .before in
     completing-more _ (loop .before .loop .inv .0) (inside loop) (c .first-follower .ensures .same) (c .first-follower .ensures .found)

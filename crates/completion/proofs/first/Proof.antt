@@ -22,7 +22,7 @@ complete-requires : tie.Need-complete-requires
 complete-requires c κs =
     let s = c .before .before .before .before .before .before in
     let a = s .args in
-    (s .pre, (omega arith, (start-extends (graphIn (a .file .now) (a .h)) (a .length .0) (s .pre .least), c .before .retreat .ensures)))
+    (s .pre, (omega arith, (start-extends (graphIn (a .file .now) (a .h)) (a .transitions .0) (s .pre .least), c .before .retreat .ensures)))
 
 same-length : tie.Need-same-length
 same-length c = search needs

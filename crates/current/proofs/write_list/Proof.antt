@@ -1,4 +1,5 @@
 -- `current::write_list` meets its contract: the stem is written to the front, the loop to the part from the loop's start on.
+use native.Mathlib.Omega.{arith}
 use borrow.Author.Needs.{needs}
 use Rattle.current.proofs.CurrentLaws.{list-written}
 use Rattle.current.proofs.write_list.Statement.{statement}
@@ -41,8 +42,8 @@ returns c =
     let known = counted .before in
     let s = known .before .before .before in
     let a = s .args in (
-      known .loop-start .ensures,
-      list-written (a .h .start) (a .work .now) (a .answer .now) _ _ (known .loop-start .result) (a .length .0)
+      omega (arith, known .loop-start .ensures),
+      list-written (a .h .start) (a .work .now) (a .answer .now) _ _ (known .loop-start .result) (a .transitions .0)
           (known .loop-start .ensures .1) (s .pre .0) (s .pre .1 .0) (stem .write-part .ensures) (rw (counted .entries .ensures) at (c .before .before .write-part2 .ensures)),
     )
 

@@ -1,8 +1,8 @@
 -- `load` meets its contract. The loop's invariant: the entries from place 1 up to j are in front.
-use Prim.Native.Nat.{_-_, _≤_}
-use mathlib.Core.Path.{_≡_, refl, _∙_, ap}
+use Prim.Native.Nat.{ℕ, _-_, _≤_}
+use mathlib.Core.Path.{_≡_, refl, _∙_, ap, subst}
 use native.Mathlib.Omega.{arith}
-use lib.ListN.{length}
+use lib.ListN.{length, getD}
 use Rattle.cursor.proofs.LoadLaws.{loadedTo, load-more, load-length, load-done}
 use Rattle.cursor.proofs.load.Statement.{statement}
 use Rattle.cursor.proofs.load.Tie as tie
@@ -37,13 +37,21 @@ add-j c = omega arith
 loop-less : tie.Need-loop-less Inv-loop μ-loop
 loop-less c = omega arith
 
+-- the state that a turn takes is the list's at place j
+taken : (c : tie.After-get Inv-loop μ-loop) →
+    let at = c .before .before in
+    c .get .result ≡ getD (at .before .before .before .args .list .now) (at .loop .j) 0
+taken c =
+    let at = c .before .before in
+    subst (λ (n : ℕ). c .get .result ≡ getD (at .before .before .before .args .list .now) n 0) (omega arith) (c .get .ensures .0)
+
 loop-again : tie.Need-loop-again Inv-loop μ-loop
 loop-again c =
     let at = c .before .before .before .before .before .before in
     let a = at .before .before .before .args in (
       omega arith,
       omega arith,
-      c .before .before .put .ensures ∙ load-more (a .list .now) (a .work .now) _ (at .loop .j) _ (at .loop .inv .2) (c .before .before .before .before .get .ensures .0) (omega arith) (omega arith) (omega arith),
+      c .before .before .put .ensures ∙ load-more (a .list .now) (a .work .now) _ (at .loop .j) _ (at .loop .inv .2) (taken (c .before .before .before .before)) (omega arith) (omega arith) (omega arith),
     )
 
 same-length : tie.Need-same-length Inv-loop μ-loop

@@ -12,7 +12,7 @@ abbrev start : tie.After-prepare → tie.Start
 start c = c .before .before .before .before
 
 -- the table is prepared
-prepared : (c : tie.After-prepare) → let a = start c .args in Prepared (a .file .now) (a .h) (c .prepare .last .1 .1 .0) (a .length .0)
+prepared : (c : tie.After-prepare) → let a = start c .args in Prepared (a .file .now) (a .h) (c .prepare .last .1 .1 .0) (a .transitions .0)
 prepared c =
     let s = start c in
     prepared-start (s .pre .0) (s .pre .1) (c .prepare .ensures .0) (c .prepare .ensures .1 .same-length)

@@ -20,7 +20,7 @@ load-requires c κs =
     let done = c .before .before .before in
     let s = start done in
     let a = s .args in
-    omega (arith, roll-length (graphIn (a .file .now) (a .h)) (a .length .0) (s .pre .1 .0) (a .list .now) (s .pre .1 .1), least-fits (s .pre .0) (a .length .0) (s .pre .1 .0), s .pre .0 .room, done .prepare .ensures .1 .same-length)
+    omega (arith, roll-length (graphIn (a .file .now) (a .h)) (a .transitions .0) (s .pre .1 .0) (a .list .now) (s .pre .1 .1), least-fits (s .pre .0) (a .transitions .0) (s .pre .1 .0), s .pre .0 .room, done .prepare .ensures .1 .same-length)
 
 same-length : tie.Need-same-length
 same-length c = search needs
@@ -33,10 +33,10 @@ returns c =
     let a = s .args in
     let m = s .pre .1 .1 in
     let same = done .prepare .ensures .1 .same-length in
-    let prepared = prepared-loaded (s .pre .0) (a .length .0) (s .pre .1 .0) _ _ same (done .prepare .ensures .0) (a .list .now) m (put .load .ensures) in
-    let list = loaded-upTo (graphIn (a .file .now) (a .h)) (a .length .0) (s .pre .1 .0) (a .list .now) m _ _ (put .load .ensures) in (
+    let prepared = prepared-loaded (s .pre .0) (a .transitions .0) (s .pre .1 .0) _ _ same (done .prepare .ensures .0) (a .list .now) m (put .load .ensures) in
+    let list = loaded-upTo (graphIn (a .file .now) (a .h)) (a .transitions .0) (s .pre .1 .0) (a .list .now) m _ _ (put .load .ensures) in (
       placed-at (a .list .now) prepared list m,
-      loaded-kept (s .pre .0) (a .length .0) (s .pre .1 .0) _ _ same (a .list .now) m (put .load .ensures),
+      loaded-kept (s .pre .0) (a .transitions .0) (s .pre .1 .0) _ _ same (a .list .now) m (put .load .ensures),
     )
 
 pub to-list-spec : {M : Type 1} → statement M

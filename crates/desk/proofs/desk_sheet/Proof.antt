@@ -19,7 +19,7 @@ slice-aggregate-write-sheet-3 : tie.Need-slice-aggregate-write-sheet-3
 slice-aggregate-write-sheet-3 c = search needs
 
 write-sheet-requires : tie.Need-write-sheet-requires
-write-sheet-requires c κs = search needs
+write-sheet-requires c κs = omega arith
 
 returns : tie.Need-returns
 returns c =

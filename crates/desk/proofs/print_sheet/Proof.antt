@@ -1,14 +1,15 @@
 -- `print_sheet` meets its contract: the bytes that were read, and those that were written, lie within their buffers.
+use native.Mathlib.Omega.{arith}
 use borrow.Author.Needs.{needs}
 use Rattle.text.proofs.WroteLaws.{wrote-within}
 use Rattle.desk.proofs.print_sheet.Statement.{statement}
 use Rattle.desk.proofs.print_sheet.Tie as tie
 
-slice-aggregate-read-input : tie.Need-slice-aggregate-read-input
-slice-aggregate-read-input c = search needs
+slice-aggregate-read-model : tie.Need-slice-aggregate-read-model
+slice-aggregate-read-model c = search needs
 
-read-input-requires : tie.Need-read-input-requires
-read-input-requires c κs = search needs
+read-model-requires : tie.Need-read-model-requires
+read-model-requires c κs = omega arith
 
 array-share-prefix-input : tie.Need-array-share-prefix-input
 array-share-prefix-input c = search needs
@@ -35,8 +36,8 @@ pub print-sheet-spec : {M : Type 1} → statement M
 print-sheet-spec =
     tie.close
     (tie.spec
-    slice-aggregate-read-input
-    read-input-requires
+    slice-aggregate-read-model
+    read-model-requires
     array-share-prefix-input
     slice-aggregate-desk-sheet
     desk-sheet-requires

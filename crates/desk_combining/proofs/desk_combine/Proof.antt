@@ -29,7 +29,7 @@ slice-aggregate-write-combination-3 : tie.Need-slice-aggregate-write-combination
 slice-aggregate-write-combination-3 c = search needs
 
 write-combination-requires : tie.Need-write-combination-requires
-write-combination-requires c κs = search needs
+write-combination-requires c κs = omega arith
 
 returns : tie.Need-returns
 returns c =

@@ -1,26 +1,27 @@
 -- `print_combination` meets its contract: what was read, and what was written, lies within its buffer.
+use native.Mathlib.Omega.{arith}
 use borrow.Author.Needs.{needs}
 use Rattle.text.proofs.WroteLaws.{wrote-within}
 use Rattle.desk_combining.proofs.print_combination.Statement.{statement}
 use Rattle.desk_combining.proofs.print_combination.Tie as tie
 
-slice-aggregate-read-input : tie.Need-slice-aggregate-read-input
-slice-aggregate-read-input c = search needs
+slice-aggregate-read-model : tie.Need-slice-aggregate-read-model
+slice-aggregate-read-model c = search needs
 
-read-input-requires : tie.Need-read-input-requires
-read-input-requires c κs = search needs
+read-model-requires : tie.Need-read-model-requires
+read-model-requires c κs = omega arith
 
-slice-aggregate-read-input-2 : tie.Need-slice-aggregate-read-input-2
-slice-aggregate-read-input-2 c = search needs
+slice-aggregate-read-letters : tie.Need-slice-aggregate-read-letters
+slice-aggregate-read-letters c = search needs
 
-read-input-requires-2 : tie.Need-read-input-requires-2
-read-input-requires-2 c κs = search needs
+read-letters-requires : tie.Need-read-letters-requires
+read-letters-requires c κs = omega arith
 
-slice-aggregate-read-input-3 : tie.Need-slice-aggregate-read-input-3
-slice-aggregate-read-input-3 c = search needs
+slice-aggregate-read-property : tie.Need-slice-aggregate-read-property
+slice-aggregate-read-property c = search needs
 
-read-input-requires-3 : tie.Need-read-input-requires-3
-read-input-requires-3 c κs = search needs
+read-property-requires : tie.Need-read-property-requires
+read-property-requires c κs = omega arith
 
 array-share-prefix-rule : tie.Need-array-share-prefix-rule
 array-share-prefix-rule c = search needs
@@ -68,12 +69,12 @@ pub print-combination-spec : {M : Type 1} → statement M
 print-combination-spec =
     tie.close
     (tie.spec
-    slice-aggregate-read-input
-    read-input-requires
-    slice-aggregate-read-input-2
-    read-input-requires-2
-    slice-aggregate-read-input-3
-    read-input-requires-3
+    slice-aggregate-read-model
+    read-model-requires
+    slice-aggregate-read-letters
+    read-letters-requires
+    slice-aggregate-read-property
+    read-property-requires
     array-share-prefix-rule
     slice-aggregate-desk-combine
     array-share-prefix-letters

@@ -1,9 +1,13 @@
 -- `tell` meets its contract: a refusal writes its line, a number of bytes is handed on.
-use mathlib.Core.Path.{sym, ap, subst}
+use Prim.Native.Nat.{ℕ}
+use mathlib.Core.Path.{_≡_, sym, ap, subst}
+use mathlib.Core.List.{List}
 use native.Mathlib.Omega.{arith}
 use native.Mathlib.Nat.{le-trans}
 use borrow.Author.Needs.{needs}
 use denote.Ref.{now}
+use Rattle.text.specs.Figure.{figure}
+use Rattle.text.specs.Writing.{Wrote}
 use Rattle.text.proofs.FigureLaws.{figure-room}
 use Rattle.text.proofs.WroteLaws.{wrote-none, wrote-as}
 use Rattle.sheet_head.specs.Words.{refusedWord}
@@ -12,6 +16,11 @@ use Rattle.combine.specs.Combine.{combineOutcomeOf}
 use Rattle.desk_combining.specs.Combining.{NumberFits, bytesTold, lineTold}
 use Rattle.desk_combining.proofs.tell.Statement.{statement}
 use Rattle.desk_combining.proofs.tell.Tie as tie
+
+-- a line with a number is that of the refusal, if the number is
+line-of : {t t' : List ℕ} {next : ℕ} (printed number : ℕ) → Wrote t 0 (figure refusedWord printed) t' next → printed ≡ number
+    → Wrote t 0 (figure refusedWord number) t' next
+line-of printed number wrote same = wrote-as (ap (λ (n : ℕ). figure refusedWord n) same) wrote
 
 enum-known-answer : tie.Need-enum-known-answer
 enum-known-answer c = search needs
@@ -35,9 +44,9 @@ same-length c = search needs
 returns : tie.Need-returns
 returns c =
     let wrote = c .before .before in
-    let told = wrote .before .before .before .answer .given .1 in (
+    let (number, told) = wrote .before .before .before .answer .given in (
       sym (ap (λ (r : CombineAnswer). bytesTold (combineOutcomeOf r)) told),
-      wrote-as (sym (ap (λ (r : CombineAnswer). lineTold (combineOutcomeOf r)) told)) (wrote .write-refusal .ensures),
+      wrote-as (sym (ap (λ (r : CombineAnswer). lineTold (combineOutcomeOf r)) told)) (line-of _ (number .0) (wrote .write-refusal .ensures) (omega arith)),
     )
 
 returns-2 : tie.Need-returns-2

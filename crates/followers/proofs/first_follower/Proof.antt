@@ -28,12 +28,12 @@ abbrev μ-loop : tie.MeasureT-loop
 
 -- the last state of the list, once it was read
 row : (c : tie.After-list-at Inv-loop μ-loop)
-    → let a = c .before .before .before .before .args in StateRead (a .file .now) (a .h) (a .work .now) (a .length .0) (a .place) (c .list-at .result)
+    → let a = c .before .before .before .before .args in StateRead (a .file .now) (a .h) (a .work .now) (a .transitions .0) (a .place) (c .list-at .result)
 row c =
     let p = c .before .before .before .before .pre in
     let a = c .before .before .before .before .args in
     let g = graphIn (a .file .now) (a .h) in
-    read-row (p .0) (p .1 .0) (extends-path g (a .length .0) (upTo g (a .work .now) (a .place)) (p .1 .1 .0)) (c .list-at .ensures)
+    read-row (p .0) (p .1 .0) (extends-path g (a .transitions .0) (upTo g (a .work .now) (a .place)) (p .1 .1 .0)) (c .list-at .ensures)
 
 -- the number of the last state's successors
 degree : (c : tie.After-degree Inv-loop μ-loop)
@@ -53,12 +53,12 @@ within c = omega (arith, c .loop .inv .1, degree (c .before))
 -- what the test of the successor answers
 answer : (c : tie.After-may-follow Inv-loop μ-loop)
     → let a = c .before .before .before .before .before .before .before .before .before .before .before .args in
-    Decides (Extends (graphIn (a .file .now) (a .h)) (a .length .0) (upTo (graphIn (a .file .now) (a .h)) (a .work .now) (a .place) ++ c .before .before .successor .result ∷ [])) (c .may-follow .result .yes)
+    Decides (Extends (graphIn (a .file .now) (a .h)) (a .transitions .0) (upTo (graphIn (a .file .now) (a .h)) (a .work .now) (a .place) ++ c .before .before .successor .result ∷ [])) (c .may-follow .result .yes)
 answer c =
     let at = c .before .before .before .before in
     let a = at .before .before .before .before .before .before .before .args in
     let g = graphIn (a .file .now) (a .h) in
-    as-before (λ xs. Decides (Extends g (a .length .0) (g .start ∷ xs ++ c .before .before .successor .result ∷ [])) (c .may-follow .result .yes)) (row (at .before .before .before)) (at .loop .inv .0 .same) (c .may-follow .ensures .decides)
+    as-before (λ xs. Decides (Extends g (a .transitions .0) (g .start ∷ xs ++ c .before .before .successor .result ∷ [])) (c .may-follow .result .yes)) (row (at .before .before .before)) (at .loop .inv .0 .same) (c .may-follow .ensures .decides)
 
 list-at-requires : tie.Need-list-at-requires Inv-loop μ-loop
 list-at-requires c κs = let p = c .before .before .before .pre in omega (arith, prepared-sizes (p .0))

@@ -27,7 +27,7 @@ abbrev μ-loop : tie.MeasureT-loop
 
 -- the last state of the list, once it was read
 row : (c : tie.After-list-at Inv-loop μ-loop)
-    → let a = c .before .before .before .before .before .before .args in StateRead (a .file .now) (a .h) (a .work .now) (a .length .0) (a .place) (c .list-at .result)
+    → let a = c .before .before .before .before .before .before .args in StateRead (a .file .now) (a .h) (a .work .now) (a .transitions .0) (a .place) (c .list-at .result)
 row c =
     let p = c .before .before .before .before .before .before .pre in
     read-row (p .0) (p .1 .0) (p .1 .1 .0) (c .list-at .ensures)
@@ -50,12 +50,12 @@ within c = omega (arith, c .loop-test .taken, degree (c .before .before))
 -- what the test of the successor answers
 answer : (c : tie.After-try-next Inv-loop μ-loop)
     → let a = c .before .before .before .before .before .before .before .before .before .before .before .before .before .args in
-    Decides ((a .bound ≤ c .before .before .successor .result) × Extends (graphIn (a .file .now) (a .h)) (a .length .0) (upTo (graphIn (a .file .now) (a .h)) (a .work .now) (a .place) ++ c .before .before .successor .result ∷ [])) (c .try-next .result .yes)
+    Decides ((a .bound ≤ c .before .before .successor .result) × Extends (graphIn (a .file .now) (a .h)) (a .transitions .0) (upTo (graphIn (a .file .now) (a .h)) (a .work .now) (a .place) ++ c .before .before .successor .result ∷ [])) (c .try-next .result .yes)
 answer c =
     let at = c .before .before .before .before in
     let a = at .before .before .before .before .before .before .before .before .before .args in
     let g = graphIn (a .file .now) (a .h) in
-    as-before (λ xs. Decides ((a .bound ≤ c .before .before .successor .result) × Extends g (a .length .0) (g .start ∷ xs ++ c .before .before .successor .result ∷ [])) (c .try-next .result .yes)) (row (at .before .before .before)) (at .loop .inv .0 .same) (c .try-next .ensures .decides)
+    as-before (λ xs. Decides ((a .bound ≤ c .before .before .successor .result) × Extends g (a .transitions .0) (g .start ∷ xs ++ c .before .before .successor .result ∷ [])) (c .try-next .result .yes)) (row (at .before .before .before)) (at .loop .inv .0 .same) (c .try-next .ensures .decides)
 
 retreat-requires : tie.Need-retreat-requires Inv-loop μ-loop
 retreat-requires c κs =

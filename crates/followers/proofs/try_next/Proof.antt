@@ -28,7 +28,7 @@ returns-2 c =
     let says = t .may-follow .ensures in
     let a = t .before .before .before .before .before .args in
     record {
-      decides = try-decides (MayFollow (graphIn (a .file .now) (a .h)) (a .length .0) (a .work .now) (a .place) (a .t)) (a .bound) (a .t) (omega (arith, t .before .before .if1 .left)) (t .may-follow .result .yes) (says .decides);
+      decides = try-decides (MayFollow (graphIn (a .file .now) (a .h)) (a .transitions .0) (a .work .now) (a .place) (a .t)) (a .bound) (a .t) (omega (arith, t .before .before .if1 .left)) (t .may-follow .result .yes) (says .decides);
       same = says .same;
       passed = says .passed;
     }

@@ -2,7 +2,7 @@
 use mathlib.Core.Path.{_≡_, sym, _∙_, ap}
 use mathlib.Core.List.{List}
 use mathlib.Core.Option.{Option, some, none}
-use Prim.Native.Nat.{ℕ, _≤_}
+use Prim.Native.Nat.{ℕ}
 use native.Mathlib.Omega.{arith}
 use borrow.Author.Needs.{needs}
 use lib.ListN.{length}
@@ -11,7 +11,7 @@ use Rattle.model.specs.declared.Checked.the-variants.{Refused, Accept}
 use Rattle.model.specs.Values.{headerOf, answerOf, Valid}
 use Rattle.model.proofs.Laws.{valid-sizes}
 use Rattle.model.proofs.Answers.{check-refused, check-valid, naming-own}
-use Rattle.gate.specs.Gate.{commonRules, namedRules, gateOf}
+use Rattle.gate.specs.Gate.{namedRules, gateOf}
 use Rattle.gate.proofs.GateLaws.{common-refused, named-none, named-one, valid-small, valid-common, entered-zero, entered-same}
 use Rattle.gate.proofs.enter.Statement.{statement}
 use Rattle.gate.proofs.enter.Tie as tie

@@ -5,7 +5,7 @@ use native.Mathlib.Omega.{arith}
 use borrow.Author.Needs.{needs}
 use Rattle.model.specs.Model.{graphIn}
 use Rattle.model.proofs.Laws.{valid-well-formed}
-use Rattle.spread.specs.declared.SpreadAnswer.the-variants.{Nothing}
+use Rattle.edge_search.specs.declared.SpreadAnswer.the-variants.{Nothing}
 use Rattle.goal_tables.specs.Tables.{LevelsVia}
 use Rattle.goal_tables.proofs.LevelLaws.{levels-marked, levels-on}
 use Rattle.goal_tables.proofs.later_levels.Statement.{statement}

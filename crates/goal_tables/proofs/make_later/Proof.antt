@@ -21,12 +21,12 @@ abbrev number-of : tie.After-later-levels → tie.After-number
 number-of c = c .before .before
 
 levels : (c : tie.After-later-levels) → let a = start (number-of c) .args in
-    LevelsVia (graphIn (a .file .now) (a .h)) (stateAt (a .h) (a .work .now) (a .b)) (a .length .0 - a .b) (a .work .now) (c .later-levels .last .1 .1 .0) (c .later-levels .result)
+    LevelsVia (graphIn (a .file .now) (a .h)) (stateAt (a .h) (a .work .now) (a .b)) (a .transitions .0 - a .b) (a .work .now) (c .later-levels .last .1 .1 .0) (c .later-levels .result)
 levels c =
     let n = number-of c in
     let a = start n .args in
     let g = graphIn (a .file .now) (a .h) in
-    subst (λ (y : ℕ). LevelsVia g y (a .length .0 - a .b) (a .work .now) (c .later-levels .last .1 .1 .0) (c .later-levels .result)) (n .before .list-at .ensures)
+    subst (λ (y : ℕ). LevelsVia g y (a .transitions .0 - a .b) (a .work .now) (c .later-levels .last .1 .1 .0) (c .later-levels .result)) (n .before .list-at .ensures)
     (subst (λ (k : ℕ). LevelsVia g (n .before .list-at .result) (k - a .b) (a .work .now) (c .later-levels .last .1 .1 .0) (c .later-levels .result)) (n .number .ensures) (c .later-levels .ensures))
 
 -- the flags
@@ -34,7 +34,7 @@ abbrev levels-of : tie.After-flag-closing → tie.After-later-levels
 levels-of c = c .before .before .before .before
 
 flags : (c : tie.After-flag-closing) → let a = start (number-of (levels-of c)) .args in
-    ClosingPut (graphIn (a .file .now) (a .h)) (a .h .states) (a .h .start) (a .length .0 - a .b - 1) (a .b + 1) (a .h .states) (levels-of c .later-levels .last .1 .1 .0) (c .flag-closing .last .1 .1 .0)
+    ClosingPut (graphIn (a .file .now) (a .h)) (a .h .states) (a .h .start) (a .transitions .0 - a .b - 1) (a .b + 1) (a .h .states) (levels-of c .later-levels .last .1 .1 .0) (c .flag-closing .last .1 .1 .0)
 flags c =
     let n = number-of (levels-of c) in
     let a = start n .args in

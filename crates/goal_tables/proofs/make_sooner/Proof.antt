@@ -23,12 +23,12 @@ number-of c = c .before .before .before .before
 
 -- the distances from the loop start
 away : (c : tie.After-distances) → let a = start (number-of c) .args in
-    DistancesWithin (graphIn (a .file .now) (a .h)) (stateAt (a .h) (a .work .now) (a .b)) (a .length .0 - a .b) (a .work .now) (c .distances .last .1 .1 .0) (c .distances .result)
+    DistancesWithin (graphIn (a .file .now) (a .h)) (stateAt (a .h) (a .work .now) (a .b)) (a .transitions .0 - a .b) (a .work .now) (c .distances .last .1 .1 .0) (c .distances .result)
 away c =
     let n = number-of c in
     let a = start n .args in
     let g = graphIn (a .file .now) (a .h) in
-    subst (λ (y : ℕ). DistancesWithin g y (a .length .0 - a .b) (a .work .now) (c .distances .last .1 .1 .0) (c .distances .result)) (n .before .list-at .ensures)
+    subst (λ (y : ℕ). DistancesWithin g y (a .transitions .0 - a .b) (a .work .now) (c .distances .last .1 .1 .0) (c .distances .result)) (n .before .list-at .ensures)
     (subst (λ (k : ℕ). DistancesWithin g (n .before .list-at .result) (k - a .b) (a .work .now) (c .distances .last .1 .1 .0) (c .distances .result)) (n .number .ensures) (c .distances .ensures))
 
 -- the table with the entry put back
@@ -52,14 +52,14 @@ abbrev put-of : tie.After-flag-closing → tie.After-put
 put-of c = c .before .before .before .before
 
 flags : (c : tie.After-flag-closing) → let d = away-of (put-of c) in let a = start (number-of d) .args in
-    ClosingPut (graphIn (a .file .now) (a .h)) (a .h .states) (a .h .start) (a .length .0 - a .b - 1) (a .mark) (a .h .states)
+    ClosingPut (graphIn (a .file .now) (a .h)) (a .h .states) (a .h .start) (a .transitions .0 - a .b - 1) (a .mark) (a .h .states)
     (set (d .distances .last .1 .1 .0) (5 * a .h .states + stateAt (a .h) (a .work .now) (a .b)) (entry 5 (a .h .states) (a .work .now) (stateAt (a .h) (a .work .now) (a .b)))) (c .flag-closing .last .1 .1 .0)
 flags c =
     let p = put-of c in
     let n = number-of (away-of p) in
     let a = start n .args in
     let g = graphIn (a .file .now) (a .h) in
-    subst (λ (u : List ℕ). ClosingPut g (a .h .states) (a .h .start) (a .length .0 - a .b - 1) (a .mark) (a .h .states) u (c .flag-closing .last .1 .1 .0)) (put-is p)
+    subst (λ (u : List ℕ). ClosingPut g (a .h .states) (a .h .start) (a .transitions .0 - a .b - 1) (a .mark) (a .h .states) u (c .flag-closing .last .1 .1 .0)) (put-is p)
     (subst (λ (k : ℕ). ClosingPut g (a .h .states) (a .h .start) (k - a .b - 1) (a .mark) (a .h .states) (p .put .last .0) (c .flag-closing .last .1 .1 .0)) (n .number .ensures) (c .flag-closing .ensures))
 
 abbrev flags-of : tie.After-flag-marked → tie.After-flag-closing

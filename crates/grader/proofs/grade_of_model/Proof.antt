@@ -6,8 +6,10 @@ use lib.ListN.{length}
 use Rattle.model.specs.Model.{graphIn}
 use Rattle.model.proofs.Laws.{valid-well-formed}
 use Rattle.paths.specs.Breaks.{breakOf}
-use Rattle.grader.specs.Grade.{verdictOf, verdict}
-use Rattle.grader.proofs.GradeLaws.{accepts-broken, verdict-false, grade-answered}
+use Rattle.grade_verdicts.specs.Verdict.{verdict}
+use Rattle.grader.specs.Grade.{verdictOf}
+use Rattle.grade_verdicts.proofs.AcceptLaws.{verdict-false}
+use Rattle.grader.proofs.GradeLaws.{accepts-broken, grade-answered}
 use Rattle.grader.proofs.grade_of_model.Statement.{statement}
 use Rattle.grader.proofs.grade_of_model.Tie as tie
 

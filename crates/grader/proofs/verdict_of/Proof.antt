@@ -5,8 +5,8 @@ use native.Mathlib.Omega.{arith}
 use borrow.Author.Needs.{needs}
 use borrow.Author.Tests.{not-true, not-false}
 use Rattle.model.specs.Model.{graphIn}
-use Rattle.grader.specs.Grade.{acceptsAt}
-use Rattle.grader.proofs.GradeLaws.{verdict-false, verdict-accepted, accepts-entries}
+use Rattle.grade_verdicts.specs.Verdict.{acceptsAt}
+use Rattle.grade_verdicts.proofs.AcceptLaws.{verdict-false, verdict-accepted, accepts-entries}
 use Rattle.grader.proofs.verdict_of.Statement.{statement}
 use Rattle.grader.proofs.verdict_of.Tie as tie
 

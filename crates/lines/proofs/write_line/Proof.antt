@@ -17,7 +17,7 @@ abbrev stem-of : tie.Start → List ℕ
 stem-of s = take (s .args .k) (s .args .list .now)
 
 abbrev loop-of : tie.Start → List ℕ
-loop-of s = take (s .args .length .0 - s .args .k) (drop (s .args .k) (s .args .list .now))
+loop-of s = take (s .args .transitions .0 - s .args .k) (drop (s .args .k) (s .args .list .now))
 
 -- what all four writers need
 room : (s : tie.Start) → s .args .at + (length (spaceAfter (stem-of s)) + 1 + length (spaceBefore (loop-of s)) + 1) ≤ length (s .args .text .now)

@@ -29,7 +29,7 @@ abbrev μ-loop : tie.MeasureT-loop
 raise : (c : tie.After-get Inv-loop μ-loop)
     → let at = c .before .before .before in
     let a = at .before .before .before .before .before .args in
-    Raising (a .file .now) (a .h) (a .length .0) (a .work .now) (at .loop .work) (at .loop .place - 1) (c .get .result + 1)
+    Raising (a .file .now) (a .h) (a .transitions .0) (a .work .now) (at .loop .work) (at .loop .place - 1) (c .get .result + 1)
 raise c =
     let at = c .before .before .before in
     raising-from _ _ (at .loop .inv .0) (omega arith) (ap (λ x. x + 1) (c .get .ensures .0))
@@ -43,14 +43,14 @@ follower : (c : tie.After-least-follower Inv-loop μ-loop) (x : Follower) → c 
     → let get = get-of c in
     let at = get .before .before .before in
     let a = at .before .before .before .before .before .args in
-    FollowerOf (graphIn (a .file .now) (a .h)) (a .length .0) (at .loop .work) (at .loop .place - 1) (get .get .result + 1) x
+    FollowerOf (graphIn (a .file .now) (a .h)) (a .transitions .0) (at .loop .work) (at .loop .place - 1) (get .get .result + 1) x
 follower c x e =
     let get = get-of c in
     let at = get .before .before .before in
     let a = at .before .before .before .before .before .args in
     let g = graphIn (a .file .now) (a .h) in
-    subst (λ (y : Follower). FollowerOf g (a .length .0) (at .loop .work) (at .loop .place - 1) (get .get .result + 1) y) e
-    (subst (λ (b : ℕ). FollowerOf g (a .length .0) (at .loop .work) (at .loop .place - 1) b (c .least-follower .result .follower)) (omega arith) (c .least-follower .ensures .found))
+    subst (λ (y : Follower). FollowerOf g (a .transitions .0) (at .loop .work) (at .loop .place - 1) (get .get .result + 1) y) e
+    (subst (λ (b : ℕ). FollowerOf g (a .transitions .0) (at .loop .work) (at .loop .place - 1) b (c .least-follower .result .follower)) (omega arith) (c .least-follower .ensures .found))
 
 -- the search for a follower, from where a state was found
 abbrev test-of : tie.After-next Inv-loop μ-loop → tie.After-least-follower Inv-loop μ-loop
@@ -62,7 +62,7 @@ found : (c : tie.After-next Inv-loop μ-loop)
     let at = get .before .before .before in
     let a = at .before .before .before .before .before .args in
     let g = graphIn (a .file .now) (a .h) in
-    LeastFollower g (a .length .0) (upTo g (at .loop .work) (at .loop .place - 1)) (get .get .result + 1) (c .next .given .0 .0)
+    LeastFollower g (a .transitions .0) (upTo g (at .loop .work) (at .loop .place - 1)) (get .get .result + 1) (c .next .given .0 .0)
 found c = follower (test-of c) _ (c .next .given .1)
 
 -- the state stored, from where the list was completed
@@ -77,7 +77,7 @@ completed : (c : tie.After-complete Inv-loop μ-loop)
     → let next = next-of (store-of c) in
     let at = get-of (test-of next) .before .before .before in
     let a = at .before .before .before .before .before .args in
-    Completed (graphIn (a .file .now) (a .h)) (a .length .0) (at .loop .place - 1 + 1)
+    Completed (graphIn (a .file .now) (a .h)) (a .transitions .0) (at .loop .place - 1 + 1)
     (set (test-of next .least-follower .last .1 .1 .0) (at .loop .place - 1) (next .next .given .0 .0))
     (c .complete .last .1 .1 .0)
 completed c = rw (store-of c .append .ensures .stored) at (c .complete .ensures)
@@ -165,7 +165,7 @@ loop-again c =
       raising-nothing (raise (get-of test)) (test .least-follower .ensures .same) (follower test _ (c .enum-told .given .1)),
       λ j e.
           let z : at .loop .place - 1 ≡ j + 1 = omega arith in
-          known-down (subst (λ (k : ℕ). PassedAt (a .file .now) (a .h) (test .least-follower .last .1 .1 .0) (a .length .0) k (test .least-follower .result .passed)) z (test .least-follower .ensures .passed)),
+          known-down (subst (λ (k : ℕ). PassedAt (a .file .now) (a .h) (test .least-follower .last .1 .1 .0) (a .transitions .0) k (test .least-follower .result .passed)) z (test .least-follower .ensures .passed)),
     )
 
 same-length-2 : tie.Need-same-length-2 Inv-loop μ-loop

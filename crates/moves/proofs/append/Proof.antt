@@ -18,7 +18,7 @@ start c = c .before .before .before .before
 -- the table with the state stored: the listing can go on, the list holds states, and what was known of the shorter list is so
 stored : (c : tie.After-put) → let a = c .before .before .before .before .args in
     let w = c .put .last .0 in
-    Prepared (a .file .now) (a .h) w (a .length .0) × (StatesTo (a .h) w (a .place + 1) × PassedAt (a .file .now) (a .h) w (a .length .0) (a .place) (a .passed))
+    Prepared (a .file .now) (a .h) w (a .transitions .0) × (StatesTo (a .h) w (a .place + 1) × PassedAt (a .file .now) (a .h) w (a .transitions .0) (a .place) (a .passed))
 stored c =
     let s = start c in
     let a = s .args in

@@ -43,14 +43,14 @@ origin c = start (tested (put c) .before)
 
 -- the test of the earlier list
 list-tested : (c : tie.After-is-lasso)
-    → let a = start c .args in lassoOf (graphIn (a .file .now) (a .h)) (a .earlier .now) (a .length .0) ≡ c .is-lasso .result
+    → let a = start c .args in lassoOf (graphIn (a .file .now) (a .h)) (a .earlier .now) (a .transitions .0) ≡ c .is-lasso .result
 list-tested c = sym (c .is-lasso .ensures)
 
 -- the earlier list is in the roll
 in-roll : (c : tie.Else1) → let a = start (c .before) .args in List·Memᴰ (a .earlier .now) (roll (graphIn (a .file .now) (a .h)))
 in-roll c =
     let s = start (c .before) in
-    lassoOf-mem (graphIn (s .args .file .now) (s .args .h)) (valid-well-formed (s .pre .0 .valid)) (s .args .length .0) (s .pre .1) (s .args .earlier .now)
+    lassoOf-mem (graphIn (s .args .file .now) (s .args .h)) (valid-well-formed (s .pre .0 .valid)) (s .args .transitions .0) (s .pre .1) (s .args .earlier .now)
     (list-tested (c .before) ∙ not-false _ (c .if1 .left))
 
 -- the same of the file's graph
@@ -67,20 +67,20 @@ kept c = c .to-next .ensures .1 ∙ put c .to-list .ensures .1
 follows : (c : tie.Else3)
     → let adv = c .before .before .before in
     let a = origin adv .args in
-    following (a .earlier .now) (roll (graphOf (a .file .now) (a .h .table))) ≡ some (upTo (graphOf (a .file .now) (a .h .table)) (adv .to-next .last .1 .1 .1 .0) (a .length .0))
+    following (a .earlier .now) (roll (graphOf (a .file .now) (a .h .table))) ≡ some (upTo (graphOf (a .file .now) (a .h .table)) (adv .to-next .last .1 .1 .1 .0) (a .transitions .0))
 follows c =
     let adv = c .before .before .before in
     let s = origin adv in
     let a = s .args in
     let w = adv .to-next .last .1 .1 .1 .0 in
-    subst (λ (g : Graph). following (a .earlier .now) (roll g) ≡ some (upTo g w (a .length .0))) (valid-graph (s .pre .0 .valid))
+    subst (λ (g : Graph). following (a .earlier .now) (roll g) ≡ some (upTo g w (a .transitions .0))) (valid-graph (s .pre .0 .valid))
     (moved-some w (adv .to-next .result) (put adv .to-list .ensures .0) (adv .to-next .ensures .0) (not-false _ (c .if3 .left)))
 
 -- a list of the least length fits the table
-fits : (c : tie.After-to-next) → origin c .args .length .0 ≤ length (c .to-next .last .1 .1 .1 .0)
+fits : (c : tie.After-to-next) → origin c .args .transitions .0 ≤ length (c .to-next .last .1 .1 .1 .0)
 fits c =
     let s = origin c in
-    omega (arith, kept c, least-fits (s .pre .0) (s .args .length .0) (s .pre .1), s .pre .0 .room)
+    omega (arith, kept c, least-fits (s .pre .0) (s .args .transitions .0) (s .pre .1), s .pre .0 .room)
 
 is-lasso-requires : tie.Need-is-lasso-requires
 is-lasso-requires c κs = search needs
@@ -92,14 +92,14 @@ returns c =
     let v = s .pre .0 .valid in
     let apart =
     subst (λ (g : Graph). notShortest g (a .earlier .now) ≡ true) (valid-graph v)
-    (notShortest-lasso (graphIn (a .file .now) (a .h)) (valid-well-formed v) (a .length .0) (s .pre .1) (a .earlier .now) (list-tested (c .before) ∙ not-true _ (c .if1 .taken))) in
+    (notShortest-lasso (graphIn (a .file .now) (a .h)) (valid-well-formed v) (a .transitions .0) (s .pre .1) (a .earlier .now) (list-tested (c .before) ∙ not-true _ (c .if1 .taken))) in
     let is = next-not-shortest (a .file .now) (a .h .table) (v .accepted) (v .table-limit) (a .earlier .now) (length (a .answer .now)) (length (a .work .now)) (valid-room v (s .pre .0 .room)) apart in
     (sym (is .outcome-is), (sym (call-answer (a .answer .now) is), refl))
 
 returns-2 : tie.Need-returns-2
 returns-2 c =
     let s = start (c .before .before .before) in
-    absurd (omega (arith, least-fits (s .pre .0) (s .args .length .0) (s .pre .1), c .if2 .taken))
+    absurd (omega (arith, least-fits (s .pre .0) (s .args .transitions .0) (s .pre .1), c .if2 .taken))
 
 to-list-requires : tie.Need-to-list-requires
 to-list-requires c κs =
@@ -139,7 +139,7 @@ returns-4 c =
     let s = origin adv in
     let a = s .args in
     let v = s .pre .0 .valid in
-    let long = length-take-le (a .length .0) (adv .to-next .last .1 .1 .1 .0) (fits adv) in
+    let long = length-take-le (a .transitions .0) (adv .to-next .last .1 .1 .1 .0) (fits adv) in
     let is = next-no-room (a .file .now) (a .h .table) (v .accepted) (v .table-limit) (a .earlier .now) (length (a .answer .now)) (length (a .work .now)) (valid-room v (s .pre .0 .room)) (in-file-roll (tested (put adv))) _ (follows more) (omega (arith, long, counted .entries .ensures, c .if4 .taken)) in
     (sym (is .outcome-is), (sym (call-answer (a .answer .now) is), kept adv))
 
@@ -172,7 +172,7 @@ returns-5 c =
     let a = s .args in
     let v = s .pre .0 .valid in
     let is =
-    following-written (a .file .now) (a .h .table) (v .accepted) (v .table-limit) (length (a .work .now)) (valid-room v (s .pre .0 .room)) (a .earlier .now) (a .answer .now) _ _ (a .h .start) (a .length .0) (wrote .write-list .result)
+    following-written (a .file .now) (a .h .table) (v .accepted) (v .table-limit) (length (a .work .now)) (valid-room v (s .pre .0 .room)) (a .earlier .now) (a .answer .now) _ _ (a .h .start) (a .transitions .0) (wrote .write-list .result)
     (in-file-roll (tested (put adv))) (valid-sizes v .start-is) (fits adv) (follows more) (omega (arith, counted .entries .ensures, free .if4 .left))
     (wrote .write-list .ensures .0 .0) (wrote .write-list .ensures .1) in
     (is .0, (is .1, kept adv))

@@ -12,9 +12,9 @@ use Rattle.model.specs.Model.{graphIn, graphOf}
 use Rattle.model.proofs.Laws.{valid-graph, valid-sizes}
 use Rattle.outcomes.proofs.OutcomeLaws.{call-answer, at-length}
 use Rattle.gate.proofs.GateLaws.{valid-room}
-use Rattle.cursor.specs.Cursor.{BegunSays}
-use Rattle.cursor.specs.declared.Begun.{Begun}
-use Rattle.cursor.proofs.CursorLaws.{never-stopped, full-least}
+use Rattle.begun.specs.Begun.{BegunSays}
+use Rattle.begun.specs.declared.Begun.{Begun}
+use Rattle.begun.proofs.BegunLaws.{never-stopped, full-least}
 use Rattle.next.specs.Next.{nextOutcome, nextAnswer}
 use Rattle.next.proofs.NextLaws.{notShortest-none, next-not-shortest}
 use Rattle.next.proofs.next_of_model.Statement.{statement}

@@ -1,12 +1,12 @@
 -- `write_block` meets its contract. The loop's invariant: the block of the first k places is written.
-use Prim.Native.Nat.{_+_, _-_, _≤_, _<_}
-use mathlib.Core.Path.{_≡_, sym, ap, _∙_}
+use Prim.Native.Nat.{ℕ, _+_, _*_, _-_, _≤_, _<_}
+use mathlib.Core.Path.{_≡_, sym, ap, subst, _∙_}
 use mathlib.Core.Logic.{⊎-elim}
 use native.Mathlib.Omega.{arith}
 use borrow.Author.Needs.{needs}
 use denote.Ref.{now}
 use lib.ListN.{length, getD}
-use Rattle.format.specs.Bytes.{words, bitb}
+use Rattle.format.specs.Bytes.{word, words, bitb}
 use Rattle.format.proofs.Words.{words-length, words-at}
 use Rattle.text.specs.Writing.{Wrote}
 use Rattle.text.proofs.WroteLaws.{wrote-length, wrote-none}
@@ -31,6 +31,15 @@ within c =
     let a = start .args in
     omega (arith, words-length (now (a .targets)), start .pre .1 .0, c .loop-test .taken)
 
+-- the word that a turn looks at is the mask at place k
+looked : (c : tie.After-word Inv-loop μ-loop) →
+    let at-loop = c .before .before in
+    let a = at-loop .before .before .before .before .args in
+    c .word .result ≡ word (now (a .masks)) (2 * at-loop .loop .k)
+looked c =
+    let a = c .before .before .before .before .before .before .args in
+    subst (λ (n : ℕ). c .word .result ≡ word (now (a .masks)) n) (omega arith) (c .word .ensures .0)
+
 -- the test of a turn is that of the mask at place k
 turn : (c : tie.After-mask-holds Inv-loop μ-loop) →
     let at-loop = c .before .before .before in
@@ -39,7 +48,7 @@ turn : (c : tie.After-mask-holds Inv-loop μ-loop) →
 turn c =
     let at-loop = c .before .before .before in
     let a = at-loop .before .before .before .before .args in
-    ap (λ m. bitb m (a .letter)) (words-at (now (a .masks)) (at-loop .loop .k) (within (c .before .before) .0) ∙ sym (c .before .word .ensures .0))
+    ap (λ m. bitb m (a .letter)) (words-at (now (a .masks)) (at-loop .loop .k) (within (c .before .before) .0) ∙ sym (looked (c .before)))
     ∙ sym (c .mask-holds .ensures)
 
 loop-holds : tie.Need-loop-holds Inv-loop μ-loop

@@ -37,7 +37,7 @@ returns : tie.Need-returns
 returns c =
     let counted = c .before .before .before in
     let a = counted .before .before .before .args in
-    sym (lassoOf-other (graphIn (now (a .file)) (a .h)) (now (a .list)) (a .length .0) (λ e. omega (arith, c .if1 .taken, counted .entries .ensures, e)))
+    sym (lassoOf-other (graphIn (now (a .file)) (a .h)) (now (a .list)) (a .transitions .0) (λ e. omega (arith, c .if1 .taken, counted .entries .ensures, e)))
 
 is-path-requires : tie.Need-is-path-requires
 is-path-requires c κs = search needs
@@ -45,7 +45,7 @@ is-path-requires c κs = search needs
 returns-2 : tie.Need-returns-2
 returns-2 c =
     let a = start (c .before) .args in
-    sym (lassoOf-no-path (graphIn (now (a .file)) (a .h)) (now (a .list)) (a .length .0) (path-tested (c .before) ∙ not-true _ (c .if2 .taken)))
+    sym (lassoOf-no-path (graphIn (now (a .file)) (a .h)) (now (a .list)) (a .transitions .0) (path-tested (c .before) ∙ not-true _ (c .if2 .taken)))
 
 closes-requires : tie.Need-closes-requires
 closes-requires c κs =
@@ -58,7 +58,7 @@ returns-3 : tie.Need-returns-3
 returns-3 c =
     let tested = c .before .before in
     let a = start tested .args in
-    c .closes .ensures ∙ lassoOf-closes (graphIn (now (a .file)) (a .h)) (now (a .list)) (a .length .0) (omega (arith, tested .before .if1 .left, tested .before .before .before .before .entries .ensures)) (is-path (c .before))
+    c .closes .ensures ∙ lassoOf-closes (graphIn (now (a .file)) (a .h)) (now (a .list)) (a .transitions .0) (omega (arith, tested .before .if1 .left, tested .before .before .before .before .entries .ensures)) (is-path (c .before))
 
 pub is-lasso-spec : {M : Type 1} → statement M
 is-lasso-spec =

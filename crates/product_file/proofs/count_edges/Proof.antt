@@ -6,8 +6,8 @@ use denote.Ref.{now}
 use lib.ListN.{length, length-append}
 use Rattle.writer.specs.File.{edgesBelow}
 use Rattle.writer.proofs.FileLaws.{edges-next}
-use Rattle.product_file.specs.Combined.{combined}
-use Rattle.product_file.proofs.CombinedLaws.{pairs-are}
+use Rattle.combined.specs.Combined.{combined}
+use Rattle.combined.proofs.CombinedLaws.{pairs-are}
 use Rattle.product_file.proofs.count_edges.Statement.{statement}
 use Rattle.product_file.proofs.count_edges.Tie as tie
 

@@ -11,9 +11,9 @@ use Rattle.format.specs.Layout.{markBytes}
 use Rattle.text.specs.Writing.{Wrote}
 use Rattle.text.proofs.WroteLaws.{wrote-length, wrote-then, wrote-as}
 use Rattle.writer.specs.File.{words16, edgesBelow, edgeTotal, headerWords, rowWords, markByte}
-use Rattle.product_file.specs.Combined.{combined, pairMarkByte}
+use Rattle.combined.specs.Combined.{combined, pairMarkByte}
 use Rattle.writer.specs.Tables.{TablesFit}
-use Rattle.product_file.proofs.CombinedLaws.{pairs-are, initial-pair-is, initial-pair-below}
+use Rattle.combined.proofs.CombinedLaws.{pairs-are, initial-pair-is, initial-pair-below}
 use Rattle.writer.proofs.TableLaws.{table-bytes-length}
 use Rattle.product_file.proofs.write_product.Statement.{statement}
 use Rattle.product_file.proofs.write_product.Tie as tie

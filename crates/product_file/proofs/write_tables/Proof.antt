@@ -9,8 +9,8 @@ use Rattle.lasso.specs.Graph.{Graph}
 use Rattle.format.specs.Layout.{edgesAt}
 use Rattle.text.proofs.WroteLaws.{wrote-length}
 use Rattle.writer.specs.File.{edgesBelow}
-use Rattle.product_file.specs.Combined.{combined}
-use Rattle.product_file.proofs.CombinedLaws.{pairs-are}
+use Rattle.combined.specs.Combined.{combined}
+use Rattle.combined.proofs.CombinedLaws.{pairs-are}
 use Rattle.writer.proofs.TableLaws.{tablesTo, PassedTo, passed-none, passed-length, passed-entry, entry-written, edges-written, edges-fit, tables-written}
 use Rattle.product_file.proofs.write_tables.Statement.{statement}
 use Rattle.product_file.proofs.write_tables.Tie as tie

@@ -6,7 +6,7 @@ use denote.Ref.{now}
 use borrow.Author.Needs.{needs}
 use Rattle.format.specs.Layout.{states, edgeCount, totalOf}
 use Rattle.model.specs.Values.{checkWith}
-use Rattle.model.proofs.HeadLaws.{HeadKept, head-kept, head-refuses}
+use Rattle.checking.proofs.HeadLaws.{HeadKept, head-kept, head-refuses}
 use Rattle.model.proofs.Laws.{header-numbers}
 use Rattle.property.specs.Property.{propertyTotal}
 use Rattle.property.proofs.check_property.Statement.{statement}

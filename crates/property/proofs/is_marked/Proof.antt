@@ -5,7 +5,7 @@ use native.Mathlib.Omega.{arith}
 use denote.Ref.{now}
 use lib.ListN.{getD}
 use Rattle.format.specs.Bytes.{bitb}
-use Rattle.format.specs.Layout.{tableAt}
+use Rattle.format.specs.Layout.{states, edgeCount, tableAt}
 use Rattle.property.proofs.PropertyLaws.{property-facts, property-numbers}
 use Rattle.property.proofs.is_marked.Statement.{statement}
 use Rattle.property.proofs.is_marked.Tie as tie
@@ -15,20 +15,26 @@ table-at-requires c κs =
     let v = c .before .pre .0 in
     omega (arith, property-numbers v, property-facts v)
 
+-- the marks begin where mark table 0 does
+place : (c : tie.After-table-at) →
+    let f = now (c .before .before .args .file) in
+    c .table-at .result ≡ tableAt (states f) (edgeCount f) 0
+place c =
+    let start = c .before .before in
+    let h = start .args .h in
+    let numbers = property-numbers (start .pre .0) in
+    let by-header : c .table-at .result ≡ tableAt (h .states) (h .edges) 0 = c .table-at .ensures in
+    by-header ∙ ap₂ (λ (n m : ℕ). tableAt n m 0) (numbers .0) (numbers .1)
+
 bit-requires : tie.Need-bit-requires
 bit-requires c κs =
     let v = c .before .before .pre .0 in
-    omega (arith, c .table-at .ensures, property-numbers v, property-facts v)
+    omega (arith, place c, property-numbers v, property-facts v)
 
 returns : tie.Need-returns
 returns c =
-    let start = c .before .before .before in
-    let a = start .args in
-    let numbers = property-numbers (start .pre .0) in
-    let place : c .before .table-at .result ≡ tableAt (a .h .states) (a .h .edges) 0 = c .before .table-at .ensures in
-    c .bit .ensures
-    ∙ ap (λ (at : ℕ). bitb (getD (now (a .file)) (at + a .q / 8) 0) (a .q % 8))
-    (place ∙ ap₂ (λ (n m : ℕ). tableAt n m 0) (numbers .0) (numbers .1))
+    let a = c .before .before .before .args in
+    c .bit .ensures ∙ ap (λ (at : ℕ). bitb (getD (now (a .file)) (at + a .q / 8) 0) (a .q % 8)) (place (c .before))
 
 pub is-marked-spec : {M : Type 1} → statement M
 is-marked-spec = tie.close (tie.spec table-at-requires bit-requires returns)

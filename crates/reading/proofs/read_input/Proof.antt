@@ -12,10 +12,10 @@ use Rattle.reading.proofs.read_input.Statement.{statement}
 use Rattle.reading.proofs.read_input.Tie as tie
 
 abbrev Inv-loop : tie.InvT-loop
-Inv-loop from buffer₀ enough count₀ buffer count = (count ≤ length buffer) × (length buffer ≡ length buffer₀)
+Inv-loop from buffer₀ count₀ buffer count = (count ≤ length buffer) × (length buffer ≡ length buffer₀)
 
 abbrev μ-loop : tie.MeasureT-loop
-μ-loop from buffer₀ enough count₀ buffer count = length buffer - count
+μ-loop from buffer₀ count₀ buffer count = length buffer - count
 
 -- the part that is lent to a read keeps its length
 part-kept : (c : tie.After-read-once Inv-loop μ-loop) → let l = c .before .before .before .loop in

@@ -18,11 +18,11 @@ start c = c .before .before .before .before .before
 
 -- the line read off the answer table is the list's
 same-line : (c : tie.After-write-list) → let a = start c .args in let t = c .write-list .last .1 .1 .1 .0 in
-    stemLoop (take (c .write-list .result) t) (take (a .length .0 - c .write-list .result) (drop (c .write-list .result) t)) ≡ line (a .h .start ∷ take (a .length .0) (a .work .now))
+    stemLoop (take (c .write-list .result) t) (take (a .transitions .0 - c .write-list .result) (drop (c .write-list .result) t)) ≡ line (a .h .start ∷ take (a .transitions .0) (a .work .now))
 same-line c =
     let s = start c in
-    let long : length (take (s .args .length .0) (s .args .work .now)) ≡ s .args .length .0 = length-take-le (s .args .length .0) (s .args .work .now) (s .pre .0) in
-    line-read (s .args .h .start ∷ take (s .args .length .0) (s .args .work .now)) _ _ (c .write-list .result) (s .args .length .0) (c .write-list .ensures .1)
+    let long : length (take (s .args .transitions .0) (s .args .work .now)) ≡ s .args .transitions .0 = length-take-le (s .args .transitions .0) (s .args .work .now) (s .pre .0) in
+    line-read (s .args .h .start ∷ take (s .args .transitions .0) (s .args .work .now)) _ _ (c .write-list .result) (s .args .transitions .0) (c .write-list .ensures .1)
     (c .write-list .ensures .0 .0) (omega arith) (c .write-list .ensures .0 .1) (omega arith)
 
 write-list-requires : tie.Need-write-list-requires

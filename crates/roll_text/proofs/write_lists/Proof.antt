@@ -73,11 +73,11 @@ to-next-requires c κs = record { place = _; at = at-loop (c .before .before .be
 moved : (c : tie.After-to-next Inv-loop μ-loop) (more : Bool) → c .to-next .result ≡ more
     → let l = at-loop (written-list c) in
     let a = from l .args in
-    MovedTo (a .file .now) (a .h) (a .length .0) (l .loop .count) (c .to-next .last .1 .1 .1 .0) more
+    MovedTo (a .file .now) (a .h) (a .transitions .0) (l .loop .count) (c .to-next .last .1 .1 .1 .0) more
 moved c more e =
     let l = at-loop (written-list c) in
     let a = from l .args in
-    subst (λ (b : Bool). MovedTo (a .file .now) (a .h) (a .length .0) (l .loop .count) (c .to-next .last .1 .1 .1 .0) b) e
+    subst (λ (b : Bool). MovedTo (a .file .now) (a .h) (a .transitions .0) (l .loop .count) (c .to-next .last .1 .1 .1 .0) b) e
     (c .to-next .ensures .0 (l .loop .count) (l .loop .inv .here))
 
 write-closing-requires : tie.Need-write-closing-requires Inv-loop μ-loop

@@ -68,7 +68,7 @@ returns-2 c =
     let a = start (second .before) .args in
     made-as
     (called-copy (a .script .now) (a .copy .now) (a .answer .now) (a .work .now) (second .before .number-at .ensures)
-    (second .number-at2 .ensures) (else .if1 .left) (then .if2 .taken))
+    (second .number-at2 .ensures) (else .if1 .left) (omega (arith, then .if2 .taken)))
     (done .play-next .ensures)
 
 cast-end : tie.Need-cast-end

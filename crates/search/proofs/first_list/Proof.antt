@@ -33,7 +33,7 @@ returns : tie.Need-returns
 returns c =
     let s = c .before .before .before .before .before in
     let sizes = valid-sizes (s .pre .0 .valid) in
-    absurd (omega (arith, leastLength-range (graphIn (s .args .file .now) (s .args .h)) (s .args .length .0) (s .pre .1 .0), c .if1 .taken))
+    absurd (omega (arith, leastLength-range (graphIn (s .args .file .now) (s .args .h)) (s .args .transitions .0) (s .pre .1 .0), c .if1 .taken))
 
 entries-requires : tie.Need-entries-requires
 entries-requires c κs = search needs
@@ -44,14 +44,14 @@ returns-2 c =
     let s = start counted in
     let a = s .args in
     let v = s .pre .0 .valid in
-    let least = subst (λ (g : Graph). leastLength g ≡ some (a .length .0)) (valid-graph v) (s .pre .1 .0) in
+    let least = subst (λ (g : Graph). leastLength g ≡ some (a .transitions .0)) (valid-graph v) (s .pre .1 .0) in
     let rounds-are = subst (λ (g : Graph). a .rounds ≡ length (candidates g)) (valid-graph v) (s .pre .1 .1) in
-    let asked : WithEnough (a .h .table) (a .rounds) (a .length .0) (λ ask.
-    (leastLength (graphAsked (a .file .now) ask) ≡ some (a .length .0)) × (a .rounds ≡ length (candidates (graphAsked (a .file .now) ask)))) =
-    λ ask asks. subst (λ (g : Graph). (leastLength g ≡ some (a .length .0)) × (a .rounds ≡ length (candidates g)))
+    let asked : WithEnough (a .h .table) (a .rounds) (a .transitions .0) (λ ask.
+    (leastLength (graphAsked (a .file .now) ask) ≡ some (a .transitions .0)) × (a .rounds ≡ length (candidates (graphAsked (a .file .now) ask)))) =
+    λ ask asks. subst (λ (g : Graph). (leastLength g ≡ some (a .transitions .0)) × (a .rounds ≡ length (candidates g)))
     (ap (graphOf (a .file .now)) (sym (asks .named))) (least, rounds-are) in
-    let is : WithEnough (a .h .table) (a .rounds) (a .length .0) (λ ask. SearchIs (a .file .now) ask (length (a .answer .now)) (length (a .work .now)) (refused 15) none) =
-    λ ask asks. search-no-room (a .file .now) (v .accepted) ask (length (a .answer .now)) (length (a .work .now)) (valid-room v (s .pre .0 .room)) (omega (arith, v .table-limit, asks .named)) (asks .not-high) (omega (arith, asked ask asks .1, asks .allowed)) (a .length .0) (asked ask asks .0) (asks .within) (omega (arith, counted .entries .ensures, c .if2 .taken)) in (
+    let is : WithEnough (a .h .table) (a .rounds) (a .transitions .0) (λ ask. SearchIs (a .file .now) ask (length (a .answer .now)) (length (a .work .now)) (refused 15) none) =
+    λ ask asks. search-no-room (a .file .now) (v .accepted) ask (length (a .answer .now)) (length (a .work .now)) (valid-room v (s .pre .0 .room)) (omega (arith, v .table-limit, asks .named)) (asks .not-high) (omega (arith, asked ask asks .1, asks .allowed)) (a .transitions .0) (asked ask asks .0) (asks .within) (omega (arith, counted .entries .ensures, c .if2 .taken)) in (
       λ ask asks. sym (is ask asks .outcome-is),
       (λ ask asks. sym (call-answer (a .answer .now) (is ask asks)), refl),
     )
@@ -65,7 +65,7 @@ write-list-requires c κs =
     let entered = roomy listed .before .before .before in
     let s = start entered in
     let sizes = valid-sizes (s .pre .0 .valid) in
-    omega (arith, leastLength-range (graphIn (s .args .file .now) (s .args .h)) (s .args .length .0) (s .pre .1 .0), s .pre .0 .room, listed .to-first .ensures .1, entered .entries .ensures, roomy listed .if2 .left)
+    omega (arith, leastLength-range (graphIn (s .args .file .now) (s .args .h)) (s .args .transitions .0) (s .pre .1 .0), s .pre .0 .room, listed .to-first .ensures .1, entered .entries .ensures, roomy listed .if2 .left)
 
 cast-loop-start : tie.Need-cast-loop-start
 cast-loop-start c = search needs
@@ -85,13 +85,13 @@ returns-3 c =
     let a = s .args in
     let v = s .pre .0 .valid in
     let sizes = valid-sizes v in
-    let range = leastLength-range (graphIn (a .file .now) (a .h)) (a .length .0) (s .pre .1 .0) in
+    let range = leastLength-range (graphIn (a .file .now) (a .h)) (a .transitions .0) (s .pre .1 .0) in
     let kept = listed .to-first .ensures .1 in
     let rounds-are = subst (λ (g : Graph). a .rounds ≡ length (candidates g)) (valid-graph v) (s .pre .1 .1) in
-    let least = subst (λ (g : Graph). leastLength g ≡ some (a .length .0)) (valid-graph v) (s .pre .1 .0) in
-    let first = subst (λ (g : Graph). head? (roll g) ≡ some (upTo g (listed .to-first .last .1 .1 .1 .0) (a .length .0))) (valid-graph v) (stands-head (listed .to-first .ensures .0 .current)) in
+    let least = subst (λ (g : Graph). leastLength g ≡ some (a .transitions .0)) (valid-graph v) (s .pre .1 .0) in
+    let first = subst (λ (g : Graph). head? (roll g) ≡ some (upTo g (listed .to-first .last .1 .1 .1 .0) (a .transitions .0))) (valid-graph v) (stands-head (listed .to-first .ensures .0 .current)) in
     let both =
-    first-written (a .file .now) (a .h .table) (v .accepted) (v .table-limit) (length (a .work .now)) (valid-room v (s .pre .0 .room)) (a .answer .now) _ _ (a .h .start) (a .length .0) (wrote .write-list .result) (a .rounds)
+    first-written (a .file .now) (a .h .table) (v .accepted) (v .table-limit) (length (a .work .now)) (valid-room v (s .pre .0 .room)) (a .answer .now) _ _ (a .h .start) (a .transitions .0) (wrote .write-list .result) (a .rounds)
     (sizes .start-is) (omega (arith, kept, s .pre .0 .room)) least first (omega (arith, entered .entries .ensures, roomy listed .if2 .left))
     (wrote .write-list .ensures .0 .0) rounds-are (wrote .write-list .ensures .1) in
     (λ ask asks. both ask asks .0, (λ ask asks. both ask asks .1, kept))

@@ -15,9 +15,9 @@ use Rattle.gate.specs.Gate.{namedRules}
 use Rattle.model.specs.Model.{graphIn}
 use Rattle.outcomes.proofs.OutcomeLaws.{call-answer, at-length}
 use Rattle.gate.proofs.GateLaws.{named-graph, valid-room, valid-clear}
-use Rattle.cursor.specs.Cursor.{BegunSays}
-use Rattle.cursor.specs.declared.Begun.{Begun}
-use Rattle.cursor.proofs.CursorLaws.{begun-least}
+use Rattle.begun.specs.Begun.{BegunSays}
+use Rattle.begun.specs.declared.Begun.{Begun}
+use Rattle.begun.proofs.BegunLaws.{begun-least}
 use Rattle.outcomes.specs.Outcome.{answered}
 use Rattle.search.specs.Search.{stopped, noneWithin, graphAsked, searchOutcome, searchAnswer, AsksEnough}
 use Rattle.search.proofs.SearchLaws.{search-too-high, search-stopped, search-none}

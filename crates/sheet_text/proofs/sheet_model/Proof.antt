@@ -13,9 +13,9 @@ use Rattle.lasso.specs.Rounds.{candidates}
 use Rattle.model.specs.Model.{graphIn, graphOf}
 use Rattle.model.proofs.Laws.{valid-sizes}
 use Rattle.gate.proofs.GateLaws.{named-graph, valid-room}
-use Rattle.cursor.specs.Cursor.{BegunSays}
-use Rattle.cursor.specs.declared.Begun.{Begun}
-use Rattle.cursor.proofs.CursorLaws.{never-stopped, full-least}
+use Rattle.begun.specs.Begun.{BegunSays}
+use Rattle.begun.specs.declared.Begun.{Begun}
+use Rattle.begun.proofs.BegunLaws.{never-stopped, full-least}
 use Rattle.text.proofs.WroteLaws.{wrote-length, wrote-then, wrote-as}
 use Rattle.sheet_head.specs.Words.{noneLine}
 use Rattle.sheet_text.specs.SheetText.{sheetText, sheetAnswer}

@@ -44,29 +44,29 @@ abbrev figured : tie.After-write-lists → tie.After-write-figure
 figured c = c .before .before .before .before .before .before
 
 -- the length is the least of an accepting path of the file
-least : (s : tie.Start) → leastLength (graphOf (s .args .file .now) 0) ≡ some (s .args .length .0)
-least s = subst (λ (g : Graph). leastLength g ≡ some (s .args .length .0)) (named-graph (s .pre .0 .0 .valid) (s .pre .0 .1)) (s .pre .1 .0)
+least : (s : tie.Start) → leastLength (graphOf (s .args .file .now) 0) ≡ some (s .args .transitions .0)
+least s = subst (λ (g : Graph). leastLength g ≡ some (s .args .transitions .0)) (named-graph (s .pre .0 .0 .valid) (s .pre .0 .1)) (s .pre .1 .0)
 
 -- the rounds are as many as the file has candidates
 rounds-are : (s : tie.Start) → s .args .rounds ≡ length (candidates (graphOf (s .args .file .now) 0))
 rounds-are s = subst (λ (g : Graph). s .args .rounds ≡ length (candidates g)) (named-graph (s .pre .0 .0 .valid) (s .pre .0 .1)) (s .pre .1 .1 .0)
 
 -- no accepting path is longer than there are states
-length-range : (s : tie.Start) → s .args .length .0 ≤ 4096
+length-range : (s : tie.Start) → s .args .transitions .0 ≤ 4096
 length-range s =
     let sizes = valid-sizes (s .pre .0 .0 .valid) in
-    omega (arith, leastLength-range (graphOf (s .args .file .now) 0) (s .args .length .0) (least s))
+    omega (arith, leastLength-range (graphOf (s .args .file .now) 0) (s .args .transitions .0) (least s))
 
 -- the sheet of a file with lists that have room
 lists-are : (c : tie.Else1) → let a = start (counted c) .args in
     SheetIs (a .file .now) (length (a .answer .now)) (length (a .work .now))
-    (headOf (a .file .now) ++ figure shortestWord (a .length .0) ++ listsText (roll (graphOf (a .file .now) 0)))
+    (headOf (a .file .now) ++ figure shortestWord (a .transitions .0) ++ listsText (roll (graphOf (a .file .now) 0)))
     (lastPrinted (roll (graphOf (a .file .now) 0)))
 lists-are c =
     let s = start (counted c) in
     let a = s .args in
     let v = s .pre .0 .0 .valid in
-    sheet-lists (a .file .now) (v .accepted) (length (a .answer .now)) (length (a .work .now)) (valid-room v (s .pre .0 .0 .room)) (a .length .0) (least s)
+    sheet-lists (a .file .now) (v .accepted) (length (a .answer .now)) (length (a .work .now)) (valid-room v (s .pre .0 .0 .room)) (a .transitions .0) (least s)
     (omega (arith, counted c .entries .ensures, c .if1 .left))
 
 entries-requires : tie.Need-entries-requires
@@ -88,7 +88,7 @@ returns c =
     let s = start before in
     let a = s .args in
     let v = s .pre .0 .0 .valid in
-    let is = sheet-no-room (a .file .now) (v .accepted) (length (a .answer .now)) (length (a .work .now)) (valid-room v (s .pre .0 .0 .room)) (a .length .0) (least s) (omega (arith, before .entries .ensures, then .if1 .taken)) in
+    let is = sheet-no-room (a .file .now) (v .accepted) (length (a .answer .now)) (length (a .work .now)) (valid-room v (s .pre .0 .0 .room)) (a .transitions .0) (least s) (omega (arith, before .entries .ensures, then .if1 .taken)) in
     (wrote-as (sym (is .text-is)) (done .write-refusal .ensures), (sym (sheet-answer (a .answer .now) is), refl))
 
 write-head-requires : tie.Need-write-head-requires
@@ -150,7 +150,7 @@ returns-2 c =
     let g-is = named-graph v (s .pre .0 .1) in
     let same-text = ap (λ (g : Graph). listsText (roll g)) g-is in
     let same-answer = ap (λ (g : Graph). written (lastPrinted (roll g)) (a .answer .now)) g-is in (
-      wrote-as (ap (λ (r : List ℕ). r ++ figure shortestWord (a .length .0) ++ listsText (roll (graphOf (a .file .now) 0))) (head-is v (rounds-are s)) ∙ sym (is .text-is))
+      wrote-as (ap (λ (r : List ℕ). r ++ figure shortestWord (a .transitions .0) ++ listsText (roll (graphOf (a .file .now) 0))) (head-is v (rounds-are s)) ∙ sym (is .text-is))
           (wrote-then (wrote-then (head .write-head .ensures) (wrote-as (ap (figure shortestWord) (length-line .before .before .before .number .ensures)) (length-line .write-figure .ensures))) (wrote-as same-text (lists .write-lists .ensures .0))),
       (lists .write-lists .ensures .1 .0 ∙ same-answer ∙ sym (sheet-answer (a .answer .now) is), lists .write-lists .ensures .1 .1),
     )

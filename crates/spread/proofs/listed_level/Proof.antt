@@ -9,7 +9,7 @@ use borrow.Author.Needs.{needs}
 use denote.Ref.{now}
 use Rattle.lasso.proofs.Tests.{lt-or-ge}
 use Rattle.frontier.specs.Buckets.{sources}
-use Rattle.spread.specs.Promises.{ListedAt}
+use Rattle.spread.specs.Bounds.{ListedAt}
 use Rattle.spread.proofs.listed_level.Statement.{statement}
 use Rattle.spread.proofs.listed_level.Tie as tie
 

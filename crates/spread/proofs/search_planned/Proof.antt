@@ -10,7 +10,8 @@ use Rattle.lasso.specs.Graph.{Graph}
 use Rattle.model.specs.Model.{graphIn}
 use Rattle.model.proofs.Laws.{valid-sizes, valid-well-formed}
 use Rattle.frontier.specs.Buckets.{Planned, HasPlan}
-use Rattle.spread.specs.Promises.{ApartInPlan, Bounds, Spread}
+use Rattle.edge_search.specs.Promises.{ApartInPlan, Spread}
+use Rattle.spread.specs.Bounds.{Bounds}
 use Rattle.spread.proofs.BoundLaws.{apart-in-plan, planned-down, found-before, found-itself}
 use Rattle.spread.proofs.search_planned.Statement.{statement}
 use Rattle.spread.proofs.search_planned.Tie as tie

@@ -36,16 +36,16 @@ ready : (c : tie.At-loop Inv-loop μ-loop) → RoundsReady (start c .args .file 
 ready c = ready-same (6 * start c .args .h .states) (changed c) (start c .pre .0)
 
 -- the length is at most the number of states
-length-le : (c : tie.At-loop Inv-loop μ-loop) → start c .args .length .0 ≤ start c .args .h .states
+length-le : (c : tie.At-loop Inv-loop μ-loop) → start c .args .transitions .0 ≤ start c .args .h .states
 length-le c =
     let s = start c in
-    omega (arith, leastLength-range (graphIn (s .args .file .now) (s .args .h)) (s .args .length .0) (s .pre .1), valid-sizes (s .pre .0 .valid) .states-are)
+    omega (arith, leastLength-range (graphIn (s .args .file .now) (s .args .h)) (s .args .transitions .0) (s .pre .1), valid-sizes (s .pre .0 .valid) .states-are)
 
 -- one more state is passed
 state-passed : (c : tie.Joined1 Inv-loop μ-loop) →
     let l = c .before .before .before .before in
     let s = start l .args in
-    Filling (graphIn (s .file .now) (s .h)) (s .length .0) (l .loop .s + 1) (s .h .states) (l .before .before .before .flag-starts .last .1 .1 .0) (c .if1 .work)
+    Filling (graphIn (s .file .now) (s .h)) (s .transitions .0) (l .loop .s + 1) (s .h .states) (l .before .before .before .flag-starts .last .1 .1 .0) (c .if1 .work)
 state-passed c =
     let l = c .before .before .before .before in
     elim (c .if1 .came) [

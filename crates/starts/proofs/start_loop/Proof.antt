@@ -36,22 +36,22 @@ distance-entry c =
 -- the loop length is asked for within the rest of the length
 loop-within : (c : tie.Else2) →
     let at = c .before .before .before in
-    startLoop (graph at) (start at .args .length .0) (start at .args .s) ≡ under (suc (c .before .number .result + 1 - at .get .result)) (loopLength (graph at) (start at .args .s))
+    startLoop (graph at) (start at .args .transitions .0) (start at .args .s) ≡ under (suc (c .before .number .result + 1 - at .get .result)) (loopLength (graph at) (start at .args .s))
 loop-within c =
     let at = c .before .before .before in
     let reached : 1 ≤ at .get .result = omega (arith, eqb-false) in
-    rw (c .before .number .ensures) (startLoop-reached (graph at) (start at .args .length .0) (start at .args .s) (at .get .result) (distance-entry at) reached)
+    rw (c .before .number .ensures) (startLoop-reached (graph at) (start at .args .transitions .0) (start at .args .s) (at .get .result) (distance-entry at) reached)
 
 -- a length was found: it is the loop length, and it is at most 4,096
 loop-found : (c : tie.After-known-told) →
     let at = c .before .before .before .before .before .before .before .before .before .before in
-    (startLoop (graph at) (start at .args .length .0) (start at .args .s) ≡ some (c .before .answer .given .0 .0)) × (c .before .answer .given .0 .0 ≤ 4096)
+    (startLoop (graph at) (start at .args .transitions .0) (start at .args .s) ≡ some (c .before .answer .given .0 .0)) × (c .before .answer .given .0 .0 ≤ 4096)
 loop-found c =
     let e = c .before .before .before .before .before in
     let s = start (e .before .before .before .before .before) in
     let within = loop-within (e .before .before) ∙ (rw (c .before .answer .given .1) at (e .loop-length .ensures .0)) in
     let valid = s .pre .0 .valid in
-    let bound = startLoop-iff (valid-well-formed valid) (s .args .length .0) (s .args .s) (c .before .answer .given .0 .0) .0 within in
+    let bound = startLoop-iff (valid-well-formed valid) (s .args .transitions .0) (s .args .s) (c .before .answer .given .0 .0) .0 within in
     (within, omega (arith, bound .3, valid-sizes valid .states-range))
 
 get-requires : tie.Need-get-requires
@@ -61,7 +61,7 @@ same-length : tie.Need-same-length
 same-length c = search needs
 
 returns : tie.Need-returns
-returns c = ((startLoop-unreached (graph (c .before)) (start (c .before) .args .length .0) (start (c .before) .args .s) (omega (arith, eqb-true, distance-entry (c .before))), omega arith), sameOutside-refl _ _ _)
+returns c = ((startLoop-unreached (graph (c .before)) (start (c .before) .args .transitions .0) (start (c .before) .args .s) (omega (arith, eqb-true, distance-entry (c .before))), omega arith), sameOutside-refl _ _ _)
 
 number-requires : tie.Need-number-requires
 number-requires c κs = search needs

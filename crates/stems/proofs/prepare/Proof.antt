@@ -19,7 +19,7 @@ start c = c .before .before .before .before .before .before .before .before .bef
 -- the distances are those up to the least length
 away : (c : tie.After-distances) →
     let a = start c .args in
-    DistancesWithin (graphIn (a .file .now) (a .h)) (a .h .start) (a .length .0) (c .before .before .before .before .before .prepare .last .1 .1 .0) (c .distances .last .1 .1 .0) (c .distances .result)
+    DistancesWithin (graphIn (a .file .now) (a .h)) (a .h .start) (a .transitions .0) (c .before .before .before .before .before .prepare .last .1 .1 .0) (c .distances .last .1 .1 .0) (c .distances .result)
 away c =
     let a = start c .args in
     subst (λ (k : ℕ). DistancesWithin (graphIn (a .file .now) (a .h)) (a .h .start) k (c .before .before .before .before .before .prepare .last .1 .1 .0) (c .distances .last .1 .1 .0) (c .distances .result))
@@ -42,7 +42,7 @@ distances-requires : tie.Need-distances-requires
 distances-requires c κs =
     let s = c .before .before .before .before .before .before .before .before in
     let sizes : Sizes (s .args .file .now) (s .args .h) = valid-sizes (s .pre .0 .valid) in
-    let range = leastLength-range (graphIn (s .args .file .now) (s .args .h)) (s .args .length .0) (s .pre .1) in
+    let range = leastLength-range (graphIn (s .args .file .now) (s .args .h)) (s .args .transitions .0) (s .pre .1) in
     let same = c .before .before .before .before .prepare .ensures .1 .same-length in
     let number = c .before .number .ensures in
     (s .pre .0 .valid, (sizes .start-below, (omega arith, (omega arith, omega (arith, s .pre .0 .room)))))

@@ -25,11 +25,11 @@ abbrev start : tie.After-get → tie.Start
 start c = c .before .before .before .before
 
 -- what is asked of the state
-asked : (s : tie.Start) → let a = s .args in Asked (a .file .now) (a .h) (a .work .now) (a .length .0) (a .place) (a .t)
+asked : (s : tie.Start) → let a = s .args in Asked (a .file .now) (a .h) (a .work .now) (a .transitions .0) (a .place) (a .t)
 asked s = record { prepared = s .pre .0; within = s .pre .1 .0; path = s .pre .1 .1 .1 .0 }
 
 -- what is known of the list
-known : (s : tie.Start) → let a = s .args in PassedAt (a .file .now) (a .h) (a .work .now) (a .length .0) (a .place) (a .passed)
+known : (s : tie.Start) → let a = s .args in PassedAt (a .file .now) (a .h) (a .work .now) (a .transitions .0) (a .place) (a .passed)
 known s = s .pre .1 .1 .1 .1
 
 -- the entry read is that of t
@@ -51,18 +51,18 @@ start-is : (c : tie.Else2) → let a = start-of c .args in a .passed .start ≡ 
 start-is c = omega (arith, eqb-false, c .if2 .left)
 
 -- a loop start is passed, at place b
-last-start : (c : tie.Else2) → let a = start-of c .args in LastStart (graphIn (a .file .now) (a .h)) (a .length .0) (stateAt (a .h) (a .work .now)) (a .place) (suc (a .passed .start - 1))
+last-start : (c : tie.Else2) → let a = start-of c .args in LastStart (graphIn (a .file .now) (a .h)) (a .transitions .0) (stateAt (a .h) (a .work .now)) (a .place) (suc (a .passed .start - 1))
 last-start c =
     let s = start-of c in
     let a = s .args in
-    subst (λ (x : ℕ). LastStart (graphIn (a .file .now) (a .h)) (a .length .0) (stateAt (a .h) (a .work .now)) (a .place) x) (start-is c) (known s .start)
+    subst (λ (x : ℕ). LastStart (graphIn (a .file .now) (a .h)) (a .transitions .0) (stateAt (a .h) (a .work .now)) (a .place) x) (start-is c) (known s .start)
 
 -- from where the place is not the last
 abbrev passed-of : tie.Else3 → tie.Else2
 passed-of c = c .before .before
 
 -- it is not the last
-more : (c : tie.Else3) → let a = start-of (passed-of c) .args in suc (a .place) < a .length .0
+more : (c : tie.Else3) → let a = start-of (passed-of c) .args in suc (a .place) < a .transitions .0
 more c = omega (arith, eqb-false, c .if3 .left, c .before .number .ensures, start-of (passed-of c) .pre .1 .0)
 
 -- from where the tables are there
@@ -70,7 +70,7 @@ abbrev more-of : tie.After-ensure-tables → tie.Else3
 more-of c = c .before .before .before
 
 -- the tables
-tables : (c : tie.After-ensure-tables) → let a = start-of (passed-of (more-of c)) .args in Tables (graphIn (a .file .now) (a .h)) (a .length .0) (stateAt (a .h) (a .work .now)) (a .passed .start - 1) (c .ensure-tables .last .1 .1 .0)
+tables : (c : tie.After-ensure-tables) → let a = start-of (passed-of (more-of c)) .args in Tables (graphIn (a .file .now) (a .h)) (a .transitions .0) (stateAt (a .h) (a .work .now)) (a .passed .start - 1) (c .ensure-tables .last .1 .1 .0)
 tables c = c .ensure-tables .ensures .0
 
 -- regions 2 to 5 alone changed

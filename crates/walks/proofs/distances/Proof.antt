@@ -9,7 +9,7 @@ use denote.Ref.{now}
 use lib.ListN.{length}
 use Rattle.model.specs.Model.{graphIn}
 use Rattle.model.proofs.Laws.{succs-none, valid-sizes, valid-well-formed}
-use Rattle.spread.specs.declared.SpreadAnswer.the-variants.{Nothing}
+use Rattle.edge_search.specs.declared.SpreadAnswer.the-variants.{Nothing}
 use Rattle.walks.specs.Through.{DistancesWithin}
 use Rattle.walks.proofs.ThroughSteps.{started-distances}
 use Rattle.walks.proofs.distances.Statement.{statement}

@@ -1,82 +1,48 @@
--- `report::show_calls` meets its contract: the places in the script and in the log never pass the end, and the tables keep
--- their lengths.
-use Prim.Native.Nat.{_-_, _≤_}
-use mathlib.Core.Path.{_≡_, sym}
-use lib.ListN.{length}
-use lib.Seq.{length-take-le}
-use borrow.Author.Needs.{needs}
+-- `plays::report::show_calls` meets its contract. The places in the script and in the log never pass the end.
 use native.Mathlib.Omega.{arith}
+use Prim.Native.Nat.{_+_, _-_, _≤_}
+use lib.ListN.{length}
 use Rattle.plays.proofs.report.show_calls.Statement.{statement}
 use Rattle.plays.proofs.report.show_calls.Tie as tie
 
 abbrev Inv-loop : tie.InvT-loop
-Inv-loop file script answer₀ work₀ log₀ at₀ place₀ answer work log at place =
-    (at ≤ length script) × (place ≤ length log₀) × (length answer ≡ length answer₀) × (length work ≡ length work₀) × (length log ≡ length log₀)
+Inv-loop file script room end at₀ place₀ at place = (at ≤ length script) × (place ≤ end + 4)
 
 abbrev μ-loop : tie.MeasureT-loop
-μ-loop file script answer₀ work₀ log₀ at₀ place₀ answer work log at place = length log₀ - place
+μ-loop file script room end at₀ place₀ at place = end + 4 - place
 
 loop-holds : tie.Need-loop-holds Inv-loop μ-loop
-loop-holds c = search needs
-
-add-loop : tie.Need-add-loop Inv-loop μ-loop
-add-loop c = search needs
+loop-holds c = omega arith
 
 size-at-requires : tie.Need-size-at-requires Inv-loop μ-loop
-size-at-requires c κs = search needs
-
-same-length : tie.Need-same-length Inv-loop μ-loop
-same-length c = search needs
-
-same-length-2 : tie.Need-same-length-2 Inv-loop μ-loop
-same-length-2 c = search needs
-
-same-length-3 : tie.Need-same-length-3 Inv-loop μ-loop
-same-length-3 c = search needs
+size-at-requires c κs = omega arith
 
 returns : tie.Need-returns Inv-loop μ-loop
-returns c = search needs
+returns c = omega arith
 
-add-end : tie.Need-add-end Inv-loop μ-loop
-add-end c = search needs
+show-command-requires : tie.Need-show-command-requires Inv-loop μ-loop
+show-command-requires c κs = omega arith
 
-slice-relend-prefix-replay : tie.Need-slice-relend-prefix-replay Inv-loop μ-loop
-slice-relend-prefix-replay c = search needs
+entry-requires : tie.Need-entry-requires Inv-loop μ-loop
+entry-requires c κs = omega arith
 
-slice-aggregate-replay : tie.Need-slice-aggregate-replay Inv-loop μ-loop
-slice-aggregate-replay c =
-    let l = c .before .before .before .before .before .before .loop in
-    sym (length-take-le _ (l .log) (omega arith))
-
-replay-requires : tie.Need-replay-requires Inv-loop μ-loop
-replay-requires c κs = search needs
-
-show-call-requires : tie.Need-show-call-requires Inv-loop μ-loop
-show-call-requires c κs = search needs
+show-played-requires : tie.Need-show-played-requires Inv-loop μ-loop
+show-played-requires c κs = omega arith
 
 add-at : tie.Need-add-at Inv-loop μ-loop
-add-at c = search needs
+add-at c = omega arith
 
 add-place : tie.Need-add-place Inv-loop μ-loop
-add-place c = search needs
+add-place c = omega arith
 
 loop-less : tie.Need-loop-less Inv-loop μ-loop
-loop-less c = search needs
+loop-less c = omega arith
 
 loop-again : tie.Need-loop-again Inv-loop μ-loop
-loop-again c = (omega arith, omega arith, omega arith, omega arith, omega arith)
-
-same-length-4 : tie.Need-same-length-4 Inv-loop μ-loop
-same-length-4 c = search needs
-
-same-length-5 : tie.Need-same-length-5 Inv-loop μ-loop
-same-length-5 c = search needs
-
-same-length-6 : tie.Need-same-length-6 Inv-loop μ-loop
-same-length-6 c = search needs
+loop-again c = omega arith
 
 returns-2 : tie.Need-returns-2 Inv-loop μ-loop
-returns-2 c = search needs
+returns-2 c = omega arith
 
 pub show-calls-spec : {M : Type 1} → statement M
 show-calls-spec =
@@ -85,22 +51,13 @@ show-calls-spec =
     Inv-loop
     μ-loop
     loop-holds
-    add-loop
     size-at-requires
-    same-length
-    same-length-2
-    same-length-3
     returns
-    add-end
-    slice-relend-prefix-replay
-    slice-aggregate-replay
-    replay-requires
-    show-call-requires
+    show-command-requires
+    entry-requires
+    show-played-requires
     add-at
     add-place
     loop-less
     loop-again
-    same-length-4
-    same-length-5
-    same-length-6
     returns-2)

@@ -1,0 +1,1 @@
+-- The proof of the record after one more round.

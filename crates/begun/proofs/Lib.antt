@@ -1,0 +1,2 @@
+-- The laws of what the rounds come to.
+pub mod BegunLaws

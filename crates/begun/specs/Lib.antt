@@ -1,0 +1,2 @@
+-- What the rounds come to.
+pub mod Begun

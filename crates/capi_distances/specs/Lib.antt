@@ -1,0 +1,2 @@
+-- What a distance call in C does: its report, and the tables afterwards.
+pub mod Call

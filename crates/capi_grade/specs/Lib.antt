@@ -1,0 +1,2 @@
+-- What a grade in C does: its report, and the tables afterwards.
+pub mod Call

@@ -1,0 +1,2 @@
+-- What a search in C does: its report, and the tables afterwards.
+pub mod Call

@@ -1,0 +1,2 @@
+-- What a step in C does: its report.
+pub mod Call

@@ -1,0 +1,2 @@
+-- The laws of the check.
+pub mod HeadLaws

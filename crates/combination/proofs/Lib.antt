@@ -1,0 +1,5 @@
+-- The laws of a combination.
+pub mod ReasonLaws
+pub mod ClaimLaws
+pub mod PropertyLaws
+pub mod ImpliedLaws

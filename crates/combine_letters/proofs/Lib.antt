@@ -1,0 +1,2 @@
+-- The laws of the letter table.
+pub mod LetterLaws

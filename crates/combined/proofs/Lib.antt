@@ -1,0 +1,2 @@
+-- The laws of the combination of two files.
+pub mod CombinedLaws

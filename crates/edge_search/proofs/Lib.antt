@@ -1,0 +1,3 @@
+-- The laws of a row and of the end of the search.
+pub mod EndLaws
+pub mod RowLaws

@@ -1,0 +1,2 @@
+-- What the search leaves in the working table.
+pub mod Promises

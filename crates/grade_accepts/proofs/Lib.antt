@@ -1,0 +1,2 @@
+-- The laws of the flags of a list.
+pub mod FlagLaws

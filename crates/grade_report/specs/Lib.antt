@@ -1,0 +1,2 @@
+-- A grade as a kind and a figure, with the place in a table of its own.
+pub mod Grades

@@ -1,0 +1,3 @@
+-- The laws of the verdicts.
+pub mod AcceptLaws
+pub mod ShownLaws

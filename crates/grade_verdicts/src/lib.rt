@@ -1,0 +1,1 @@
+// The verdicts of a grade, as mathematics: definitions and laws, no code.

@@ -1,0 +1,2 @@
+-- How many bytes of each input of a program decide, and how long a model file can be.
+pub mod Sizes

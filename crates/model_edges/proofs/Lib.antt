@@ -1,0 +1,2 @@
+-- The laws of looking for an edge.
+pub mod Halving

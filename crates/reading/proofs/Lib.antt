@@ -1,2 +1,0 @@
--- The laws of what was read: the first bytes of a file decide.
-pub mod CutLaws

@@ -1,0 +1,2 @@
+-- The laws of the limit of a round.
+pub mod LimitLaws

@@ -1,0 +1,1 @@
+-- The proofs of the test of the spare bits; the law that they cite, of a test that goes through a range, stands in `lasso`.
