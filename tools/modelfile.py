@@ -2,11 +2,14 @@
 # encode, decode with the reasons to refuse, the combination of a rule with a property, and what the
 # scripts share for arguments, input and output. Layout: docs/FORMAT.md.
 # A convenience outside the proofs: nothing in crates/ uses it.
+import argparse
 import itertools
 import os
 import struct
 import sys
 from typing import NamedTuple, Optional
+
+import fahkelo_card
 
 MAX_STATES = 4096
 MAX_EDGES = 8192
@@ -38,10 +41,14 @@ class Property(NamedTuple):
 
 
 class Refused(Exception):
-    """A file that breaks a rule: the number of the first reason that holds, and plain words."""
+    """A file that breaks a rule: the number of the first reason that holds, and what is so in this file.
+
+    As a text it has the reason in the words of the refusal card. Raises OSError if there is no card.
+    """
 
     def __init__(self, number, words):
-        super().__init__(f"refused {number}: {words}")
+        self.reason = f"{number}: {fahkelo_card.reason(number)} ({words})"
+        super().__init__(f"refused {self.reason}")
         self.number = number
         self.words = words
 
@@ -116,16 +123,16 @@ def encode_property(property):
 def decode(data, masked=False):
     """The model that a file holds, or if masked a property file. Raises Refused with the first reason that holds."""
     if len(data) < HEADER_BYTES:
-        raise Refused(1, f"the file has {len(data)} bytes, and the header alone has 24")
+        raise Refused(1, f"it has {len(data)} bytes")
     states, edges, start, flag, *places = struct.unpack_from("<4H4I", data)
     if not 1 <= states <= MAX_STATES:
-        raise Refused(2, f"it has {states} states, and 1 to {MAX_STATES} are allowed")
+        raise Refused(2, f"it has {states} states")
     if edges > MAX_EDGES:
-        raise Refused(3, f"it has {edges} edges, and at most {MAX_EDGES} are allowed")
+        raise Refused(3, f"it has {edges} edges")
     if start >= states:
-        raise Refused(4, f"the initial state {start} is not below {states}, the number of states")
+        raise Refused(4, f"the initial state is {start}, and the number of states is {states}")
     if flag > 1:
-        raise Refused(5, f"bytes 6 and 7 hold {flag}, and 0 and 1 are allowed")
+        raise Refused(5, f"bytes 6 and 7 hold {flag}")
     names = ["offset of the row table", "offset of the edge table", "offset of the marks", "total length"]
     *offsets, end = layout(states, edges)
     allowed = [[offset] for offset in offsets] + [totals(states, edges, masked)]
@@ -135,17 +142,17 @@ def decode(data, masked=False):
             raise Refused(6, f"the {name} is {place}; {states} states and {edges} edges give {numbers}")
     total = places[3]
     if len(data) != total:
-        raise Refused(7, f"the file's own length, {len(data)}, is not its total length, {total}")
+        raise Refused(7, f"it has {len(data)} bytes, and its total length is {total}")
     row_table = struct.unpack_from(f"<{states + 1}H", data, offsets[0])
     targets = struct.unpack_from(f"<{edges}H", data, offsets[1])
     check_row_table(row_table, edges)
     for place, target in enumerate(targets):
         if target >= states:
-            raise Refused(9, f"target {target}, at place {place}, is not below {states}, the number of states")
+            raise Refused(9, f"the target at place {place} is {target}, and the number of states is {states}")
     rows = [list(targets[low:high]) for low, high in zip(row_table, row_table[1:])]
     for state, row in enumerate(rows):
         if any(one >= other for one, other in zip(row, row[1:])):
-            raise Refused(10, f"the targets of state {state} are not strictly ascending")
+            raise Refused(10, f"state {state} has the targets {' '.join(map(str, row[:20]))}{' ..' * (len(row) > 20)}")
     marks = decode_marks(data[offsets[2]:end], states, 0)
     second = None if masked or total == end else decode_marks(data[end:], states, 1)
     return Model(start, rows, marks, flag == 1, second)
@@ -155,27 +162,27 @@ def decode_marks(data, states, table):
     """The states marked in a mark table, given by its bytes; reason 11."""
     bits = int.from_bytes(data, "little")
     if bits >> states:
-        raise Refused(11, f"in mark table {table} a bit after the mark of state {states - 1}, the last one, is set")
+        raise Refused(11, f"mark table {table} has one, and the last state is {states - 1}")
     return {state for state in range(states) if bits >> state & 1}
 
 
 def check_row_table(row_table, edges):
     """Reason 8, over the whole row table."""
     if row_table[0] != 0:
-        raise Refused(8, f"the row table starts at {row_table[0]}, not at 0")
+        raise Refused(8, f"the row table starts at {row_table[0]}")
     for state, (low, high) in enumerate(zip(row_table, row_table[1:])):
         if high < low:
-            raise Refused(8, f"the row table goes down after entry {state}, from {low} to {high}")
+            raise Refused(8, f"after entry {state} the row table goes from {low} to {high}")
     if row_table[-1] != edges:
-        raise Refused(8, f"the row table ends at {row_table[-1]}, not at {edges}, the number of edges")
+        raise Refused(8, f"the row table ends at {row_table[-1]}, and the number of edges is {edges}")
 
 
 def decode_property(data):
-    """The property that a file holds. Raises Refused 17, with the number and the words of what it breaks."""
+    """The property that a file holds. Raises Refused 17, with the number and the reason of what it breaks."""
     try:
         model = decode(data, masked=True)
     except Refused as refused:
-        raise Refused(17, f"the property file breaks {refused.number}: {refused.words}") from None
+        raise Refused(17, f"it breaks {refused.reason}") from None
     edges = edges_of(model)
     place = layout(len(model.rows), len(edges))[3]
     masks = dict(zip(edges, struct.unpack_from(f"<{len(edges)}H", data, place)))
@@ -188,10 +195,10 @@ def decode_property(data):
 def decode_letters(data, states):
     """The letters that a letter table holds, one byte for each state of its rule. Raises Refused 16."""
     if len(data) != states:
-        raise Refused(16, f"the letter table has {len(data)} bytes, and the rule has {states} states")
+        raise Refused(16, f"it has {len(data)} bytes, and the rule {states} states")
     for state, letter in enumerate(data):
         if letter > MAX_LETTER:
-            raise Refused(16, f"the letter of state {state} is {letter}, and 0 to {MAX_LETTER} are allowed")
+            raise Refused(16, f"the letter of state {state} is {letter}")
     return list(data)
 
 
@@ -206,15 +213,15 @@ def combine(model, letters, property):
     property = decode_property(property)
     states = len(model.rows) * len(property.model.rows)
     if states > MAX_STATES:
-        raise Refused(18, f"the result has {states} states, and at most {MAX_STATES} are allowed")
+        raise Refused(18, f"it would have {states} states")
     edges = set(itertools.islice(agreeing_edges(model, letters, property), MAX_EDGES + 1))
     if len(edges) > MAX_EDGES:
-        raise Refused(18, f"the result has more than {MAX_EDGES} edges")
+        raise Refused(18, f"it would have more than {MAX_EDGES} edges")
     return model_of_pairs(model, property.model, edges)
 
 
 def agreeing_edges(model, letters, property):
-    """Each edge from (s, q) to (s', q'): s has s' as a successor and q an edge to q' whose mask holds the letter of s."""
+    """Each edge from (s, q) to (s', q'): s' is a successor of s, and q has an edge to q' that holds the letter of s."""
     for s, s_next in edges_of(with_implied_steps(model)):
         for (q, q_next), mask in property.masks.items():
             if mask >> letters[s] & 1:
@@ -265,29 +272,113 @@ def random_property(rng, states, edges, marks):
     return Property(model, {edge: 1 + below(rng, ALL_LETTERS) for edge in edges_of(model)})
 
 
+# Input and output.
+
+
+def send(descriptor, data):
+    """Writes bytes to an open descriptor at once, and waits for its reader. Raises OSError."""
+    rest = memoryview(data)
+    while rest:
+        try:
+            rest = rest[os.write(descriptor, rest):]
+        except BlockingIOError:
+            os.set_blocking(descriptor, True)
+
+
+def say(*lines):
+    """Lines on standard error, if it can be written. What is no text, a line end among it, is shown as ?."""
+    shown = ["".join(letter if letter.isprintable() else "?" for letter in line) for line in lines]
+    try:
+        send(2, "".join(line + "\n" for line in shown).encode())
+    except OSError:
+        pass
+
+
 def fail(message, code=2):
     """Ends the script with a message on standard error."""
-    print(f"{os.path.basename(sys.argv[0])}: {message}", file=sys.stderr)
+    say(f"{os.path.basename(sys.argv[0])}: {message}")
     sys.exit(code)
 
 
-def read_input(path, code=2):
-    """The bytes of the file named, or of standard input; the script ends with the code if they cannot be read."""
+class Parser(argparse.ArgumentParser):
+    """A parser that ends the script with exit code 2 after wrong words, also if standard error cannot be written."""
+
+    def error(self, message):
+        say(*self.format_usage().splitlines(), f"{self.prog}: error: {message}")
+        sys.exit(2)
+
+
+def read_from(source, most=-1):
+    """The bytes of the file named, at most so many, or those of standard input, named 0. Raises OSError."""
+    if source == 0:
+        os.set_blocking(0, True)
+    with open(source, "rb", closefd=source != 0) as file:
+        return file.read(most)
+
+
+def read_input(path, code=2, most=-1):
+    """The bytes of the file named, or of standard input; the script ends with the code if they cannot be read.
+
+    most: so many bytes are read at most; -1 reads them all.
+    """
     try:
-        with open(path or 0, "rb", closefd=bool(path)) as source:
-            return source.read()
+        return read_from(path or 0, most)
     except OSError as error:
         fail(f"cannot read {path or 'standard input'}: {error.strerror}", code)
 
 
+def is_output(path):
+    """Whether a name is that of what standard output goes to."""
+    try:
+        return os.path.samestat(os.stat(path), os.fstat(1))
+    except OSError:
+        return False
+
+
 def write_output(data, path=None, binary=True, code=2):
-    """Writes to the file named, or to standard output; no binary goes to a terminal."""
+    """Writes to the file named, or to standard output; no binary goes to a terminal. A reader may go away."""
     if binary and not path and os.isatty(1):
         fail("standard output is a terminal: send it to a file or a program, or use -o FILE")
     try:
-        with open(path or 1, "wb", closefd=bool(path)) as sink:
-            sink.write(data)
+        if not path or is_output(path):
+            send(1, data)
+        else:
+            with open(path, "wb") as sink:
+                sink.write(data)
     except BrokenPipeError:
-        sys.exit(1)
+        pass
     except OSError as error:
         fail(f"cannot write {path or 'standard output'}: {error.strerror}", code)
+
+
+def place_of(path):
+    """The name to which the links of a path lead, if a file is there or none is; none in /dev/fd and /proc."""
+    for _ in range(40):
+        folder, name = os.path.split(path)
+        folder = os.path.realpath(folder)
+        path = os.path.join(folder, name)
+        if path.startswith(("/dev/fd/", "/proc/")):
+            return None
+        if not os.path.islink(path):
+            return path if os.path.isfile(path) or not os.path.exists(path) else None
+        path = os.path.join(folder, os.readlink(path))
+    return None
+
+
+def write_whole(data, path, binary=True, code=2):
+    """Writes a file whole or not at all: under another name first, unless it goes to a pipe or a device. Links stay."""
+    part = None
+    try:
+        place = None if not path or is_output(path) else place_of(path)
+        if place is None:
+            write_output(data, path, binary, code)
+            return
+        name = os.path.join(os.path.dirname(place), f"fahkelo.{os.urandom(8).hex()}.part")
+        with open(name, "xb") as file:
+            part = name
+            file.write(data)
+        os.replace(part, place)
+    except OSError as error:
+        if part:
+            os.remove(part)
+        fail(f"cannot write {path}: {error.strerror}", code)

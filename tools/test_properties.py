@@ -8,6 +8,7 @@ import re
 import subprocess
 import tempfile
 
+from fahkelo_card import reason
 from modelfile import ALL_LETTERS, Model, Property, below, combine, decode, decode_letters, decode_property
 from modelfile import edges_of, encode, encode_property, random_model, random_property
 from testing import COMBINED_BYTES, D_BYTES, PROPERTY_BYTES, PROPERTY_TEXT, RULE_BYTES, RULE_LETTERS, RULE_TEXT, TOOLS
@@ -112,6 +113,8 @@ def test_bad_property_words():
         for words, text, part in [
             (f"make-model -o {file} --letters {table}", PROPERTY_TEXT, "no letter table"),
             (f"make-model -o {file} --letters {table} --property", "states 1", "no letter table"),
+            (f"make-model -o {file} --letters {table}", "0 -> 1\nmask 0 1 3\nmask 1 0 3", "no letter table"),
+            (f"make-model -o {file} --letters {table}", "0 -> 0\nletter 0 1\nmask 0 0 1", "line 2:"),
             (f"make-model -o {file} --letters {folder}/../{os.path.basename(folder)}/file", RULE_TEXT, "the same file"),
             (f"make-model -o {file} --letters {table}", "letter 0 16", "line 1:"),
             (f"make-model -o {file}", RULE_TEXT, "--letters"),
@@ -180,21 +183,21 @@ def test_property_refusals():
         (8, with_word(good, 28, 3)), (9, with_word(good, 30, 2)), (10, with_word(good, 30, 1)),
         (11, good[:38] + b"\6" + good[39:]),
     ]:
-        words = f"17: the property file breaks {inner}: "
+        words = f"17: it breaks {inner}: {reason(inner)} ("
         expect_refused(f"a property that breaks {inner}", words, decode_property, data)
     for place, edge in [(39, "0 -> 0"), (41, "0 -> 1"), (45, "1 -> 1")]:
         zero = with_word(good, place, 0)
-        expect_refused(f"a zero mask at {place}", f"17: the mask of the edge {edge} is zero", decode_property, zero)
+        expect_refused(f"a zero mask at {place}", f"17: the mask of the edge {edge} is zero)", decode_property, zero)
     # The reasons 1 to 11 come before a zero mask; and without its option a property is no model file.
     both = with_word(zero, 30, 1)
     for words, data, said in [
-        ("show-model --property", RULE_BYTES, "refused 17: the property file breaks 6: the total length is 35"),
-        ("show-model --property", good[:-1], "refused 17: the property file breaks 7: "),
-        ("show-model --property", both, "refused 17: the property file breaks 10: "),
-        ("show-model --property", zero, "refused 17: the mask of the edge 1 -> 1 is zero"),
-        ("show-model", good, "refused 6: the total length is 47"),
+        ("show-model --property", RULE_BYTES, ["refused 17: ", "(it breaks 6: ", "(the total length is 35; "]),
+        ("show-model --property", good[:-1], ["refused 17: ", "(it breaks 7: "]),
+        ("show-model --property", both, ["refused 17: ", "(it breaks 10: "]),
+        ("show-model --property", zero, ["refused 17: ", "(the mask of the edge 1 -> 1 is zero)"]),
+        ("show-model", good, ["refused 6: ", "(the total length is 47; "]),
     ]:
-        expect_failure(words, data, 1, said)
+        expect_failure(words, data, 1, *said)
 
 
 def test_property_mark_tables():
@@ -202,9 +205,9 @@ def test_property_mark_tables():
     model = decode_property(PROPERTY_BYTES).model
     masks = {edge: 1 for edge in edges_of(model)}
     two = Property(model._replace(second={0}), masks)
-    expect_refused("a property with two mark tables", "17: the property file breaks 6: ", encode_property, two)
+    expect_refused("a property with two mark tables", "17: it breaks 6: ", encode_property, two)
     no_edge = encode(Model(0, [[]] * 3, {2}, second={1}))
-    expect_refused("two mark tables and no masks", "17: the property file breaks 6: ", decode_property, no_edge)
+    expect_refused("two mark tables and no masks", "17: it breaks 6: ", decode_property, no_edge)
     full = encode_property(Property(model, {edge: ALL_LETTERS for edge in edges_of(model)}))
     expect("masks of all bits", set(decode_property(full).masks.values()) == {ALL_LETTERS})
     # With 9 states and one edge the mask is as long as a mark table: the same bytes are a property and a model.
@@ -213,10 +216,10 @@ def test_property_mark_tables():
     expect("a model that is a property", decode(both).second == {0, 1, 8}, decode(both))
     spare = with_word(both, len(both) - 2, 0x0203)
     expect("a mask above the states", decode_property(spare).masks == {(0, 8): 0x0203})
-    expect_refused("a spare bit of the second table", "11: in mark table 1 ", decode, spare)
+    expect_refused("a spare bit of the second table", "11: mark table 1 has one, ", decode, spare)
     empty = with_word(both, len(both) - 2, 0)
     expect("a second table without marks", decode(empty).second == set())
-    expect_refused("a mask that is zero", "17: the mask of the edge 0 -> 8 is zero", decode_property, empty)
+    expect_refused("a mask that is zero", "17: the mask of the edge 0 -> 8 is zero)", decode_property, empty)
 
 
 def bare(states):
@@ -242,13 +245,13 @@ def test_size_refusals():
         result = combine(bare(states), bytes(states), property_of(count))
         expect(f"{states} times {count} states", len(result.rows) == 4096)
     for states, count in [(17, 241), (64, 65), (65, 64), (4096, 4096)]:
-        rule, case, words = bare(states), f"{states} times {count} states", f"18: the result has {states * count} states"
+        rule, case, words = bare(states), f"{states} times {count} states", f"18: it would have {states * count} states"
         expect_refused(case, words, combine, rule, bytes(states), property_of(count))
     # Both letters of the ring are held by 4,096 masks; letter 2 is no state's, letter 1 is that of one state.
     result = combine(ring(2), b"\0\1", property_of(65, [ALL_LETTERS] * 4096 + [1 << 2]))
     expect("8,192 edges", len(edges_of(result)) == 8192)
     one_more = property_of(65, [ALL_LETTERS] * 4096 + [1 << 1])
-    expect_refused("8,193 edges", "18: the result has more than 8192 edges", combine, ring(2), b"\0\1", one_more)
+    expect_refused("8,193 edges", "18: it would have more than 8192 edges", combine, ring(2), b"\0\1", one_more)
     full = Model(0, [list(range(64))] * 64, set())
     expect_refused("the most edges", "18: ", combine, full, bytes(64), property_of(64, [1] * 4096))
 

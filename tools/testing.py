@@ -5,6 +5,7 @@ import os
 import subprocess
 import sys
 
+from fahkelo_card import reason
 from modelfile import Refused
 
 TOOLS = os.path.dirname(os.path.abspath(__file__))
@@ -63,12 +64,14 @@ def expect_round_trip(case, data, option=""):
 
 
 def expect_refused(case, words, call, *arguments):
-    """A call raises Refused with a message that starts with these words: a number and what is broken."""
+    """A call raises Refused with these words: a number, with its reason on the card, and what is so in the file."""
     try:
         got = call(*arguments)
     except Refused as refused:
         got = refused
-    expect(case, isinstance(got, Refused) and str(got).startswith(f"refused {words}"), got)
+    number, here = words.split(": ", 1)
+    start = f"refused {number}: {reason(int(number))} ({here}"
+    expect(case, isinstance(got, Refused) and str(got).startswith(start), got)
 
 
 def expect_failure(words, data, code, *parts, tools=TOOLS):

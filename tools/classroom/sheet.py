@@ -7,11 +7,11 @@ import subprocess
 import unicodedata
 from typing import NamedTuple, Optional
 
+import fahkelo_card
+from fahkelo_places import CARD, PROGRAM
 from modelfile import MAX_BYTES, fail, read_input, with_implied_steps
 
-ROOT = os.path.dirname(os.path.dirname(os.path.dirname(os.path.abspath(__file__))))
-PROGRAM = os.path.join(ROOT, "target/bin/desk_sheet")
-CARD = os.path.join(ROOT, "docs/REFUSALS.md")
+MAX_NAMES_BYTES = 4 << 20
 
 
 class Run(NamedTuple):
@@ -143,18 +143,26 @@ def check_sheet(sheet, model, refusal):
 # The names.
 
 
-def text_lines(path):
-    """The lines of a text file; a file that is no text ends the script."""
-    data = read_input(path, 1)
+def text_lines(path, code):
+    """The lines of a text file; a file that is no text ends the script with the code."""
+    data = read_input(path, code, MAX_NAMES_BYTES + 1)
+    if len(data) > MAX_NAMES_BYTES:
+        fail(f"{path} has more than {MAX_NAMES_BYTES} bytes", code)
     try:
         lines = data.decode("utf-8-sig").split("\n")
     except UnicodeDecodeError as error:
-        fail(f"{path} is no text: byte {error.start} cannot be read as UTF-8", 1)
+        fail(f"{path} is no text: byte {error.start} cannot be read as UTF-8", code)
     for number, line in enumerate(lines, 1):
         bad = no_text(line[:-1] if line.endswith("\r") else line)
         if bad:
-            fail(f"{path} is no text: line {number} holds the character {bad}", 1)
+            fail(f"{path} is no text: line {number} holds the character {bad}", code)
     return lines
+
+
+def shown_name(path):
+    """The name of a file, for a title: without its folders, and with ? for what does not belong into a text."""
+    name = os.path.basename(path).encode("utf-8", "replace").decode()
+    return "".join("?" if no_text(letter) else letter for letter in name)
 
 
 def no_text(text):
@@ -166,23 +174,26 @@ def no_text(text):
     return ""
 
 
-def read_names(path, states):
-    """The names in a file of lines `3 store the file again`; states is their number, None if it is not known."""
+def read_names(path, states, code=1):
+    """The names in a file of lines `3 store the file again`; states is their number, None if it is not known.
+
+    A file that cannot be read so ends the script with the code.
+    """
     names, lines = {}, {}
-    for number, line in enumerate(text_lines(path), 1):
+    for number, line in enumerate(text_lines(path, code), 1):
         words = line.split()
         if not words or words[0].startswith("#"):
             continue
         here = f"{path}, line {number}:"
         if not (words[0].isascii() and words[0].isdigit()):
-            fail(f"{here} '{words[0][:40]}' is not a number; a line is a state and its name", 1)
+            fail(f"{here} '{words[0][:40]}' is not a number; a line is a state and its name", code)
         if len(words[0]) > 9 or (states is not None and int(words[0]) >= states):
-            fail(f"{here} {words[0][:40]} is no state: the model has the states 0 to {(states or 4096) - 1}", 1)
+            fail(f"{here} {words[0][:40]} is no state: the model has the states 0 to {(states or 4096) - 1}", code)
         state = int(words[0])
         if len(words) == 1:
-            fail(f"{here} state {state} has no name", 1)
+            fail(f"{here} state {state} has no name", code)
         if state in names:
-            fail(f"{here} state {state} is named twice, first in line {lines[state]}", 1)
+            fail(f"{here} state {state} is named twice, first in line {lines[state]}", code)
         names[state], lines[state] = " ".join(words[1:]), number
     return names
 
@@ -192,8 +203,9 @@ def read_names(path, states):
 
 def card_entry(number):
     """The reason and what to do, in the words of the refusal card."""
-    for line in read_input(CARD, 1).decode("utf-8").split("\n"):
-        cells = [cell.strip() for cell in line.strip().strip("|").split("|")]
-        if len(cells) == 3 and cells[0] == str(number):
-            return cells[1], cells[2]
-    fail(f"{CARD} has no line for the number {number}", 1)
+    try:
+        return fahkelo_card.entry(number)
+    except OSError as error:
+        fail(f"cannot read {CARD}: {error.strerror}", 1)
+    except LookupError as error:
+        fail(error.args[0], 1)

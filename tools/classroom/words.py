@@ -7,16 +7,18 @@ from typing import NamedTuple
 from classroom.lasso import Fold
 
 
-def labels_of(lesson):
+def labels(names, states):
     """The words of each state: its name or its number; a name that stands twice is followed by the number."""
-    labels = [lesson.names.get(state, str(state)) for state in range(len(lesson.model.rows))]
+    words = [names.get(state, str(state)) for state in range(states)]
     seen = {}
-    for label in labels:
+    for label in words:
         seen[label] = seen.get(label, 0) + 1
-    return [
-        f"{label} ({state})" if seen[label] > 1 and state in lesson.names else label
-        for state, label in enumerate(labels)
-    ]
+    return [f"{label} ({state})" if seen[label] > 1 and state in names else label for state, label in enumerate(words)]
+
+
+def labels_of(lesson):
+    """The words of each state of a lesson."""
+    return labels(lesson.names, len(lesson.model.rows))
 
 
 def count_of(count, word):

@@ -1,0 +1,1 @@
+../../tools/fahkelo_card.py

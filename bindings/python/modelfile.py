@@ -1,0 +1,1 @@
+../../tools/modelfile.py
