@@ -1,29 +1,17 @@
 //! The examples of ceilings and distances, for `cargo test`, by every version.
 
-use crate::examples::{file_d, file_h, file_of, found, with_flag, NOTHING_DONE};
+use crate::examples::{file_d, file_h, found, longest_ring, record, with_flag, NOTHING_DONE};
 use crate::fahkelo::{
-    distances_into, kind, search_into, step_into, Ask, DistancesAnswer, NextAnswer, Record,
-    SearchAnswer, StepAnswer, TABLE_0,
+    distances_into, kind, search_into, step_into, Ask, DistancesAnswer, NextAnswer, SearchAnswer,
+    StepAnswer, TABLE_0,
 };
 use crate::graph::Graph;
 use crate::reference::{distances_by_sweeps, read, Facts};
 use crate::textbook::{Lister, Textbook};
-use crate::versions::{DistanceWriter, Finder, Proved, PAIRED, SAFE, UNCHECKED};
-
-const FINDERS: [&dyn Finder; 4] = [&Proved, &SAFE, &PAIRED, &UNCHECKED];
-const DISTANCE_WRITERS: [&dyn DistanceWriter; 4] = [&Proved, &SAFE, &PAIRED, &UNCHECKED];
-
-const fn record(done: u16, best: Option<u16>) -> Record {
-    Record { done, best }
-}
-
-fn ring() -> Vec<u8> {
-    let edges: Vec<(usize, usize)> = (0..4096).map(|s| (s, (s + 1) % 4096)).collect();
-    file_of(4096, &edges, &[4095])
-}
+use crate::versions::{Version, VERSIONS};
 
 /// A search in H with any numbers in tables that just do; the answer table afterwards. The working table becomes zero.
-fn searched_in_h(version: &dyn Finder, ceiling: u16, allowance: u16) -> (SearchAnswer, [u16; 5]) {
+fn searched_in_h(version: &dyn Version, ceiling: u16, allowance: u16) -> (SearchAnswer, [u16; 5]) {
     let mut answer = [9; 5];
     let mut work = [9; 42];
     let ask = Ask {
@@ -58,7 +46,7 @@ fn searches_in_h_under_ceilings() {
         (5, 0, nothing_done),
         (0, 0, nothing_done),
     ];
-    for version in FINDERS {
+    for version in VERSIONS {
         for (ceiling, allowance, expected) in searches {
             let got = searched_in_h(version, ceiling, allowance);
             assert_eq!(got, expected, "{} {ceiling} {allowance}", version.name());
@@ -107,7 +95,7 @@ fn steps_in_h_under_ceilings() {
         (2, record(1, Some(5)), record(2, Some(5))),
         (2, record(1, None), record(2, None)),
     ];
-    for version in FINDERS {
+    for version in VERSIONS {
         for (ceiling, so_far, after) in steps {
             let mut work = [9; 42];
             let got = version.step(&file_h(), TABLE_0, ceiling, so_far, &mut work);
@@ -125,7 +113,7 @@ fn steps_in_h_under_ceilings() {
 #[test]
 fn ceilings_above_4096() {
     let file = file_h();
-    for (version, ceiling) in FINDERS.into_iter().flat_map(|v| [(v, 4097), (v, 65535)]) {
+    for (version, ceiling) in VERSIONS.into_iter().flat_map(|v| [(v, 4097), (v, 65535)]) {
         for (answer_len, allowance) in [(4, 65535), (3, 65535), (0, 65535), (4, 1), (4, 0)] {
             let ask = Ask {
                 allowance,
@@ -152,9 +140,9 @@ fn ceilings_above_4096() {
 
 #[test]
 fn the_longest_ring_under_ceilings() {
-    let file = ring();
+    let file = longest_ring();
     let whole: Vec<u16> = (0..4096).chain([0]).collect();
-    for version in FINDERS {
+    for version in VERSIONS {
         let mut work = vec![9; 6 * 4096];
         let mut search = |ceiling, answer: &mut [u16]| {
             let result = version.search(&file, Ask::under(ceiling), answer, &mut work);
@@ -183,7 +171,7 @@ fn the_longest_ring_under_ceilings() {
 #[test]
 fn a_sequence_with_two_ceilings() {
     let file = file_d();
-    for version in FINDERS {
+    for version in VERSIONS {
         let (mut answer, mut work) = ([9; 4], [9; 30]);
         let first = version.search(&file, Ask::under(3), &mut answer, &mut work);
         let copy = answer;
@@ -240,7 +228,7 @@ fn distances_in_d() {
         (1, [0, 1, 1, FAR, FAR]),
         (0, [0, FAR, FAR, FAR, FAR]),
     ];
-    for (version, flag) in DISTANCE_WRITERS.into_iter().flat_map(|v| [(v, 0), (v, 1)]) {
+    for (version, flag) in VERSIONS.into_iter().flat_map(|v| [(v, 0), (v, 1)]) {
         let file = with_flag(file_d(), flag);
         for (ceiling, expected) in tables {
             for more in [0, 3] {
@@ -271,7 +259,7 @@ fn refused_distances() {
         (&file[..50], 4097, 4, 0, 7),
         (&flag, 4097, 4, 0, 5),
     ];
-    for version in DISTANCE_WRITERS {
+    for version in VERSIONS {
         for (file, ceiling, entries, work_len, number) in calls {
             let (mut table, mut work) = ([9; 8], [9; 30]);
             let lent = &mut table[..entries];
@@ -304,12 +292,12 @@ fn the_figure_of_distances() {
 
 #[test]
 fn distances_round_the_longest_ring() {
-    let file = ring();
+    let file = longest_ring();
     let whole: Vec<u16> = (0..4096).collect();
     let graph = Graph::of(read(&file).expect("it is accepted"), TABLE_0);
     let by_sweeps = distances_by_sweeps(&graph);
     assert!(by_sweeps.into_iter().eq(whole.iter().copied().map(Some)));
-    for version in DISTANCE_WRITERS {
+    for version in VERSIONS {
         for ceiling in [4096, 4095, 4094, 60, 0] {
             let (mut table, mut work) = (vec![9; 4096], vec![9; 6 * 4096]);
             let got = version.distances(&file, ceiling, &mut table, &mut work);

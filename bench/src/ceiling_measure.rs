@@ -6,7 +6,7 @@ use std::time::Duration;
 use crate::fahkelo::{SearchAnswer, FULL_CEILING};
 use crate::families::{Family, FAMILIES};
 use crate::measure::{
-    agreed_answer, count_work, least_times_apart, millis, ratio, search_once, textbook_once,
+    agreed_answer, count_work, least_times_unequal, millis, ratio, search_once, textbook_once,
 };
 use crate::ported::access::Work;
 use crate::versions::{Proved, PAIRED, SAFE, UNCHECKED};
@@ -42,7 +42,7 @@ pub fn capped() -> impl Iterator<Item = Capped> {
 
 /// The times of the proved search without the ceiling, then of the proved, safe, paired and unchecked ones under it.
 fn times(file: &[u8], ceiling: u16) -> [Duration; 5] {
-    least_times_apart([
+    least_times_unequal([
         &mut || drop(search_once(&Proved, file, STATES, FULL_CEILING)),
         &mut || drop(search_once(&Proved, file, STATES, ceiling)),
         &mut || drop(search_once(&SAFE, file, STATES, ceiling)),

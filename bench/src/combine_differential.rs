@@ -15,9 +15,9 @@ use crate::model::Model;
 use crate::product::{is_pair_of_paths, product};
 use crate::random::Random;
 use crate::reference::{read, read_property};
-use crate::samples::dirty;
+use crate::samples::{dirty, out_len};
 use crate::trials::Case;
-use crate::versions::{Combiner, PAIRED, SAFE};
+use crate::versions::{Version, PAIRED, SAFE};
 
 /// Lists of a result's roll that are compared.
 const MOST_LISTS: usize = 4;
@@ -133,7 +133,7 @@ fn compare(lot: &mut Random, counts: &mut Counts, input: &Input) {
 }
 
 /// Counts the rule and the property, if they are accepted and have implied steps; the rule, if it is accepted and has two
-/// mark tables; the property, if it has two and the masks behind them.
+/// mark tables; the property, if it has two and the masks after them.
 fn count_kinds(counts: &mut Counts, input: &Input) {
     if let Ok(rule) = read(&input.rule) {
         counts.rules_implying += u64::from(rule.implies_steps());
@@ -178,10 +178,7 @@ fn compare_call(
         letters,
         property,
     } = input;
-    let out_len = match lot.below(12) {
-        0 => lot.below(4),
-        _ => lot.between(4, 6),
-    };
+    let out_len = out_len(lot);
     let mut out = dirty(lot, out_len);
     let out_before = out.clone();
     let mut output = before.to_vec();
@@ -199,7 +196,7 @@ fn compare_call(
     if !same {
         counts.difference(&format!("combine, {} bytes: proved", before.len()), input);
     }
-    for version in [&SAFE as &dyn Combiner, &PAIRED] {
+    for version in [&SAFE as &dyn Version, &PAIRED] {
         let mut output = before.to_vec();
         let got = version.combine(rule, letters, property, &mut output);
         if got != expected || output != after {

@@ -50,7 +50,7 @@ fn files_of(lot: &mut Random, mut rule: Model, mut model: Model) -> Input {
     }
 }
 
-/// The property file has two mark tables, and the masks behind them.
+/// The property file has two mark tables, and the masks after them.
 pub fn has_two_tables(property: &[u8]) -> bool {
     if property.len() < 24 {
         return false;

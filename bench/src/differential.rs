@@ -10,8 +10,8 @@ use crate::oracle::{self, Verdict};
 use crate::random::Random;
 use crate::reference::{distances_by_sweeps, read, rounds_by_formula, Facts, SMALL};
 use crate::samples::{
-    add_table, answer_len, ceiling_about, damage, random_model, random_record, table_above_1, walk,
-    work_len, wrong_list,
+    answer_len, ceiling_about, damage, model_of_family, model_of_round, random_record,
+    table_above_1, walk, work_len, wrong_list,
 };
 use crate::sequences::compare_sequence;
 use crate::textbook::{Lister, Textbook};
@@ -27,22 +27,14 @@ pub fn run(count: u64, seed: u64) -> u64 {
     let mut counts = Counts::default();
     for round in 0..count.div_ceil(2) {
         let damaged = round % 2 == 1;
-        let large = round % 20 >= 18;
-        let mut model = if large {
-            random_model(&mut lot, SMALL + 1, 40)
-        } else {
-            random_model(&mut lot, 1, SMALL)
-        };
-        if lot.once_in(2) {
-            add_table(&mut lot, &mut model);
-        }
-        for stays in [false, true] {
-            compare_model(&mut lot, &mut counts, &model.staying(stays), damaged);
+        let model = model_of_round(&mut lot, round);
+        for model in [false, true].map(|stays| model.staying(stays)) {
+            let file = file_of(&mut lot, &mut counts, &model, damaged);
+            compare_file(&mut lot, &mut counts, &file, (!damaged).then_some(&model));
         }
     }
     for family in FAMILIES {
-        let mut model = (family.make)(256);
-        add_table(&mut lot, &mut model);
+        let model = model_of_family(&mut lot, family);
         for stays in [false, true] {
             compare_family(&mut lot, &mut counts, &model.staying(stays).to_bytes());
         }
@@ -51,14 +43,14 @@ pub fn run(count: u64, seed: u64) -> u64 {
     counts.differences
 }
 
-/// All comparisons on the file of a model, damaged or not.
-fn compare_model(lot: &mut Random, counts: &mut Counts, model: &Model, damaged: bool) {
+/// The file of a model, damaged or not.
+pub fn file_of(lot: &mut Random, counts: &mut Counts, model: &Model, damaged: bool) -> Vec<u8> {
     let mut file = model.to_bytes();
     if damaged {
         damage(lot, &mut file);
         counts.damaged += 1;
     }
-    compare_file(lot, counts, &file, (!damaged).then_some(model));
+    file
 }
 
 /// The file of a measured family, by both mark tables, and its distances.
@@ -82,7 +74,7 @@ fn compare_family(lot: &mut Random, counts: &mut Counts, file: &[u8]) {
     }
 }
 
-/// Searches and steps under some ceilings, the lists behind the first, and a sequence, by one mark table of a family.
+/// Searches and steps under some ceilings, the lists after the first, and a sequence, by one mark table of a family.
 fn compare_family_by(
     lot: &mut Random,
     counts: &mut Counts,

@@ -1,14 +1,13 @@
 //! The measurement of distances: each family through every version in one run, and the table of the results.
 
 use std::hint::black_box;
-use std::time::Duration;
 
 use crate::fahkelo::{DistancesAnswer, FULL_CEILING, NOT_REACHED, TABLE_0};
 use crate::families::{Family, FAMILIES};
 use crate::graph::Graph;
-use crate::measure::{least_times, ratio};
+use crate::measure::{time_columns, version_times};
 use crate::reference::{distances_by_sweeps, read};
-use crate::versions::{DistanceWriter, Proved, PAIRED, SAFE, UNCHECKED};
+use crate::versions::{Version, VERSIONS};
 
 const STATES: usize = 4096;
 
@@ -35,7 +34,7 @@ pub fn file_of(family: &Family) -> Vec<u8> {
 /// The distances of a model up to a ceiling by one version.
 #[inline(never)]
 pub fn distances_once(
-    version: &dyn DistanceWriter,
+    version: &dyn Version,
     file: &[u8],
     ceiling: u16,
     tables: &mut Tables,
@@ -52,7 +51,7 @@ fn agreed(family: &Family, file: &[u8]) -> (usize, usize, u16) {
     let by_sweeps = distances_by_sweeps(&graph);
     let reached = by_sweeps.iter().flatten();
     let greatest = *reached.clone().max().expect("the start is reached");
-    for version in [&Proved as &dyn DistanceWriter, &SAFE, &PAIRED, &UNCHECKED] {
+    for version in VERSIONS {
         for ceiling in [FULL_CEILING, greatest / 2] {
             let within = |distance: &Option<u16>| distance.filter(|&d| d <= ceiling);
             let entries = by_sweeps.iter().map(|d| within(d).unwrap_or(NOT_REACHED));
@@ -71,25 +70,6 @@ fn agreed(family: &Family, file: &[u8]) -> (usize, usize, u16) {
     (edges, reached.count(), greatest)
 }
 
-fn times(file: &[u8]) -> [Duration; 4] {
-    let mut tables = [const { Tables::filled(0) }; 4];
-    let [a, b, c, d] = &mut tables;
-    let once = |version: &dyn DistanceWriter, tables: &mut Tables| {
-        black_box(distances_once(
-            version,
-            black_box(file),
-            FULL_CEILING,
-            tables,
-        ));
-    };
-    least_times([
-        &mut || once(&Proved, a),
-        &mut || once(&SAFE, b),
-        &mut || once(&PAIRED, c),
-        &mut || once(&UNCHECKED, d),
-    ])
-}
-
 /// Measures the families whose names hold a word, and prints the table.
 pub fn run(word: &str) {
     println!("distances of {STATES} states, microseconds of processor time\n");
@@ -98,16 +78,19 @@ pub fn run(word: &str) {
     for family in FAMILIES.iter().filter(|family| family.name.contains(word)) {
         let file = file_of(family);
         let (edges, reached, greatest) = agreed(family, &file);
-        let times = times(&file);
-        let [proved, safe, paired, unchecked] = times;
-        let micros = times.map(|time| format!("{:.1}", time.as_secs_f64() * 1e6));
+        let tables = [const { Tables::filled(0) }; 4];
+        let times = version_times(tables, |version, tables| {
+            black_box(distances_once(
+                version,
+                black_box(&file),
+                FULL_CEILING,
+                tables,
+            ));
+        });
         println!(
-            "| {} | {edges} | {reached} | {greatest} | {} | {:.2} | {:.2} | {:.2} |",
+            "| {} | {edges} | {reached} | {greatest} | {} |",
             family.name,
-            micros.join(" | "),
-            ratio(proved, safe),
-            ratio(proved, paired),
-            ratio(proved, unchecked)
+            time_columns(times)
         );
     }
 }

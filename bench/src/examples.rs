@@ -9,10 +9,11 @@ use crate::fahkelo::{
 use crate::model::Model;
 use crate::property::Property;
 
-pub const NOTHING_DONE: Record = Record {
-    done: 0,
-    best: None,
-};
+pub const NOTHING_DONE: Record = record(0, None);
+
+pub const fn record(done: u16, best: Option<u16>) -> Record {
+    Record { done, best }
+}
 
 /// The file of a model from its edges and marks.
 pub fn file_of(states: usize, edges: &[(usize, usize)], marks: &[usize]) -> Vec<u8> {
@@ -127,14 +128,7 @@ fn searches() {
 
 #[test]
 fn stopped_searches_and_steps() {
-    let after_one = Record {
-        done: 1,
-        best: Some(5),
-    };
-    let after_two = Record {
-        done: 2,
-        best: Some(3),
-    };
+    let (after_one, after_two) = (record(1, Some(5)), record(2, Some(3)));
     assert_eq!(
         searched(&file_h(), 0).0,
         SearchAnswer::Stopped(NOTHING_DONE)
@@ -173,10 +167,7 @@ fn nexts() {
 #[test]
 fn a_state_that_stays() {
     let file = with_flag(file_a(), 1);
-    let after_one = Record {
-        done: 1,
-        best: Some(1),
-    };
+    let after_one = record(1, Some(1));
     let mut work = [9; 6];
     assert_eq!(
         step(&file, TABLE_0, FULL_CEILING, NOTHING_DONE, &mut work),
@@ -240,10 +231,14 @@ fn flags_above_1() {
     }
 }
 
+pub fn longest_ring() -> Vec<u8> {
+    let edges: Vec<(usize, usize)> = (0..4096).map(|s| (s, (s + 1) % 4096)).collect();
+    file_of(4096, &edges, &[4095])
+}
+
 #[test]
 fn the_longest_ring() {
-    let edges: Vec<(usize, usize)> = (0..4096).map(|s| (s, (s + 1) % 4096)).collect();
-    let file = file_of(4096, &edges, &[4095]);
+    let file = longest_ring();
     let (result, list) = searched(&file, 65535);
     let expected: Vec<u16> = (0..4096).chain([0]).collect();
     assert_eq!((result, list), (found(4096, 0, 1), expected));
@@ -264,7 +259,7 @@ fn rule_file() -> Vec<u8> {
 const LETTERS: [u8; 2] = [0, 1];
 
 /// A property whose state tells the last letter: 0 leads to state 0, 1 to state 1, which is marked.
-fn property_file() -> Vec<u8> {
+pub fn property() -> Property {
     let mut model = Model::new(2);
     for (from, to) in [(0, 0), (0, 1), (1, 0), (1, 1)] {
         model.edge(from, to);
@@ -272,7 +267,11 @@ fn property_file() -> Vec<u8> {
     model.marks[1] = true;
     let mut property = Property::new(model, 0);
     property.masks = vec![vec![1, 2], vec![1, 2]];
-    property.to_bytes()
+    property
+}
+
+fn property_file() -> Vec<u8> {
+    property().to_bytes()
 }
 
 /// What the rule and the property combine to.

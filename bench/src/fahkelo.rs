@@ -159,7 +159,7 @@ pub enum CombineAnswer {
     Written(usize),
 }
 
-/// What the grader says of a list with a claimed k: it is no accepting path, it is one, it is one of least length.
+/// What a grade says of a list with a claimed k: it is no accepting path, it is one, it is one of least length.
 #[derive(Clone, Copy, Debug, PartialEq, Eq)]
 pub enum Verdict {
     False,
@@ -167,7 +167,7 @@ pub enum Verdict {
     Shortest,
 }
 
-/// The answer of the grader: the verdict, and the first place where the list breaks, if it does.
+/// The answer of a grade: the verdict, and the first place where the list breaks, if it does.
 #[derive(Clone, Copy, Debug, PartialEq, Eq)]
 pub enum GradeAnswer {
     Refused(u16),

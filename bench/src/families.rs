@@ -12,75 +12,28 @@ pub struct Family {
 
 /// All families, in the order of the tables.
 pub const FAMILIES: &[Family] = &[
-    Family {
-        name: "ring-one-mark",
-        make: ring_one_mark,
-    },
-    Family {
-        name: "ring-all-marked",
-        make: ring_all_marked,
-    },
-    Family {
-        name: "ladder",
-        make: ladder,
-    },
-    Family {
-        name: "grid",
-        make: grid,
-    },
-    Family {
-        name: "torus-all-marked",
-        make: torus,
-    },
-    Family {
-        name: "random-few-marks",
-        make: random_few_marks,
-    },
-    Family {
-        name: "random-many-marks",
-        make: random_many_marks,
-    },
-    Family {
-        name: "hub",
-        make: hub,
-    },
-    Family {
-        name: "diamonds",
-        make: diamonds,
-    },
-    Family {
-        name: "decoys",
-        make: decoys,
-    },
-    Family {
-        name: "decoys-twice",
-        make: decoys_twice,
-    },
-    Family {
-        name: "long-stem",
-        make: long_stem,
-    },
-    Family {
-        name: "steps-back",
-        make: steps_back,
-    },
-    Family {
-        name: "largest",
-        make: largest,
-    },
-    Family {
-        name: "sinks",
-        make: sinks,
-    },
-    Family {
-        name: "nested",
-        make: nested,
-    },
-    Family {
-        name: "marks-before-dead-ends",
-        make: marks_before_dead_ends,
-    },
+    family("ring-one-mark", ring_one_mark),
+    family("ring-all-marked", ring_all_marked),
+    family("ladder", ladder),
+    family("grid", grid),
+    family("torus-all-marked", torus),
+    family("random-few-marks", random_few_marks),
+    family("random-many-marks", random_many_marks),
+    family("hub", hub),
+    family("diamonds", diamonds),
+    family("decoys", decoys),
+    family("decoys-twice", decoys_twice),
+    family("long-stem", long_stem),
+    family("steps-back", steps_back),
+    family("largest", largest),
+    family("sinks", sinks),
+    family("nested", nested),
+    family("marks-before-dead-ends", marks_before_dead_ends),
 ];
+
+const fn family(name: &'static str, make: fn(usize) -> Model) -> Family {
+    Family { name, make }
+}
 
 /// The family of a name.
 pub fn named(name: &str) -> Option<&'static Family> {
@@ -205,8 +158,8 @@ fn diamonds(n: usize) -> Model {
     model
 }
 
-/// A way of half the states behind 24 first steps, marked at its end, which leads to the start. From each of its states
-/// an edge leads to the state behind it. Answers that state.
+/// A way of half the states after 24 first steps, marked at its end, which leads to the start. From each of its states
+/// an edge leads to the state after the way. Answers that state.
 fn way(model: &mut Model, n: usize) -> usize {
     let firsts = 24;
     let start = firsts + 1;
@@ -224,7 +177,7 @@ fn way(model: &mut Model, n: usize) -> usize {
     end + 1
 }
 
-/// Edges from a state to all behind it, and from each of these to the next; the last has none.
+/// Edges from a state to all after it, and from each of these to the next; the last has none.
 fn dead_ends(model: &mut Model, from: usize) {
     let n = model.states();
     for s in from + 1..n {

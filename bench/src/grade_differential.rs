@@ -5,7 +5,7 @@
 use std::collections::BTreeMap;
 
 use crate::counts;
-use crate::differential::verdict_of;
+use crate::differential::{file_of, verdict_of};
 use crate::fahkelo::{
     grade_into, kind, Ask, GradeAnswer, NextAnswer, SearchAnswer, Verdict, FULL_CEILING, TABLE_0,
     TABLE_1,
@@ -17,12 +17,12 @@ use crate::grades::{self, LONG};
 use crate::model::Model;
 use crate::oracle;
 use crate::random::Random;
-use crate::reference::{accepting, SMALL};
+use crate::reference::accepting;
 use crate::samples::{
-    add_table, damage, dirty, dirty_places, random_model, table_above_1, work_len,
+    dirty, dirty_places, model_of_family, model_of_round, out_len, table_above_1, work_len,
 };
 use crate::trials::Case;
-use crate::versions::{Finder, Grader, Proved, PAIRED, SAFE, UNCHECKED};
+use crate::versions::{Proved, Version, VERSIONS};
 
 /// Lists of each kind that are drawn for a file, and for a file of a family.
 const LISTS: usize = 1;
@@ -78,24 +78,16 @@ pub fn run(count: u64, seed: u64) -> u64 {
     let mut counts = Counts::default();
     for round in 0..count.div_ceil(2) {
         let damaged = round % 3 == 2;
-        let (least, most) = if round % 20 >= 18 {
-            (SMALL + 1, 40)
-        } else {
-            (1, SMALL)
-        };
-        let mut model = random_model(&mut lot, least, most);
-        if lot.once_in(2) {
-            add_table(&mut lot, &mut model);
-        }
-        for stays in [false, true] {
-            compare_model(&mut lot, &mut counts, &model.staying(stays), damaged);
+        let model = model_of_round(&mut lot, round);
+        for model in [false, true].map(|stays| model.staying(stays)) {
+            let file = file_of(&mut lot, &mut counts.files, &model, damaged);
+            let written = (!damaged).then_some(&model);
+            compare_file(&mut lot, &mut counts, &file, written, LISTS);
         }
     }
     for family in FAMILIES {
-        let mut model = (family.make)(256);
-        add_table(&mut lot, &mut model);
-        for stays in [false, true] {
-            let model = model.staying(stays);
+        let model = model_of_family(&mut lot, family);
+        for model in [false, true].map(|stays| model.staying(stays)) {
             let file = model.to_bytes();
             compare_file(&mut lot, &mut counts, &file, Some(&model), FAMILY_LISTS);
         }
@@ -130,16 +122,6 @@ fn print(counts: &Counts) {
         counts.out_too_short, counts.place_too_short
     );
     println!("differences {}", counts.files.differences);
-}
-
-/// All comparisons on the file of a model, damaged or not.
-fn compare_model(lot: &mut Random, counts: &mut Counts, model: &Model, damaged: bool) {
-    let mut file = model.to_bytes();
-    if damaged {
-        damage(lot, &mut file);
-        counts.files.damaged += 1;
-    }
-    compare_file(lot, counts, &file, (!damaged).then_some(model), LISTS);
 }
 
 /// All comparisons on one file, with so many lists of each kind: by both mark tables, and by a number above 1.
@@ -309,7 +291,7 @@ fn compare(lot: &mut Random, counts: &mut Counts, case: Case, call: &Call) -> Gr
     if !agrees_in_c(lot, counts, case, call, expected, &work, &work_after) {
         counts.difference("grade: in C", case, call);
     }
-    for version in [&Proved as &dyn Grader, &SAFE, &PAIRED, &UNCHECKED] {
+    for version in VERSIONS {
         let mut used = work.clone();
         let got = version.grade(file, mark_table, call.list, call.k, &mut used);
         if got != expected || used != work_after {
@@ -329,10 +311,7 @@ fn agrees_in_c(
     work: &[u16],
     work_after: &[u16],
 ) -> bool {
-    let out_len = match lot.below(12) {
-        0 => lot.below(4),
-        _ => lot.between(4, 6),
-    };
+    let out_len = out_len(lot);
     let place_len = match lot.below(12) {
         0 => 0,
         _ => lot.between(1, 3),

@@ -1,27 +1,26 @@
 //! The measurement of grades: each family through every version in one run, and the table of the results.
 
 use std::hint::black_box;
-use std::time::Duration;
 
 use crate::fahkelo::{GradeAnswer, TABLE_0};
 use crate::grades::{self, Graded, Input, LONG};
-use crate::measure::{least_times, ratio};
+use crate::measure::{time_columns, version_times};
 use crate::ported::access::{Counting, Work};
 use crate::ported::grade;
-use crate::versions::{Grader, Proved, PAIRED, SAFE, UNCHECKED};
+use crate::versions::{Version, VERSIONS};
 
 /// The entries of a working table that suffices for every model.
 pub const WORK_ENTRIES: usize = 6 * 4096;
 
 /// One grade by one version.
 #[inline(never)]
-pub fn grade_once(version: &dyn Grader, input: &Input, work: &mut [u16]) -> GradeAnswer {
+pub fn grade_once(version: &dyn Version, input: &Input, work: &mut [u16]) -> GradeAnswer {
     version.grade(&input.file, TABLE_0, &input.list, input.k, work)
 }
 
 /// All versions must give the verdict and the place of the family.
 fn assert_agreed(family: &Graded) {
-    for version in [&Proved as &dyn Grader, &SAFE, &PAIRED, &UNCHECKED] {
+    for version in VERSIONS {
         let mut work = [9; WORK_ENTRIES];
         let answer = grade_once(version, &family.input, &mut work);
         assert!(
@@ -34,20 +33,6 @@ fn assert_agreed(family: &Graded) {
     }
 }
 
-fn times(input: &Input) -> [Duration; 4] {
-    let mut works = [[0; WORK_ENTRIES]; 4];
-    let [a, b, c, d] = &mut works;
-    let once = |version: &dyn Grader, work: &mut [u16]| {
-        black_box(grade_once(version, black_box(input), work));
-    };
-    least_times([
-        &mut || once(&Proved, a),
-        &mut || once(&SAFE, b),
-        &mut || once(&PAIRED, c),
-        &mut || once(&UNCHECKED, d),
-    ])
-}
-
 /// Measures the families whose names hold a word, and prints the table.
 pub fn run(word: &str) {
     println!("grade, microseconds of processor time\n");
@@ -56,18 +41,15 @@ pub fn run(word: &str) {
     for name in grades::names().filter(|name| name.contains(word)) {
         let family = grades::named(&name).expect("it is one of the names");
         assert_agreed(&family);
-        let times = times(&family.input);
-        let [proved, safe, paired, unchecked] = times;
-        let micros = times.map(|time| format!("{:.1}", time.as_secs_f64() * 1e6));
+        let times = version_times([[0; WORK_ENTRIES]; 4], |version, work| {
+            black_box(grade_once(version, black_box(&family.input), work));
+        });
         println!(
-            "| {} | {} | {:?} | {} | {:.2} | {:.2} | {:.2} |",
+            "| {} | {} | {:?} | {} |",
             family.name,
             family.input.list.len(),
             family.verdict,
-            micros.join(" | "),
-            ratio(proved, safe),
-            ratio(proved, paired),
-            ratio(proved, unchecked)
+            time_columns(times)
         );
     }
 }

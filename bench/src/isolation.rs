@@ -8,21 +8,14 @@ use crate::fahkelo::{Ask, Record, TABLE_0, TABLE_1};
 use crate::oracle::Verdict;
 use crate::random::Random;
 use crate::samples::{add_table, marks_of, random_model, wrong_list};
-use crate::versions::{Finder, Grader, Proved, PAIRED, SAFE, UNCHECKED};
-
-const VERSIONS: [(&dyn Finder, &dyn Grader); 4] = [
-    (&Proved, &Proved),
-    (&SAFE, &SAFE),
-    (&PAIRED, &PAIRED),
-    (&UNCHECKED, &UNCHECKED),
-];
+use crate::versions::{Version, VERSIONS};
 
 /// What one call did: its answer as text, and its tables afterwards.
 type Outcome = (String, Vec<u16>, Vec<u16>);
 
 /// The outcomes of all four calls by a mark table, with various arguments, among them those that are refused.
 fn outcomes(
-    (finder, grader): (&dyn Finder, &dyn Grader),
+    version: &dyn Version,
     file: &[u8],
     mark_table: u16,
     lists: &[Vec<u16>],
@@ -45,7 +38,10 @@ fn outcomes(
         ] {
             let so_far = Record { done, best };
             call(0, short, &|_, work| {
-                format!("{:?}", finder.step(file, mark_table, ceiling, so_far, work))
+                format!(
+                    "{:?}",
+                    version.step(file, mark_table, ceiling, so_far, work)
+                )
             });
         }
         for (allowance, entries, short) in [
@@ -62,20 +58,20 @@ fn outcomes(
                 allowance,
             };
             call(entries, short, &|answer, work| {
-                format!("{:?}", finder.search(file, ask, answer, work))
+                format!("{:?}", version.search(file, ask, answer, work))
             });
         }
     }
     for list in lists {
         for entries in [states + 1, 1] {
             call(entries, 0, &|answer, work| {
-                format!("{:?}", finder.next(file, mark_table, list, answer, work))
+                format!("{:?}", version.next(file, mark_table, list, answer, work))
             });
         }
         let home = list.iter().position(|s| Some(s) == list.last());
         for k in [home.unwrap_or(0) as u16, 0, 1] {
             call(0, 0, &|_, work| {
-                format!("{:?}", grader.grade(file, mark_table, list, k, work))
+                format!("{:?}", version.grade(file, mark_table, list, k, work))
             });
         }
     }
@@ -129,7 +125,7 @@ fn the_marks_of_the_other_table() {
                     assert!(
                         after == before,
                         "{}, table {named}, state {s} flipped in the other: {file:02x?}",
-                        version.0.name()
+                        version.name()
                     );
                 }
             }

@@ -43,7 +43,6 @@ use std::path::Path;
 use std::process::ExitCode;
 
 use fahkelo::FULL_CEILING;
-use versions::{Combiner, DistanceWriter, Finder, Grader, Proved, PAIRED, SAFE, UNCHECKED};
 
 const USAGE: &str = "\
 fahkelo-bench [WORD]                           measure the families whose names hold the word (default: all)
@@ -71,167 +70,109 @@ fahkelo-bench grade-families                   the families of grades";
 fn main() -> ExitCode {
     let words: Vec<String> = std::env::args().skip(1).collect();
     let words: Vec<&str> = words.iter().map(String::as_str).collect();
-    let done = match words[..] {
-        [] => measured(""),
-        ["differential", count, seed] => differential(count, seed),
-        ["counts"] => counted("4096"),
-        ["counts", size] => counted(size),
-        ["once", version, family, size] => once(version, family, size, "4096"),
-        ["once", version, family, size, ceiling] => once(version, family, size, ceiling),
-        ["families"] => {
-            for family in families::FAMILIES {
-                println!("{}", family.name);
-            }
-            Some(ExitCode::SUCCESS)
-        }
-        ["files", folder] => {
-            measure::write_all(Path::new(folder));
-            Some(ExitCode::SUCCESS)
-        }
-        ["ceiling"] => capped(""),
-        ["ceiling", word] => capped(word),
-        ["ceiling-families"] => {
-            for capped in ceiling_measure::capped() {
-                println!("{} {}", capped.family.name, capped.ceiling);
-            }
-            Some(ExitCode::SUCCESS)
-        }
-        ["distances"] => distances_measured(""),
-        ["distances", word] => distances_measured(word),
-        ["distances-once", version, family] => distances(version, family),
-        ["combine"] => combined(""),
-        ["combine", word] => combined(word),
-        ["combine-differential", count, seed] => combine_differential(count, seed),
-        ["combine-once", version, family] => combination(version, family),
-        ["combine-families"] => {
-            for family in combinations::COMBINATIONS {
-                println!(
-                    "{} {} {}",
-                    family.name,
-                    family.mask_tests(),
-                    family.blocks()
-                );
-            }
-            Some(ExitCode::SUCCESS)
-        }
-        ["grade"] => graded(""),
-        ["grade", word] => graded(word),
-        ["grade-differential", count, seed] => grade_differential(count, seed),
-        ["grade-counts"] => {
-            grade_measure::print_counts();
-            Some(ExitCode::SUCCESS)
-        }
-        ["grade-once", version, family] => grade(version, family),
-        ["grade-families"] => {
-            for name in grades::names() {
-                println!("{name}");
-            }
-            Some(ExitCode::SUCCESS)
-        }
-        [word] if !word.starts_with('-') => measured(word),
-        _ => None,
-    };
-    done.unwrap_or_else(|| {
+    done(&words).unwrap_or_else(|| {
         eprintln!("{USAGE}");
         ExitCode::from(2)
     })
 }
 
-fn measured(word: &str) -> Option<ExitCode> {
-    measure::run(word);
-    Some(ExitCode::SUCCESS)
-}
-
-fn counted(size: &str) -> Option<ExitCode> {
-    measure::print_counts(size.parse().ok()?);
-    Some(ExitCode::SUCCESS)
-}
-
-fn capped(word: &str) -> Option<ExitCode> {
-    ceiling_measure::run(word);
-    Some(ExitCode::SUCCESS)
-}
-
-fn distances_measured(word: &str) -> Option<ExitCode> {
-    distances_measure::run(word);
-    Some(ExitCode::SUCCESS)
-}
-
-fn combined(word: &str) -> Option<ExitCode> {
-    combine_measure::run(word);
-    Some(ExitCode::SUCCESS)
-}
-
-fn graded(word: &str) -> Option<ExitCode> {
-    grade_measure::run(word);
-    Some(ExitCode::SUCCESS)
-}
-
-fn differential(count: &str, seed: &str) -> Option<ExitCode> {
-    let differences = differential::run(count.parse().ok()?, seed.parse().ok()?);
-    Some(status_of(differences))
-}
-
-fn combine_differential(count: &str, seed: &str) -> Option<ExitCode> {
-    let differences = combine_differential::run(count.parse().ok()?, seed.parse().ok()?);
-    Some(status_of(differences))
-}
-
-fn grade_differential(count: &str, seed: &str) -> Option<ExitCode> {
-    let differences = grade_differential::run(count.parse().ok()?, seed.parse().ok()?);
-    Some(status_of(differences))
-}
-
-fn status_of(differences: u64) -> ExitCode {
-    if differences == 0 {
-        ExitCode::SUCCESS
-    } else {
-        ExitCode::from(1)
+/// Does what the words say; nothing if they are no command.
+fn done(words: &[&str]) -> Option<ExitCode> {
+    // Families whose names hold the word after the command are measured: all, if there is none.
+    let word = words.get(1).copied().unwrap_or("");
+    match *words {
+        [] => measure::run(""),
+        ["differential", count, seed] => return compared(differential::run, count, seed),
+        ["counts"] => measure::print_counts(4096),
+        ["counts", size] => measure::print_counts(size.parse().ok()?),
+        ["once", version, family, size] => once(version, family, size, "4096")?,
+        ["once", version, family, size, ceiling] => once(version, family, size, ceiling)?,
+        ["families"] => {
+            for family in families::FAMILIES {
+                println!("{}", family.name);
+            }
+        }
+        ["files", folder] => measure::write_all(Path::new(folder)),
+        ["ceiling"] | ["ceiling", _] => ceiling_measure::run(word),
+        ["ceiling-families"] => {
+            for capped in ceiling_measure::capped() {
+                println!("{} {}", capped.family.name, capped.ceiling);
+            }
+        }
+        ["distances"] | ["distances", _] => distances_measure::run(word),
+        ["distances-once", version, family] => distances(version, family)?,
+        ["combine"] | ["combine", _] => combine_measure::run(word),
+        ["combine-differential", count, seed] => {
+            return compared(combine_differential::run, count, seed)
+        }
+        ["combine-once", version, family] => combine(version, family)?,
+        ["combine-families"] => {
+            for family in combinations::COMBINATIONS {
+                let (tests, blocks) = (family.mask_tests(), family.blocks());
+                println!("{} {tests} {blocks}", family.name);
+            }
+        }
+        ["grade"] | ["grade", _] => grade_measure::run(word),
+        ["grade-differential", count, seed] => {
+            return compared(grade_differential::run, count, seed)
+        }
+        ["grade-counts"] => grade_measure::print_counts(),
+        ["grade-once", version, family] => grade(version, family)?,
+        ["grade-families"] => {
+            for name in grades::names() {
+                println!("{name}");
+            }
+        }
+        [word] if !word.starts_with('-') => measure::run(word),
+        _ => return None,
     }
+    Some(ExitCode::SUCCESS)
 }
 
-fn once(version: &str, family: &str, size: &str, ceiling: &str) -> Option<ExitCode> {
+/// A differential run, which answers the number of differences.
+fn compared(run: fn(u64, u64) -> u64, count: &str, seed: &str) -> Option<ExitCode> {
+    let differences = run(count.parse().ok()?, seed.parse().ok()?);
+    Some(ExitCode::from(u8::from(differences != 0)))
+}
+
+fn once(version: &str, family: &str, size: &str, ceiling: &str) -> Option<()> {
     let states = size.parse().ok()?;
     let ceiling = ceiling.parse().ok()?;
     let file = (families::named(family)?.make)(states).to_bytes();
-    let versions: [&dyn Finder; 4] = [&Proved, &SAFE, &PAIRED, &UNCHECKED];
     if version == "textbook" {
         let length = measure::textbook_once(&file, ceiling).map(|list| list.len() - 1);
         println!("{length:?}");
-        return Some(ExitCode::SUCCESS);
+        return Some(());
     }
-    let version = versions.iter().find(|known| known.name() == version)?;
-    let (answer, _) = measure::search_once(*version, &file, states, ceiling);
+    let version = versions::named(version)?;
+    let (answer, _) = measure::search_once(version, &file, states, ceiling);
     println!("{answer:?}");
-    Some(ExitCode::SUCCESS)
+    Some(())
 }
 
-fn distances(version: &str, family: &str) -> Option<ExitCode> {
+fn distances(version: &str, family: &str) -> Option<()> {
     let file = distances_measure::file_of(families::named(family)?);
-    let versions: [&dyn DistanceWriter; 4] = [&Proved, &SAFE, &PAIRED, &UNCHECKED];
-    let version = versions.iter().find(|known| known.name() == version)?;
+    let version = versions::named(version)?;
     let mut tables = distances_measure::Tables::filled(0);
-    let answer = distances_measure::distances_once(*version, &file, FULL_CEILING, &mut tables);
+    let answer = distances_measure::distances_once(version, &file, FULL_CEILING, &mut tables);
     println!("{answer:?}");
-    Some(ExitCode::SUCCESS)
+    Some(())
 }
 
-fn combination(version: &str, family: &str) -> Option<ExitCode> {
+fn combine(version: &str, family: &str) -> Option<()> {
     let input = combinations::named(family)?.make();
-    let versions: [&dyn Combiner; 4] = [&Proved, &SAFE, &PAIRED, &UNCHECKED];
-    let version = versions.iter().find(|known| known.name() == version)?;
+    let version = versions::named(version)?;
     let mut output = [0; combine_measure::OUTPUT_MOST];
-    let answer = combine_measure::combine_once(*version, &input, &mut output);
+    let answer = combine_measure::combine_once(version, &input, &mut output);
     println!("{answer:?}");
-    Some(ExitCode::SUCCESS)
+    Some(())
 }
 
-fn grade(version: &str, family: &str) -> Option<ExitCode> {
+fn grade(version: &str, family: &str) -> Option<()> {
     let input = grades::named(family)?.input;
-    let versions: [&dyn Grader; 4] = [&Proved, &SAFE, &PAIRED, &UNCHECKED];
-    let version = versions.iter().find(|known| known.name() == version)?;
+    let version = versions::named(version)?;
     let mut work = [0; grade_measure::WORK_ENTRIES];
-    let answer = grade_measure::grade_once(*version, &input, &mut work);
+    let answer = grade_measure::grade_once(version, &input, &mut work);
     println!("{answer:?}");
-    Some(ExitCode::SUCCESS)
+    Some(())
 }

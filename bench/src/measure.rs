@@ -14,7 +14,7 @@ use crate::ported::access::{Counting, Work};
 use crate::ported::finder;
 use crate::reference::{accepting, read};
 use crate::textbook::Textbook;
-use crate::versions::{Finder, Proved, PAIRED, SAFE, UNCHECKED};
+use crate::versions::{Proved, Version, PAIRED, SAFE, UNCHECKED};
 
 pub const SIZES: [usize; 3] = [256, 1024, 4096];
 const ANSWER_ENTRIES: usize = 4097;
@@ -32,7 +32,7 @@ const BATCHES: u32 = 8;
 /// One search under a ceiling by one version, with fresh tables.
 #[inline(never)]
 pub fn search_once(
-    version: &dyn Finder,
+    version: &dyn Version,
     file: &[u8],
     states: usize,
     ceiling: u16,
@@ -85,7 +85,7 @@ pub fn least_times<const K: usize>(versions: [&mut dyn FnMut(); K]) -> [Duration
 }
 
 /// The same for versions of which the first takes the longest: each has its own number of calls in a batch.
-pub fn least_times_apart<const K: usize>(mut versions: [&mut dyn FnMut(); K]) -> [Duration; K] {
+pub fn least_times_unequal<const K: usize>(mut versions: [&mut dyn FnMut(); K]) -> [Duration; K] {
     let once = versions
         .each_mut()
         .map(|version| batch_time(1, &mut **version));
@@ -108,6 +108,25 @@ fn least_of_batches<const K: usize>(
     least
 }
 
+/// The least time of one call by each version, which has a table of its own.
+pub fn version_times<T>(mut tables: [T; 4], call: impl Fn(&dyn Version, &mut T)) -> [Duration; 4] {
+    let [a, b, c, d] = &mut tables;
+    least_times([
+        &mut || call(&Proved, a),
+        &mut || call(&SAFE, b),
+        &mut || call(&PAIRED, c),
+        &mut || call(&UNCHECKED, d),
+    ])
+}
+
+/// The columns of these times: microseconds, and the ratios of the first to the others.
+pub fn time_columns(times: [Duration; 4]) -> String {
+    let [proved, others @ ..] = times;
+    let micros = times.map(|time| format!("{:.1}", time.as_secs_f64() * 1e6));
+    let ratios = others.map(|other| format!("{:.2}", ratio(proved, other)));
+    format!("{} | {}", micros.join(" | "), ratios.join(" | "))
+}
+
 fn times(file: &[u8], states: usize) -> [Duration; 5] {
     least_times([
         &mut || drop(search_once(&Proved, file, states, FULL_CEILING)),
@@ -121,7 +140,7 @@ fn times(file: &[u8], states: usize) -> [Duration; 5] {
 /// All versions must give the same first list, or none, under a ceiling.
 pub fn agreed_answer(file: &[u8], states: usize, ceiling: u16) -> SearchAnswer {
     let (proved, list) = search_once(&Proved, file, states, ceiling);
-    for version in [&SAFE as &dyn Finder, &PAIRED, &UNCHECKED] {
+    for version in [&SAFE as &dyn Version, &PAIRED, &UNCHECKED] {
         let other = search_once(version, file, states, ceiling);
         assert!(
             other == (proved, list.clone()),

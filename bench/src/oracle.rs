@@ -59,7 +59,7 @@ pub fn admitted(
     Ok(admitted)
 }
 
-/// The reasons 22 and 1 to 12, and behind them 21: the ceiling is above 4,096.
+/// The reasons 22 and 1 to 12, and after them 21: the ceiling is above 4,096.
 fn admitted_under(
     verdict: &Verdict,
     mark_table: u16,

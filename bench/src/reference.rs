@@ -15,7 +15,7 @@ fn long(file: &[u8], at: usize) -> u64 {
     u64::from(word(file, at)) + (u64::from(word(file, at + 2)) << 16)
 }
 
-/// The kinds of file: a model has one mark table or two, a property one, and behind it two bytes for each edge.
+/// The kinds of file: a model has one mark table or two, a property one, and after it two bytes for each edge.
 #[derive(Clone, Copy, PartialEq, Eq)]
 enum Kind {
     Model,
@@ -35,7 +35,7 @@ pub fn read_property(file: &[u8]) -> Result<(Model, Vec<u16>), u16> {
     Ok((model, masks.map(|two| word(two, 0)).collect()))
 }
 
-/// The states below n that are marked in a table of bytes, and whether a bit behind them is set.
+/// The states below n that are marked in a table of bytes, and whether a bit after them is set.
 fn read_marks(table: &[u8], n: usize) -> (Vec<bool>, bool) {
     let bits = table
         .iter()
@@ -106,11 +106,11 @@ fn read_kind(file: &[u8], kind: Kind) -> Result<Model, u16> {
     {
         return Err(10);
     }
-    let (first, behind) = file[marks_at..].split_at(mark_bytes);
+    let (first, rest) = file[marks_at..].split_at(mark_bytes);
     let (marks, mut spare) = read_marks(first, n);
     let mut second = None;
-    if kind == Kind::Model && !behind.is_empty() {
-        let (marks, spare_of_second) = read_marks(behind, n);
+    if kind == Kind::Model && !rest.is_empty() {
+        let (marks, spare_of_second) = read_marks(rest, n);
         spare |= spare_of_second;
         second = Some(marks);
     }
@@ -230,9 +230,9 @@ fn reached_marks(graph: &Graph) -> Vec<u16> {
     states.map(|s| s as u16).collect()
 }
 
-/// The distance of each state from the start, by sweeps over all edges and implied steps: in a sweep each step brings the
-/// state that it leads to one behind the state that it leaves, if that is less than before. The last sweep changes
-/// nothing.
+/// The distance of each state from the start, by sweeps over all edges and implied steps: in a sweep each step gives
+/// the state that it leads to one more than the distance of the state that it leaves, if that is less than before. The
+/// last sweep changes nothing.
 pub fn distances_by_sweeps(graph: &Graph) -> Vec<Option<u16>> {
     let mut distances = vec![None; graph.states()];
     distances[graph.start as usize] = Some(0);

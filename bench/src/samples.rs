@@ -1,6 +1,7 @@
 //! What a differential run draws by lot: models, damage to files, lengths and contents of tables, records and lists.
 
 use crate::fahkelo::Record;
+use crate::families::Family;
 use crate::graph::Graph;
 use crate::model::Model;
 use crate::random::Random;
@@ -44,6 +45,28 @@ pub fn add_table(lot: &mut Random, model: &mut Model) {
 /// The number of a mark table that there is not.
 pub fn table_above_1(lot: &mut Random) -> u16 {
     [2, 3, 255, 256, 257, 65535, lot.word().max(2)][lot.below(7)]
+}
+
+/// The model of a round of a differential run: two in twenty are larger than what is tried exhaustively, and half of them
+/// have a second mark table.
+pub fn model_of_round(lot: &mut Random, round: u64) -> Model {
+    let (least, most) = if round % 20 >= 18 {
+        (SMALL + 1, 40)
+    } else {
+        (1, SMALL)
+    };
+    let mut model = random_model(lot, least, most);
+    if lot.once_in(2) {
+        add_table(lot, &mut model);
+    }
+    model
+}
+
+/// The model of a measured family with a second mark table.
+pub fn model_of_family(lot: &mut Random, family: &Family) -> Model {
+    let mut model = (family.make)(256);
+    add_table(lot, &mut model);
+    model
 }
 
 /// Damages a file in one of several ways, up to three times.
@@ -115,7 +138,7 @@ fn damage_size(lot: &mut Random, file: &mut Vec<u8>) {
     }
 }
 
-/// Sets a bit behind the last state's in one of the mark tables, if there is such a bit and the table is there.
+/// Sets a bit after the last state's in one of the mark tables, if there is such a bit and the table is there.
 fn set_spare_bit(lot: &mut Random, file: &mut [u8]) {
     let (marks, size) = marks_of(file);
     let spare = 8 * size - u16::from_le_bytes([file[0], file[1]]) as usize;
@@ -179,6 +202,14 @@ pub fn work_len(lot: &mut Random, states: usize) -> usize {
         1 => lot.below(6 * states + 1),
         2 | 3 => 6 * states + lot.between(1, 20),
         _ => 6 * states,
+    }
+}
+
+/// A length of a table for the figures of a call in C, which needs four entries: mostly enough.
+pub fn out_len(lot: &mut Random) -> usize {
+    match lot.below(12) {
+        0 => lot.below(4),
+        _ => lot.between(4, 6),
     }
 }
 

@@ -10,9 +10,7 @@ use crate::random::Random;
 use crate::reference::Facts;
 use crate::samples::{answer_len, ceiling_about, dirty, table_above_1};
 use crate::trials::Case;
-use crate::versions::{Finder, Proved, PAIRED, SAFE, UNCHECKED};
-
-const VERSIONS: [&dyn Finder; 4] = [&Proved, &SAFE, &PAIRED, &UNCHECKED];
+use crate::versions::{Version, VERSIONS};
 
 /// The calls of a sequence.
 const CALLS: usize = 8;
@@ -87,7 +85,7 @@ fn draw_calls(lot: &mut Random, facts: &Facts, mark_table: u16) -> Vec<Call> {
 }
 
 /// The pages of the calls, as far as the lists are known. A search that finds brings the first list, a next that finds
-/// the one behind the lists received since; all other calls bring none, and what was received stays.
+/// the one after the lists received since; all other calls bring none, and what was received stays.
 fn book_of(case: Case, facts: &Facts, calls: &[Call], table: &[u16], work_len: usize) -> Vec<Page> {
     let mut table = table.to_vec();
     let mut received = 0;
@@ -136,7 +134,7 @@ fn lent_to_next(mark_table: u16, copy: &[u16]) -> &[u16] {
 /// The first call of a version whose answer or tables are not those of the book. The version is handed back the copy of
 /// what it brought itself.
 fn first_difference(
-    version: &dyn Finder,
+    version: &dyn Version,
     file: &[u8],
     book: &[Page],
     table: &[u16],

@@ -1,6 +1,6 @@
 //! The examples of files with one and with two mark tables, for `cargo test`, by every version.
 
-use crate::examples::{file_d, file_of, found, with_flag, NOTHING_DONE};
+use crate::examples::{file_d, file_of, found, property, record, with_flag, NOTHING_DONE};
 use crate::fahkelo::{
     grade_into, kind, next_into, search_into, step_into, Ask, CombineAnswer, DistancesAnswer,
     GradeAnswer, NextAnswer, Record, SearchAnswer, StepAnswer, Verdict, FULL_CEILING, TABLE_0,
@@ -11,12 +11,7 @@ use crate::model::Model;
 use crate::property::Property;
 use crate::reference::{read, Facts};
 use crate::textbook::{Lister, Textbook};
-use crate::versions::{Combiner, DistanceWriter, Finder, Grader, Proved, PAIRED, SAFE, UNCHECKED};
-
-const FINDERS: [&dyn Finder; 4] = [&Proved, &SAFE, &PAIRED, &UNCHECKED];
-const GRADERS: [&dyn Grader; 4] = [&Proved, &SAFE, &PAIRED, &UNCHECKED];
-const COMBINERS: [&dyn Combiner; 4] = [&Proved, &SAFE, &PAIRED, &UNCHECKED];
-const DISTANCE_WRITERS: [&dyn DistanceWriter; 4] = [&Proved, &SAFE, &PAIRED, &UNCHECKED];
+use crate::versions::{Version, VERSIONS};
 
 /// Numbers that are no mark table's.
 const NO_TABLES: [u16; 5] = [2, 3, 256, 257, 65535];
@@ -48,7 +43,7 @@ fn naming(mark_table: u16) -> Ask {
 }
 
 /// A search with tables that just do in D; the answer table afterwards. The working table becomes zero.
-fn searched(version: &dyn Finder, file: &[u8], ask: Ask) -> (SearchAnswer, [u16; 4]) {
+fn searched(version: &dyn Version, file: &[u8], ask: Ask) -> (SearchAnswer, [u16; 4]) {
     let (mut answer, mut work) = ([9; 4], [9; 30]);
     let result = version.search(file, ask, &mut answer, &mut work);
     assert_eq!(work, [0; 30], "{} {ask:?}", version.name());
@@ -57,7 +52,7 @@ fn searched(version: &dyn Finder, file: &[u8], ask: Ask) -> (SearchAnswer, [u16;
 
 /// The same for next.
 fn followed(
-    version: &dyn Finder,
+    version: &dyn Version,
     file: &[u8],
     mark_table: u16,
     earlier: &[u16],
@@ -69,7 +64,7 @@ fn followed(
 }
 
 /// The same for a step.
-fn stepped(version: &dyn Finder, file: &[u8], mark_table: u16, so_far: Record) -> StepAnswer {
+fn stepped(version: &dyn Version, file: &[u8], mark_table: u16, so_far: Record) -> StepAnswer {
     let mut work = [9; 30];
     let result = version.step(file, mark_table, FULL_CEILING, so_far, &mut work);
     assert_eq!(work, [0; 30], "{} {mark_table}", version.name());
@@ -78,7 +73,7 @@ fn stepped(version: &dyn Finder, file: &[u8], mark_table: u16, so_far: Record) -
 
 /// The same for a grade.
 fn graded(
-    version: &dyn Grader,
+    version: &dyn Version,
     file: &[u8],
     mark_table: u16,
     list: &[u16],
@@ -108,7 +103,7 @@ fn searches_by_either_table() {
         length: 3,
         loop_start: 1,
     };
-    for version in FINDERS {
+    for version in VERSIONS {
         let two = file_two();
         for file in [&file_d(), &two] {
             let by_0 = searched(version, file, naming(TABLE_0));
@@ -124,10 +119,7 @@ fn searches_by_either_table() {
         assert_eq!(next, (NextAnswer::NoMore, [9; 4]));
         let other = followed(version, &two, TABLE_1, &[0, 2, 3, 2]);
         assert_eq!(other, (NextAnswer::Refused(13), [9; 4]));
-        let after_one = Record {
-            done: 1,
-            best: Some(3),
-        };
+        let after_one = record(1, Some(3));
         for mark_table in [TABLE_0, TABLE_1] {
             let first = stepped(version, &two, mark_table, NOTHING_DONE);
             assert_eq!(first, StepAnswer::Advanced(after_one));
@@ -159,7 +151,7 @@ fn facts_by_either_table() {
 fn table_1_of_a_file_with_one() {
     let file = file_d();
     let none_within = (SearchAnswer::NoneWithin { rounds: 0 }, [9; 4]);
-    for version in FINDERS {
+    for version in VERSIONS {
         for (allowance, ceiling) in [(0, 4096), (65535, 4096), (0, 0), (65535, 0), (1, 3)] {
             let ask = Ask {
                 mark_table: TABLE_1,
@@ -179,7 +171,7 @@ fn table_1_of_a_file_with_one() {
             assert_eq!(answer, (NextAnswer::Refused(13), [9; 4]));
         }
     }
-    for version in GRADERS {
+    for version in VERSIONS {
         let false_at = |place| (Verdict::False, place);
         let grade = |list: &[u16], k| graded(version, &file, TABLE_1, list, k);
         assert_eq!(grade(&[0, 1, 3, 1], 1), false_at(None));
@@ -188,14 +180,10 @@ fn table_1_of_a_file_with_one() {
     }
 }
 
-fn record(done: u16, best: Option<u16>) -> Record {
-    Record { done, best }
-}
-
 #[test]
 fn grades_by_either_table() {
     let two = file_two();
-    for version in GRADERS {
+    for version in VERSIONS {
         let grade = |mark_table, list: &[u16], k| graded(version, &two, mark_table, list, k);
         for mark_table in [TABLE_0, TABLE_1] {
             assert_eq!(
@@ -215,7 +203,7 @@ fn grades_by_either_table() {
 }
 
 /// Searches, steps and nexts that name a number above 1 are refused with 22 and leave the working table as told.
-fn finders_refuse(version: &dyn Finder, file: &[u8], mark_table: u16, work_after: &[u16]) {
+fn finders_refuse(version: &dyn Version, file: &[u8], mark_table: u16, work_after: &[u16]) {
     let dirty = || vec![9; work_after.len()];
     for (ceiling, answer_len) in [(4096, 4), (4097, 4), (4096, 0)] {
         let ask = Ask {
@@ -250,10 +238,10 @@ fn no_such_table() {
             .flat_map(|t| [(t, 30), (t, 29), (t, 0)])
         {
             let zeros = vec![0; work_len];
-            for version in FINDERS {
+            for version in VERSIONS {
                 finders_refuse(version, file, mark_table, &zeros);
             }
-            for version in GRADERS {
+            for version in VERSIONS {
                 let mut work = vec![9; work_len];
                 let got = version.grade(file, mark_table, &[0, 1, 3, 1], 1, &mut work);
                 assert_eq!((got, &work), (GradeAnswer::Refused(22), &zeros));
@@ -312,7 +300,7 @@ fn no_such_table_in_c() {
 /// The numbers with which every version refuses a step, a search, a next and a grade by a mark table; no table changes.
 fn refusals_naming(file: &[u8], mark_table: u16) -> Vec<u16> {
     let mut numbers = Vec::new();
-    for version in FINDERS {
+    for version in VERSIONS {
         let (mut answer, mut work) = ([9; 4], [9; 30]);
         match version.search(file, naming(mark_table), &mut answer, &mut work) {
             SearchAnswer::Refused(number) => numbers.push(number),
@@ -328,7 +316,7 @@ fn refusals_naming(file: &[u8], mark_table: u16) -> Vec<u16> {
         }
         assert_eq!((answer, work), ([9; 4], [9; 30]));
     }
-    for version in GRADERS {
+    for version in VERSIONS {
         let mut work = [9; 30];
         match version.grade(file, mark_table, &[0, 1, 3, 1], 1, &mut work) {
             GradeAnswer::Refused(number) => numbers.push(number),
@@ -342,7 +330,7 @@ fn refusals_naming(file: &[u8], mark_table: u16) -> Vec<u16> {
 /// Those with which every version refuses distances, and a combination with the file as the rule.
 fn refusals_without_table(file: &[u8]) -> Vec<u16> {
     let mut numbers = Vec::new();
-    for version in DISTANCE_WRITERS {
+    for version in VERSIONS {
         let (mut table, mut work) = ([9; 5], [9; 30]);
         match version.distances(file, FULL_CEILING, &mut table, &mut work) {
             DistancesAnswer::Refused(number) => numbers.push(number),
@@ -350,7 +338,7 @@ fn refusals_without_table(file: &[u8]) -> Vec<u16> {
         }
         assert_eq!((table, work), ([9; 5], [9; 30]));
     }
-    for version in COMBINERS {
+    for version in VERSIONS {
         let mut output = [9; 60];
         match version.combine(file, &[0; 5], &[], &mut output) {
             CombineAnswer::Refused(number) => numbers.push(number),
@@ -429,7 +417,7 @@ fn the_longest_file() {
     assert_eq!((file.len(), model.edges()), (25626, 8192));
     let longer = [&file[..], &[0]].concat();
     let refused = SearchAnswer::Refused;
-    for version in FINDERS {
+    for version in VERSIONS {
         let mut work = vec![9; 6 * 4096];
         let mut search = |file: &[u8], mark_table| {
             let mut answer = [9; 4];
@@ -447,19 +435,7 @@ fn the_longest_file() {
     }
 }
 
-/// A property of two states whose edges hold the letters 0 and 1.
-fn property() -> Property {
-    let mut model = Model::new(2);
-    for (from, to) in [(0, 0), (0, 1), (1, 0), (1, 1)] {
-        model.edge(from, to);
-    }
-    model.marks[1] = true;
-    let mut property = Property::new(model, 0);
-    property.masks = vec![vec![1, 2], vec![1, 2]];
-    property
-}
-
-fn combined(version: &dyn Combiner, rule: &[u8], property: &[u8]) -> Result<Vec<u8>, u16> {
+fn combined(version: &dyn Version, rule: &[u8], property: &[u8]) -> Result<Vec<u8>, u16> {
     let mut output = [9; 200];
     let letters = [0, 1, 0, 1, 0];
     let states = u16::from_le_bytes([rule[0], rule[1]]) as usize;
@@ -480,7 +456,7 @@ fn mark_tables_in_combinations() {
     two.model.second = Some(vec![false, false]);
     let two = two.to_bytes();
     assert_eq!(two.len(), one.len() + 1);
-    for version in COMBINERS {
+    for version in VERSIONS {
         let result = combined(version, &file_d(), &one).expect("it is not refused");
         assert_eq!(read(&result).expect("it is accepted").second, None);
         for marks in [&[][..], &[1], &[0, 1, 2, 3, 4]] {
@@ -509,13 +485,13 @@ fn the_same_bytes_in_both_roles() {
     model.marks[0] = true;
     let of_mask = |mask: u16| Property::new(model.clone(), mask).to_bytes();
     let rule = file_of(1, &[(0, 0)], &[]);
-    for version in COMBINERS {
+    for version in VERSIONS {
         let result = combined(version, &rule, &of_mask(0x0101)).expect("it is not refused");
         assert_eq!(result, model.to_bytes());
         assert_eq!(combined(version, &rule, &of_mask(0x8001)), Ok(result));
         assert_eq!(combined(version, &rule, &of_mask(0)), Err(17));
     }
-    for version in FINDERS {
+    for version in VERSIONS {
         let search = |mask, mark_table| {
             let mut work = [9; 54];
             let file = of_mask(mask);
@@ -536,7 +512,7 @@ fn the_same_bytes_in_both_roles() {
 #[test]
 fn a_sequence_with_calls_for_no_table() {
     let file = with_second(&file_d(), &[1, 2]);
-    for version in FINDERS {
+    for version in VERSIONS {
         let (mut answer, mut work) = ([9; 4], [9; 30]);
         let first = version.search(&file, naming(TABLE_1), &mut answer, &mut work);
         let copy = answer;

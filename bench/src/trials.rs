@@ -11,14 +11,11 @@ use crate::graph::Graph;
 use crate::oracle::{self, Verdict};
 use crate::random::Random;
 use crate::reference::Facts;
-use crate::samples::dirty;
-use crate::versions::{DistanceWriter, Finder, Proved, PAIRED, SAFE, UNCHECKED};
+use crate::samples::{dirty, out_len};
+use crate::versions::{Version, PAIRED, SAFE, VERSIONS};
 
-/// The finders in Rust that are held to the reference beside the library.
-const FINDERS: [&dyn Finder; 2] = [&SAFE, &PAIRED];
-
-/// What writes distances and is held to the reference beside the C function.
-const DISTANCE_WRITERS: [&dyn DistanceWriter; 4] = [&Proved, &SAFE, &PAIRED, &UNCHECKED];
+/// The versions in Rust whose steps, searches and nexts are held to the reference beside the library.
+const FINDERS: [&dyn Version; 2] = [&SAFE, &PAIRED];
 
 /// The value that is returned for an answer and its figures, as the C functions give them: a refusal has none.
 trait Figures {
@@ -127,52 +124,67 @@ impl Tables {
             work,
         }
     }
+}
 
-    /// Calls a version with copies of the tables, and compares its answer and the tables afterwards.
-    fn agree<T: PartialEq>(
+/// A call on a file: what it is, its tables, and the answer that is expected.
+struct Call<'a, T> {
+    file: &'a [u8],
+    what: String,
+    tables: Tables,
+    expected: T,
+}
+
+impl<T: Figures + PartialEq> Call<'_, T> {
+    /// Calls versions with copies of the tables, and compares their answers and the tables afterwards.
+    fn compare(
         &self,
-        expected: &T,
-        call: impl FnOnce(&mut [u16], &mut [u16]) -> T,
-    ) -> bool {
-        let (mut answer, mut work) = (self.answer.clone(), self.work.clone());
-        let got = call(&mut answer, &mut work);
-        got == *expected && answer == self.answer_after && work == self.work_after
+        counts: &mut Counts,
+        versions: &[&dyn Version],
+        call: impl Fn(&dyn Version, &mut [u16], &mut [u16]) -> T,
+    ) {
+        let tables = &self.tables;
+        for &version in versions {
+            let (mut answer, mut work) = (tables.answer.clone(), tables.work.clone());
+            let got = call(version, &mut answer, &mut work);
+            if got != self.expected || answer != tables.answer_after || work != tables.work_after {
+                self.differs(counts, version.name());
+            }
+        }
     }
 
-    /// The same for a C function: its value, and the table of figures, past which nothing changes.
-    fn agree_in_c(
+    /// The same for a C function: its value, and the table of figures, past which nothing changes. The answer is counted.
+    fn compare_in_c(
         &self,
         lot: &mut Random,
         counts: &mut Counts,
-        expected: &impl Figures,
+        name: &str,
         call: impl FnOnce(&mut [u16], &mut [u16], &mut [u16]) -> u16,
-    ) -> bool {
-        let (mut answer, mut work) = (self.answer.clone(), self.work.clone());
-        let len = if lot.once_in(12) {
-            lot.below(4)
-        } else {
-            lot.between(4, 6)
-        };
-        let mut out = dirty(lot, len);
+    ) {
+        let tables = &self.tables;
+        let (value, figures) = self.expected.figures();
+        counts.count_value(value);
+        let len = out_len(lot);
+        let (mut answer, mut work, mut out) =
+            (tables.answer.clone(), tables.work.clone(), dirty(lot, len));
         let mut out_after = out.clone();
-        if len < 4 {
-            counts.out_too_short += 1;
-            let got = call(&mut answer, &mut work, &mut out);
-            return got == kind::OUT_TOO_SHORT
-                && (out, answer, work) == (out_after, self.answer.clone(), self.work.clone());
-        }
-        let (expected_value, figures) = expected.figures();
-        out_after[..figures.len()].copy_from_slice(&figures);
         let got = call(&mut answer, &mut work, &mut out);
-        got == expected_value
-            && out == out_after
-            && answer == self.answer_after
-            && work == self.work_after
+        let agrees = if len < 4 {
+            counts.out_too_short += 1;
+            let unchanged = (&out_after, &tables.answer, &tables.work);
+            got == kind::OUT_TOO_SHORT && (&out, &answer, &work) == unchanged
+        } else {
+            out_after[..figures.len()].copy_from_slice(&figures);
+            let expected = (&out_after, &tables.answer_after, &tables.work_after);
+            got == value && (&out, &answer, &work) == expected
+        };
+        if !agrees {
+            self.differs(counts, name);
+        }
     }
-}
 
-fn count_value(counts: &mut Counts, expected: &impl Figures) {
-    counts.count_value(expected.figures().0);
+    fn differs(&self, counts: &mut Counts, version: &str) {
+        counts.difference(&format!("{}: {version}", self.what), self.file);
+    }
 }
 
 pub fn compare_step(
@@ -190,25 +202,21 @@ pub fn compare_step(
     } = case;
     counts.steps += 1;
     let expected = oracle::step(verdict, mark_table, ceiling, so_far, work_len);
-    count_value(counts, &expected);
     if let StepAnswer::Advanced(Record { best: Some(b), .. }) = expected {
         counts.bests_above += u64::from(b > ceiling);
     }
-    let what =
-        |version: &str| format!("step, table {mark_table}, under {ceiling} {so_far:?}: {version}");
-    let tables = Tables::new(lot, verdict, mark_table, 0, work_len, &[]);
-    if !tables.agree_in_c(lot, counts, &expected, |_, work, out| {
+    let call = Call {
+        file,
+        what: format!("step, table {mark_table}, under {ceiling} {so_far:?}"),
+        tables: Tables::new(lot, verdict, mark_table, 0, work_len, &[]),
+        expected,
+    };
+    call.compare_in_c(lot, counts, "proved", |_, work, out| {
         step_into(file, mark_table, ceiling, so_far, work, out)
-    }) {
-        counts.difference(&what("proved"), file);
-    }
-    for version in FINDERS {
-        if !tables.agree(&expected, |_, work| {
-            version.step(file, mark_table, ceiling, so_far, work)
-        }) {
-            counts.difference(&what(version.name()), file);
-        }
-    }
+    });
+    call.compare(counts, &FINDERS, |version, _, work| {
+        version.step(file, mark_table, ceiling, so_far, work)
+    });
 }
 
 pub fn compare_search(
@@ -224,24 +232,21 @@ pub fn compare_search(
     let ask = case.ask(ceiling, allowance);
     counts.searches += 1;
     let (expected, list) = oracle::search(verdict, ask, answer_len, work_len);
-    count_value(counts, &expected);
     if let (SearchAnswer::NoneWithin { .. }, Ok((_, facts))) = (expected, case.named()) {
         counts.lists_above += u64::from(facts.length().is_some());
     }
-    let what = |version: &str| format!("search {ask:?}: {version}");
-    let tables = Tables::new(lot, verdict, case.mark_table, answer_len, work_len, list);
-    if !tables.agree_in_c(lot, counts, &expected, |answer, work, out| {
+    let call = Call {
+        file,
+        what: format!("search {ask:?}"),
+        tables: Tables::new(lot, verdict, case.mark_table, answer_len, work_len, list),
+        expected,
+    };
+    call.compare_in_c(lot, counts, "proved", |answer, work, out| {
         search_into(file, ask, answer, work, out)
-    }) {
-        counts.difference(&what("proved"), file);
-    }
-    for version in FINDERS {
-        if !tables.agree(&expected, |answer, work| {
-            version.search(file, ask, answer, work)
-        }) {
-            counts.difference(&what(version.name()), file);
-        }
-    }
+    });
+    call.compare(counts, &FINDERS, |version, answer, work| {
+        version.search(file, ask, answer, work)
+    });
 }
 
 pub fn compare_next(
@@ -259,21 +264,18 @@ pub fn compare_next(
     } = case;
     counts.nexts += 1;
     let (expected, list) = oracle::next(verdict, mark_table, earlier, answer_len, work_len);
-    count_value(counts, &expected);
-    let what = |version: &str| format!("next, table {mark_table}, {earlier:?}: {version}");
-    let tables = Tables::new(lot, verdict, mark_table, answer_len, work_len, list);
-    if !tables.agree_in_c(lot, counts, &expected, |answer, work, out| {
+    let call = Call {
+        file,
+        what: format!("next, table {mark_table}, {earlier:?}"),
+        tables: Tables::new(lot, verdict, mark_table, answer_len, work_len, list),
+        expected,
+    };
+    call.compare_in_c(lot, counts, "proved", |answer, work, out| {
         next_into(file, mark_table, earlier, answer, work, out)
-    }) {
-        counts.difference(&what("proved"), file);
-    }
-    for version in FINDERS {
-        if !tables.agree(&expected, |answer, work| {
-            version.next(file, mark_table, earlier, answer, work)
-        }) {
-            counts.difference(&what(version.name()), file);
-        }
-    }
+    });
+    call.compare(counts, &FINDERS, |version, answer, work| {
+        version.next(file, mark_table, earlier, answer, work)
+    });
 }
 
 pub fn compare_distances(
@@ -287,19 +289,16 @@ pub fn compare_distances(
     let Case { file, verdict, .. } = case;
     counts.distances += 1;
     let (expected, entries) = oracle::distances(verdict, ceiling, table_len, work_len);
-    count_value(counts, &expected);
-    let what = |version: &str| format!("distances up to {ceiling}, {table_len}: {version}");
-    let tables = Tables::new(lot, verdict, TABLE_0, table_len, work_len, &entries);
-    if !tables.agree_in_c(lot, counts, &expected, |distances, work, out| {
+    let call = Call {
+        file,
+        what: format!("distances up to {ceiling}, {table_len}"),
+        tables: Tables::new(lot, verdict, TABLE_0, table_len, work_len, &entries),
+        expected,
+    };
+    call.compare_in_c(lot, counts, "in C", |distances, work, out| {
         distances_into(file, ceiling, distances, work, out)
-    }) {
-        counts.difference(&what("in C"), file);
-    }
-    for version in DISTANCE_WRITERS {
-        if !tables.agree(&expected, |distances, work| {
-            version.distances(file, ceiling, distances, work)
-        }) {
-            counts.difference(&what(version.name()), file);
-        }
-    }
+    });
+    call.compare(counts, &VERSIONS, |version, distances, work| {
+        version.distances(file, ceiling, distances, work)
+    });
 }

@@ -11,16 +11,32 @@ pub enum Phase {
     List,
 }
 
-/// A way of access to tables and files.
+/// A way of access to tables and files: with bounds checks, where nothing else is said.
+#[forbid(unsafe_code)]
 pub trait Access {
     /// A 16-bit number of a file is read by one part of two bytes, not byte by byte. It is a constant: where each way of
     /// access had a function for this, the compiled combination with bounds checks had up to 36 in 100 more instructions.
     const PAIRED: bool = false;
 
-    fn get<T: Copy>(table: &[T], at: usize) -> T;
-    fn put<T>(table: &mut [T], at: usize, value: T);
-    fn part<T>(table: &[T], from: usize, to: usize) -> &[T];
-    fn part_mut<T>(table: &mut [T], from: usize, to: usize) -> &mut [T];
+    #[inline(always)]
+    fn get<T: Copy>(table: &[T], at: usize) -> T {
+        table[at]
+    }
+
+    #[inline(always)]
+    fn put<T>(table: &mut [T], at: usize, value: T) {
+        table[at] = value;
+    }
+
+    #[inline(always)]
+    fn part<T>(table: &[T], from: usize, to: usize) -> &[T] {
+        &table[from..to]
+    }
+
+    #[inline(always)]
+    fn part_mut<T>(table: &mut [T], from: usize, to: usize) -> &mut [T] {
+        &mut table[from..to]
+    }
 
     /// A phase begins.
     #[inline(always)]
@@ -47,27 +63,7 @@ pub trait Access {
 pub struct Checked;
 
 #[forbid(unsafe_code)]
-impl Access for Checked {
-    #[inline(always)]
-    fn get<T: Copy>(table: &[T], at: usize) -> T {
-        table[at]
-    }
-
-    #[inline(always)]
-    fn put<T>(table: &mut [T], at: usize, value: T) {
-        table[at] = value;
-    }
-
-    #[inline(always)]
-    fn part<T>(table: &[T], from: usize, to: usize) -> &[T] {
-        &table[from..to]
-    }
-
-    #[inline(always)]
-    fn part_mut<T>(table: &mut [T], from: usize, to: usize) -> &mut [T] {
-        &mut table[from..to]
-    }
-}
+impl Access for Checked {}
 
 /// With bounds checks, a 16-bit number that is read from a file by one part of two bytes.
 pub struct Paired;
@@ -75,26 +71,6 @@ pub struct Paired;
 #[forbid(unsafe_code)]
 impl Access for Paired {
     const PAIRED: bool = true;
-
-    #[inline(always)]
-    fn get<T: Copy>(table: &[T], at: usize) -> T {
-        table[at]
-    }
-
-    #[inline(always)]
-    fn put<T>(table: &mut [T], at: usize, value: T) {
-        table[at] = value;
-    }
-
-    #[inline(always)]
-    fn part<T>(table: &[T], from: usize, to: usize) -> &[T] {
-        &table[from..to]
-    }
-
-    #[inline(always)]
-    fn part_mut<T>(table: &mut [T], from: usize, to: usize) -> &mut [T] {
-        &mut table[from..to]
-    }
 }
 
 /// Without bounds checks. It is for the ported algorithm only, whose places are within the tables: the proofs show it of
@@ -168,22 +144,6 @@ impl Counting {
 }
 
 impl Access for Counting {
-    fn get<T: Copy>(table: &[T], at: usize) -> T {
-        table[at]
-    }
-
-    fn put<T>(table: &mut [T], at: usize, value: T) {
-        table[at] = value;
-    }
-
-    fn part<T>(table: &[T], from: usize, to: usize) -> &[T] {
-        &table[from..to]
-    }
-
-    fn part_mut<T>(table: &mut [T], from: usize, to: usize) -> &mut [T] {
-        &mut table[from..to]
-    }
-
     fn phase(phase: Phase) {
         PHASE.set(phase as usize);
     }

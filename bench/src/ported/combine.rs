@@ -1,8 +1,8 @@
 //! The combination of a rule with a property, with every refusal in order.
 
 use super::access::Access;
+use super::combine_file::{count_edges, write_product, Pair};
 use super::model::{check, total_of};
-use super::product_file::{count_edges, write_product, Pair};
 use super::property::{check_property, has_zero_mask};
 use crate::fahkelo::CombineAnswer;
 

@@ -3,7 +3,7 @@
 
 use super::access::Access;
 use super::model::{is_marked, Header};
-use super::spread::{distances, from_marks, get};
+use super::spread::{distances_from, from_marks, get};
 
 /// The state at a place of the list.
 #[inline]
@@ -62,7 +62,7 @@ pub fn may_close<A: Access>(
 ) -> bool {
     let n = h.states;
     let left = length - (place + 1);
-    distances::<A>(file, h, work, t, left + 1);
+    distances_from::<A>(file, h, work, t, left + 1);
     if closes_marked::<A>(file, h, work, place, left) {
         return true;
     }

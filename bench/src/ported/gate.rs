@@ -5,7 +5,7 @@ use super::access::Access;
 use super::model::{check, Header};
 
 /// The header, with the mark table that is named, or the number of the first reason that holds: 22, whatever the file,
-/// behind which the working table is zero, or 1 to 12.
+/// after which the working table is zero, or 1 to 12.
 #[inline]
 pub fn enter<A: Access>(file: &[u8], mark_table: u16, work: &mut [u16]) -> Result<Header, u16> {
     if 1 < mark_table {
@@ -19,7 +19,7 @@ pub fn enter<A: Access>(file: &[u8], mark_table: u16, work: &mut [u16]) -> Resul
     Ok(h.naming(mark_table as usize))
 }
 
-/// The ceiling is above 4,096: reason 21, which is applied behind 12.
+/// The ceiling is above 4,096: reason 21, which is applied after 12.
 #[inline]
 pub fn ceiling_too_high(ceiling: u16) -> bool {
     4096 < ceiling

@@ -1,10 +1,10 @@
-//! Makes the two tables behind a loop start: which state may stand at which place behind it.
+//! Makes the two tables after a loop start: which state may stand at which place after it.
 
 use super::access::Access;
 use super::ends::{flag_closing, flag_marked};
 use super::follow::list_at;
 use super::model::{is_marked, Header};
-use super::spread::{copy, distances, from_marks, get, put};
+use super::spread::{copy, distances_from, from_marks, get, put};
 use super::ways::keep_ways;
 
 /// The last place with a marked state up to a place, plus 1; or 0.
@@ -23,14 +23,14 @@ fn later_levels<A: Access>(
     x: usize,
     limit: usize,
 ) -> usize {
-    let count = distances::<A>(file, h, work, x, limit);
+    let count = distances_from::<A>(file, h, work, x, limit);
     if is_marked::<A>(file, h, x) {
         return count;
     }
     from_marks::<A>(file, h, work, limit, h.states).count()
 }
 
-/// Makes the table for lists with a mark behind the loop start at place b, in region 5.
+/// Makes the table for lists with a mark after the loop start at place b, in region 5.
 fn make_later<A: Access>(file: &[u8], h: Header, work: &mut [u16], length: usize, b: usize) {
     let n = h.states;
     let x = list_at::<A>(h, work, b);
@@ -41,7 +41,7 @@ fn make_later<A: Access>(file: &[u8], h: Header, work: &mut [u16], length: usize
     copy::<A>(work, 2 * n, 5 * n, n);
 }
 
-/// Makes the table for lists with no mark behind the loop start at place b, in region 2, from the one for lists with a
+/// Makes the table for lists with no mark after the loop start at place b, in region 2, from the one for lists with a
 /// mark. `mark` is the place of the last mark up to b plus 1, or 0.
 fn make_sooner<A: Access>(
     file: &[u8],
@@ -55,14 +55,14 @@ fn make_sooner<A: Access>(
     let x = list_at::<A>(h, work, b);
     let left = length - b;
     let own = get::<A>(work, 5 * n + x);
-    let count = distances::<A>(file, h, work, x, left);
+    let count = distances_from::<A>(file, h, work, x, left);
     put::<A>(work, 5 * n + x, own);
     flag_closing::<A>(file, h, work, left - 1, mark);
     flag_marked::<A>(file, h, work);
     keep_ways::<A>(file, h, work, count);
 }
 
-/// Makes both tables behind the loop start at place b; if it is marked itself, they are the same.
+/// Makes both tables after the loop start at place b; if it is marked itself, they are the same.
 pub fn make_tables<A: Access>(file: &[u8], h: Header, work: &mut [u16], length: usize, b: usize) {
     let mark = last_mark::<A>(file, h, work, b);
     make_later::<A>(file, h, work, length, b);

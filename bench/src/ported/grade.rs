@@ -3,7 +3,7 @@
 use super::access::Access;
 use super::gate::enter;
 use super::model::Header;
-use super::paths::{closes_at, first_break};
+use super::paths::{loops_at, first_break};
 use super::rounds::{count_candidates, run_rounds, start_distances};
 use super::spread::{clear, get, put};
 use crate::fahkelo::{GradeAnswer, Verdict, FULL_CEILING};
@@ -32,7 +32,7 @@ fn accepts<A: Access>(file: &[u8], h: Header, list: &[u16], k: usize, work: &mut
     }
     get::<A>(list, 0) == h.start
         && all_different::<A>(list, h.states, work)
-        && closes_at::<A>(file, h, list, k)
+        && loops_at::<A>(file, h, list, k)
 }
 
 /// The list has the least length of an accepting path: all rounds are done.

@@ -1,5 +1,5 @@
 //! What is known of a list up to a place, kept as the list grows and shrinks: its last loop start, its last mark, and
-//! whether the tables behind that loop start are there.
+//! whether the tables after that loop start are there.
 
 use super::access::Access;
 use super::follow::list_at;
@@ -8,7 +8,7 @@ use super::model::{is_marked, Header};
 use super::spread::{get, put};
 
 /// What is known of a list up to a place: the places of its last loop start and of its last mark, plus 1, or 0; how many
-/// tests behind that loop start were done by a search; and whether the tables behind it are there.
+/// tests after that loop start were done by a search; and whether the tables after it are there.
 #[derive(Clone, Copy)]
 pub struct Passed {
     pub start: usize,

@@ -32,7 +32,7 @@ fn is_path<A: Access>(file: &[u8], h: Header, list: &[u16]) -> bool {
 
 /// From place k on a list that breaks nowhere is a closed walk with a mark: the last entry is the one at k, and one of
 /// those from k to before the last is marked.
-pub fn closes_at<A: Access>(file: &[u8], h: Header, list: &[u16], k: usize) -> bool {
+pub fn loops_at<A: Access>(file: &[u8], h: Header, list: &[u16], k: usize) -> bool {
     let end = list.len() - 1;
     if get::<A>(list, end) != get::<A>(list, k) {
         return false;
@@ -46,7 +46,7 @@ fn closes<A: Access>(file: &[u8], h: Header, list: &[u16]) -> bool {
     let end = list.len() - 1;
     let last = get::<A>(list, end);
     match (0..end).find(|&k| get::<A>(list, k) == last) {
-        Some(k) => closes_at::<A>(file, h, list, k),
+        Some(k) => loops_at::<A>(file, h, list, k),
         None => false,
     }
 }

@@ -50,6 +50,6 @@ pub fn count_holding<A: Access>(masks: &[u8], letter: usize) -> usize {
 
 /// State q is marked.
 #[inline]
-pub fn is_marked<A: Access>(file: &[u8], h: Header, q: usize) -> bool {
+pub fn property_marked<A: Access>(file: &[u8], h: Header, q: usize) -> bool {
     bit::<A>(file, marks_at(h.states, h.edges), q)
 }

@@ -2,13 +2,13 @@
 
 use super::access::Access;
 use super::model::{is_marked, Header};
-use super::spread::{copy, distances, get, put, spread};
+use super::spread::{copy, distances_from, get, put, spread};
 use crate::fahkelo::Record;
 
 /// Puts the distances from the start into region 0.
 pub fn start_distances<A: Access>(file: &[u8], h: Header, work: &mut [u16]) {
     let n = h.states;
-    distances::<A>(file, h, work, h.start, n);
+    distances_from::<A>(file, h, work, h.start, n);
     copy::<A>(work, 2 * n, 0, n);
 }
 
@@ -56,7 +56,7 @@ fn round<A: Access>(
     if limit == 0 {
         return None;
     }
-    distances::<A>(file, h, work, r, limit);
+    distances_from::<A>(file, h, work, r, limit);
     add_start_distances::<A>(work, h.states);
     let answer = spread::<A>(file, h, work, limit, r);
     answer.length().map(|length| length as u16)

@@ -1,7 +1,7 @@
 //! The one search there is: breadth-first by levels, from sources that start at levels of their own. The working table
 //! is six regions of n entries: 0 distances from the start, 1 stems, 2 levels, 3 queue, 4 first source of a level, 5 next
 //! source. An entry 0 stands for nothing; a level l stands as l + 1, a source s as s + 1. While a list is made, region 0
-//! holds it, regions 2 and 5 hold the tables behind its last loop start, and region 4 flags of ends.
+//! holds it, regions 2 and 5 hold the tables after its last loop start, and region 4 flags of ends.
 
 use super::access::Access;
 use super::model::{degree, edge_count, edge_target, is_marked, row_part, successor, Header};
@@ -24,7 +24,7 @@ pub fn clear<A: Access>(table: &mut [u16], from: usize, to: usize) {
     A::part_mut(table, from, to).fill(0);
 }
 
-/// Copies n entries from one place to another; the two parts are apart.
+/// Copies n entries from one place to another; the two parts do not overlap.
 #[inline]
 pub fn copy<A: Access>(table: &mut [u16], from: usize, to: usize, n: usize) {
     let first = from.min(to);
@@ -206,7 +206,7 @@ fn keep_marked<A: Access>(file: &[u8], h: Header, work: &mut [u16]) {
 }
 
 /// Puts the distances from x, up to the limit, into region 2; how many states have one.
-pub fn distances<A: Access>(
+pub fn distances_from<A: Access>(
     file: &[u8],
     h: Header,
     work: &mut [u16],
@@ -238,6 +238,6 @@ pub fn loop_length<A: Access>(
     x: usize,
     limit: usize,
 ) -> Option<usize> {
-    distances::<A>(file, h, work, x, limit);
+    distances_from::<A>(file, h, work, x, limit);
     from_marks::<A>(file, h, work, limit, x).length()
 }

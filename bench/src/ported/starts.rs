@@ -41,7 +41,7 @@ fn start_loop<A: Access>(
 }
 
 /// Puts the loop length of each state that can start the loop of a shortest lasso into region 1.
-pub fn prepare<A: Access>(file: &[u8], h: Header, work: &mut [u16], length: usize) {
+pub fn prepare_starts<A: Access>(file: &[u8], h: Header, work: &mut [u16], length: usize) {
     let n = h.states;
     flag_starts::<A>(file, h, work);
     for s in 0..n {

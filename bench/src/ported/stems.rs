@@ -3,7 +3,7 @@
 
 use super::access::Access;
 use super::model::Header;
-use super::spread::{copy, distances, get, put};
+use super::spread::{copy, distances_from, get, put};
 use super::starts;
 use super::ways::keep_ways;
 
@@ -18,9 +18,9 @@ fn put_stems<A: Access>(work: &mut [u16], n: usize) {
 
 /// Puts the stems into region 1: the loop starts are the ends of ways back over the distances from the start.
 pub fn prepare<A: Access>(file: &[u8], h: Header, work: &mut [u16], length: usize) {
-    starts::prepare::<A>(file, h, work, length);
+    starts::prepare_starts::<A>(file, h, work, length);
     let n = h.states;
-    let count = distances::<A>(file, h, work, h.start, length);
+    let count = distances_from::<A>(file, h, work, h.start, length);
     copy::<A>(work, n, 4 * n, n);
     keep_ways::<A>(file, h, work, count);
     put_stems::<A>(work, n);

@@ -9,12 +9,12 @@ use super::model::Header;
 use super::passed::Passed;
 use super::spread::get;
 
-/// So many tests behind a loop start are done by a search each; the next one makes the tables, which cost more.
+/// So many tests after a loop start are done by a search each; the next one makes the tables, which cost more.
 const SEARCHES: usize = 2;
 
 /// State t may stand after the list up to a place: the two begin some shortest lasso. The loop start is ahead if t stands
 /// on a stem at its distance; else the list has to close at a loop start that it has passed. The first two such tests
-/// behind a loop start are done by searches; the tables are made for the third, and serve all that follow.
+/// after a loop start are done by searches; the tables are made for the third, and serve all that follow.
 pub fn may_follow<A: Access>(
     file: &[u8],
     h: Header,

@@ -3,9 +3,9 @@
 //! states.
 
 use super::access::Access;
+use super::combine_row::{write_row, RuleState};
 use super::model::{degree, edges_at, mark_bytes, row_part, Header};
-use super::pair_row::{write_row, RuleState};
-use super::property::{count_holding, is_marked, mask_part, target_part};
+use super::property::{count_holding, property_marked, mask_part, target_part};
 use super::writer::{write_byte, write_header, write_word};
 
 /// What is combined: both files with their headers, and the letters of the rule's states.
@@ -76,7 +76,7 @@ fn pair_mark<A: Access>(property: &[u8], p: Header, states: usize, c: usize) -> 
     if states <= c {
         return false;
     }
-    is_marked::<A>(property, p, c % p.states)
+    property_marked::<A>(property, p, c % p.states)
 }
 
 #[inline]

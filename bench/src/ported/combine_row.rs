@@ -53,7 +53,7 @@ fn copy_block<A: Access>(
 }
 
 /// Writes the edges of (s, q), from the parts that hold the rows of s and of q, where the property has `size` states.
-/// Behind the first successor of a state there are only edges.
+/// After the first successor of a state there are only edges.
 #[inline]
 pub fn write_row<A: Access>(
     out: &mut [u8],
