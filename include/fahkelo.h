@@ -1,11 +1,12 @@
 /*
- * Fahkelo for C and C++: the shortest accepting runs of a finite model.
+ * Fahkelo for C and C++: the shortest runs of a finite model. A run is an accepting path: it starts at the initial state
+ * and repeats, from some place on, a loop with a marked state.
  *
  * Build the library with `rt staticlib capi`, link target/staticlib/libcapi.a (x86-64 Linux).
  *
  * Tables. Each table is given as a pointer and a number of entries. Any lengths and any contents are allowed, and any
  * bytes as the file: what does not fit is refused with a number. A pointer whose length is 0 may be NULL; nothing is read
- * or written through it. Every other pointer must have so many entries behind it, aligned as C aligns their type: 16-bit
+ * or written through it. Every other pointer must lead to so many entries, aligned as C aligns their type: 16-bit
  * ones at even addresses, those of size_t at multiples of 8. The tables that a call writes (answer, distances, place,
  * work, output, out) must not overlap each other, nor a table that the call reads; those that it only reads may
  * overlap. The library keeps nothing between two calls and allocates nothing; calls on tables of their own may run at
@@ -48,14 +49,13 @@
  *                                               has none; nothing at all was done
  *   FAHKELO_STOPPED         rounds, has, best   the allowance is less than the number of rounds of this model
  *   FAHKELO_FOUND           L, k, rounds        (from fahkelo_next: L, k)
- *   FAHKELO_NONE_WITHIN     rounds              the model has no accepting run of as many transitions as the ceiling or
- *                                               fewer
+ *   FAHKELO_NONE_WITHIN     rounds              the model has no run of as many transitions as the ceiling or fewer
  *   FAHKELO_NO_MORE         (none)              the earlier list is the last one
  *   FAHKELO_FINISHED        done, has, best     no round is left: the record that was given
  *   FAHKELO_ADVANCED        done, has, best     the record after one more round
  *   FAHKELO_WRITTEN         bytes               the model file has so many bytes (from fahkelo_distances: states, the
  *                                               number of entries written)
- *   FAHKELO_FALSE           has                 the list with that k is no accepting run
+ *   FAHKELO_FALSE           has                 the list with that k is no run
  *   FAHKELO_ACCEPTING       has                 it is one, and a shorter one exists
  *   FAHKELO_SHORTEST        has                 it is one, and none is shorter
  *
@@ -118,7 +118,7 @@ uint16_t fahkelo_step(const uint8_t *file, size_t file_len,
                       uint16_t *out, size_t out_len);
 
 /*
- * The first of the shortest accepting runs in dictionary order, if they are not longer than the ceiling, with at most
+ * The first of the shortest runs in dictionary order, if they are not longer than the ceiling, with at most
  * `allowance` rounds; 65535 is enough for every model. The number of rounds does not depend on the ceiling.
  * Returns a refusal (22, 1 to 12, 21, 14, 15, in this order), FAHKELO_STOPPED, FAHKELO_FOUND with the run in answer,
  * FAHKELO_NONE_WITHIN or FAHKELO_OUT_TOO_SHORT.
@@ -130,7 +130,7 @@ uint16_t fahkelo_search(const uint8_t *file, size_t file_len,
                         uint16_t *out, size_t out_len);
 
 /*
- * The shortest accepting run that follows an earlier one in dictionary order. `earlier` is a copy of all L + 1 entries of
+ * The shortest run that follows an earlier one in dictionary order. `earlier` is a copy of all L + 1 entries of
  * a run that fahkelo_search or fahkelo_next found by the same mark table; a list that is no shortest run by this table is
  * refused with 13. There is no ceiling: the run has as many transitions as the earlier one.
  * Returns a refusal (22, 1 to 15, in this order), FAHKELO_FOUND with the run in answer, FAHKELO_NO_MORE or
@@ -144,11 +144,11 @@ uint16_t fahkelo_next(const uint8_t *file, size_t file_len,
                       uint16_t *out, size_t out_len);
 
 /*
- * Grades a run that somebody claims: its states, and the place k, counted from 0, where its loop is said to start. Nothing
- * of it is trusted; the list may have any length and any entries, and k may be any number.
- * It is accepting if it has the entries 0 to L, with L at least 1 and k below L; entry 0 is the state where the model
+ * Grades a list that somebody claims to be a run: its states, and the place k, counted from 0, where its loop is said
+ * to start. Nothing of it is trusted; the list may have any length and any entries, and k may be any number.
+ * It is a run if it has the entries 0 to L, with L at least 1 and k below L; entry 0 is the state where the model
  * starts; an edge or an implied step leads from each entry to the next; entry L equals entry k; one of the entries k to
- * L - 1 is marked; and the entries 0 to L - 1 are all different. It is a shortest one if no accepting run has fewer entries.
+ * L - 1 is marked; and the entries 0 to L - 1 are all different. It is a shortest one if no run has fewer entries.
  * Both are about the marks of the table that is named.
  * The list leaves the model at a place if the entry there is no state or, past place 0, if no edge and no implied step leads
  * to it from the entry before. If there is such a place, out[0] is 1, place[0] is the first one, counted from 0, and the
@@ -180,7 +180,7 @@ uint16_t fahkelo_distances(const uint8_t *file, size_t file_len,
  * Combines a rule with a property: a model file whose paths are the pairs of a path of the rule and a path of the property
  * that agree on letters, and whose marks are the property's. The rule is a model file with one mark table or two; letters
  * has one byte for each of its states, a letter 0 to 15; the property is a model file with one mark table and a 16-bit mask
- * for each edge behind its marks, bit l for letter l (docs/FORMAT.md), at most FAHKELO_PROPERTY_MOST bytes.
+ * for each edge after its marks, bit l for letter l (docs/FORMAT.md), at most FAHKELO_PROPERTY_MOST bytes.
  * State (s, q) of the result has the number s * Q + q, where the property has Q states. It has an edge to (s', q') exactly
  * if s has one to s' and q has one to q' whose mask holds the letter of s. It is marked if q is; the marks of the rule are
  * not used. An implied step of the rule counts as an edge, one of the property never does. Bytes 6 and 7 of the result

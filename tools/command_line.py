@@ -143,7 +143,7 @@ def written(pieces: Iterable[Any]) -> None:
 
 
 def without_dashes(words: List[str]) -> List[str]:
-    """The words without `--`; a name that starts with - behind it is written so that it is taken for no option."""
+    """The words without `--`; a name that starts with - after it is written so that it is taken for no option."""
     place = words.index("--") if "--" in words else len(words)
     names = [f"./{word}" if word.startswith("-") and word != "-" else word for word in words[place + 1:]]
     return words[:place] + names

@@ -92,7 +92,7 @@ def read_list(words: List[str]) -> Tuple[List[int], Optional[int]]:
     if not loops:
         return parts[0], None
     if len(loops) > 1 or not parts[1]:
-        raise WrongWords("a list has one bar, and the loop behind it: 0 | 1 3")
+        raise WrongWords("a list has one bar, and the loop after it: 0 | 1 3")
     return parts[0] + parts[1] + parts[1][:1], len(parts[0])
 
 

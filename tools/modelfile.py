@@ -59,7 +59,7 @@ def mark_bytes(states):
 
 
 def layout(states, edges):
-    """The places of the row table, the edge table and the marks, and the place behind mark table 0."""
+    """The places of the row table, the edge table and the marks, and the place after mark table 0."""
     edge_table = HEADER_BYTES + 2 * (states + 1)
     marks = edge_table + 2 * edges
     return [HEADER_BYTES, edge_table, marks, marks + mark_bytes(states)]

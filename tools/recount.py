@@ -1,9 +1,9 @@
 #!/usr/bin/env python3
-"""Recomputes the counts that the program crates/compare prints, and prints the same text.
+"""Recomputes the counts that the program crates/finder_compare prints, and prints the same text.
 
 A convenience outside the proofs: no promise rests on it. It makes the same models by the same rules and answers every
 call from the definitions (paths without repeated states, closed in every way), with a search of its own and with no
-part of the library. usage: tools/recount.py | diff - crates/compare/stdout
+part of the library. usage: tools/recount.py | diff - crates/finder_compare/stdout
 """
 from itertools import islice
 

@@ -328,7 +328,7 @@ def test_wrong_words(desk):
 
 @with_desk
 def test_names_with_dashes(desk):
-    """Behind -- a name may start with a dash, and - is standard input all the same."""
+    """After -- a name may start with a dash, and - is standard input all the same."""
     desk.write("-D", D_BYTES)
     desk.write("--text", RULE_BYTES)
     found = "rounds 1\nshortest 3\n0 | 1 3\n"

@@ -283,7 +283,7 @@ def test_threads():
     expect("threads", got == [{answer} for answer in alone], got)
 
 
-# Against a search written apart, and against the desk sheet program.
+# Against an independent search, and against the desk sheet program.
 
 
 def held_of(m, tables, named):

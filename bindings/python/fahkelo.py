@@ -1,4 +1,4 @@
-"""Fahkelo for Python: the shortest accepting runs of a finite model.
+"""Fahkelo for Python: the shortest runs of a finite model.
 
     >>> import fahkelo
     >>> model = fahkelo.Model.from_text("0 -> 1 2; 1 -> 3; 2 -> 3; 3 -> 1 2; 4 -> 4; mark 3 4".replace(";", "\\n"))
@@ -125,7 +125,7 @@ class Found:
 
 @dataclass(frozen=True)
 class NoneWithin:
-    """No accepting run has as many transitions as the ceiling or fewer."""
+    """No run has as many transitions as the ceiling or fewer."""
 
     kind: ClassVar[Kind] = Kind.NONE_WITHIN
     rounds: int

@@ -56,7 +56,7 @@ def span(order, near):
 
 
 def sifted(order, near, fixed):
-    """The order after each state but the first ones, which are fixed, was moved to its best place behind them."""
+    """The order after each state but the first ones, which are fixed, was moved to its best place after them."""
     for state in order[fixed:]:
         row = [other for other in order if other != state]
         row.insert(fixed, state)

@@ -5,13 +5,13 @@ use mathlib.Core.List.{List}
 use mathlib.Core.Option.{Option, some}
 use native.Mathlib.Omega.{arith}
 use lib.ListN.{length}
-use Rattle.lasso.specs.Limit.{under}
+use Rattle.lists.specs.Limit.{under}
 use Rattle.lasso.specs.Graph.{Graph, WellFormed}
 use Rattle.lasso.specs.Roll.{leastLength}
 use Rattle.lasso.specs.Rounds.{Record, candidates, bestLength, afterRounds, afterAllowed}
 use Rattle.lasso.specs.declared.RoundRecord.{RoundRecord}
 use Rattle.lasso.proofs.RoundLaws.{candidates-length-le, afterRounds-done, afterRounds-leastLength}
-use Rattle.lasso.proofs.UnderLaws.{under-some}
+use Rattle.lists.proofs.UnderLaws.{under-some}
 use Rattle.lasso.proofs.CeilingLaws.{least-full}
 use Rattle.model.specs.declared.Header.{Header}
 use Rattle.model.specs.Model.{graphIn}

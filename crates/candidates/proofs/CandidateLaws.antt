@@ -6,10 +6,10 @@ use mathlib.Core.Bool.{Bool, true, false}
 use mathlib.Core.List.{List, [], _∷_}
 use native.Mathlib.Omega.{arith}
 use lib.ListN.{length, getD}
-use Rattle.lasso.specs.Lists.{keep, consIf, upFrom}
+use Rattle.lists.specs.Lists.{keep, consIf, upFrom}
 use Rattle.lasso.specs.Graph.{Graph}
 use Rattle.lasso.specs.Rounds.{candidateb, candidates}
-use Rattle.lasso.proofs.Tests.{lt-or-ge}
+use Rattle.lists.proofs.Tests.{lt-or-ge}
 
 -- the candidates from s on
 abbrev pub candidatesFrom : Graph → ℕ → List ℕ

@@ -7,11 +7,11 @@ use mathlib.Core.List.{List}
 use mathlib.Core.Option.{Option, some, none}
 use native.Mathlib.Omega.{arith}
 use lib.ListN.{length, getD}
-use Rattle.lasso.specs.Lists.{isSome}
+use Rattle.lists.specs.Lists.{isSome}
 use Rattle.lasso.specs.Graph.{Graph}
 use Rattle.lasso.specs.Distance.{dist}
 use Rattle.lasso.specs.Rounds.{candidateb}
-use Rattle.lasso.proofs.Tests.{and-true, and-false}
+use Rattle.lists.proofs.Tests.{and-true, and-false}
 use Rattle.lasso.proofs.Distance.{dist-below}
 use Rattle.model.specs.declared.Header.{Header}
 use Rattle.model.specs.Values.{Valid}
@@ -19,9 +19,9 @@ use Rattle.model.specs.Model.{graphIn}
 use Rattle.model.proofs.Laws.{valid-sizes}
 use Rattle.table.specs.Changes.{SameOutside, Copied}
 use Rattle.frontier.specs.Regions.{entry, entryOf}
-use Rattle.lasso.specs.Limit.{under}
+use Rattle.lists.specs.Limit.{under}
 use Rattle.walks.specs.Through.{DistancesWithin}
-use Rattle.lasso.proofs.UnderLaws.{under-all}
+use Rattle.lists.proofs.UnderLaws.{under-all}
 use Rattle.candidates.specs.Promises.{StartDistances, StartDistancesPut, RoundsReady}
 
 -- an entry of region 0 stands at the state's own place
@@ -49,7 +49,7 @@ start-distances-put {g} {n} {x} {count} {w} {w₁} {w'} en ex found copied =
         ap (λ (i : ℕ). getD w' i 0) q ∙ c .copies t l ∙ d .distances t l ∙ ap entryOf all
 
 -- the entry of region 0 for a state is that of its distance from the start
-start-entry : {g : Graph} {w : List ℕ} → StartDistances g w → (s : ℕ) → s < g .size
+pub start-entry : {g : Graph} {w : List ℕ} → StartDistances g w → (s : ℕ) → s < g .size
     → getD w s 0 ≡ entryOf (dist g (g .start) s)
 start-entry {g} {w} d s l = sym (entry-zero (g .size) w s) ∙ d .distances s l
 

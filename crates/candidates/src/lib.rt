@@ -10,7 +10,7 @@ use model::Header;
 use model::is_marked;
 use table::copy;
 use table::get;
-use walks::distances;
+use walks::distances_from;
 
 // Puts the distances from the start into region 0.
 pub fn start_distances(file: &[u8], h: Header, work: &mut [u16])
@@ -20,7 +20,7 @@ pub fn start_distances(file: &[u8], h: Header, work: &mut [u16])
 {
     let n = h.states;
     let start = h.start;
-    distances(file, h, work, start, n);
+    distances_from(file, h, work, start, n);
     copy(work, 2 * n, 0, n);
 }
 

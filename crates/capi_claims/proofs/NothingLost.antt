@@ -8,7 +8,7 @@ use native.Mathlib.Omega.{arith}
 use borrow.Author.Tests.{lt-ltb}
 use lib.ListN.{getD}
 use lib.Dec.{eqb, ltb}
-use Rattle.lasso.specs.Lists.{pick}
+use Rattle.lists.specs.Lists.{pick}
 use Rattle.lasso.specs.Rounds.{Record}
 use Rattle.format.specs.Layout.{states}
 use Rattle.model.specs.Model.{graphOf}
@@ -19,7 +19,7 @@ use Rattle.outcomes.specs.Tables.{written}
 use Rattle.step.specs.Step.{Stepped, finished, advanced, stepped, stepReasons}
 use Rattle.search.specs.Search.{Searched, stopped, noneWithin, searched, searchReasons}
 use Rattle.next.specs.Next.{Followed, noMore, followed, nextReasons}
-use Rattle.grader.specs.Grade.{Grade, gradeOf}
+use Rattle.grade.specs.Grade.{Grade, gradeOf}
 use Rattle.grade_verdicts.specs.Verdict.{Said, accepting, shortest}
 use Rattle.distances.specs.Distances.{distanceReasons}
 use Rattle.gate.specs.Gate.{namedRules}
@@ -170,14 +170,14 @@ nothing-lost = record {
   };
   grade = record { refusals = λ n. refl; kinds = λ g. grade-kinds (g .verdict) };
   grade-injective = grade-injective;
-  step-numbers = λ f t ceiling rec work.
-      broken-one _ (stepped (graphOf f t) ceiling rec) (stepReasons f t ceiling work) tt;
-  search-numbers = λ f ask answer work.
-      broken-one _ (searched (graphOf f (ask .table)) ask) (searchReasons f ask answer work) tt;
-  next-numbers = λ f t earlier answer work.
-      broken-one _ (followed (following earlier (roll (graphOf f t)))) (nextReasons f t earlier answer work) tt;
-  grade-numbers = λ f t xs k work. broken-one _ (gradeOf (graphOf f t) xs k) (namedRules f t work) tt;
-  distances-numbers = λ f ceiling output work.
-      broken-one _ (states f) (distanceReasons f ceiling output work) tt;
+  step-numbers = λ f t ceiling rec workRoom.
+      broken-one _ (stepped (graphOf f t) ceiling rec) (stepReasons f t ceiling workRoom) tt;
+  search-numbers = λ f ask answerRoom workRoom.
+      broken-one _ (searched (graphOf f (ask .table)) ask) (searchReasons f ask answerRoom workRoom) tt;
+  next-numbers = λ f t earlier answerRoom workRoom.
+      broken-one _ (followed (following earlier (roll (graphOf f t)))) (nextReasons f t earlier answerRoom workRoom) tt;
+  grade-numbers = λ f t xs k workRoom. broken-one _ (gradeOf (graphOf f t) xs k) (namedRules f t workRoom) tt;
+  distances-numbers = λ f ceiling outputRoom workRoom.
+      broken-one _ (states f) (distanceReasons f ceiling outputRoom workRoom) tt;
   record-back = record-back;
 }

@@ -4,8 +4,8 @@ use mathlib.Core.Bool.{Bool, true, false, _&&_}
 use mathlib.Core.List.{List, [], _∷_}
 use mathlib.Core.Option.{Option}
 use lib.Dec.{T}
-use Rattle.lasso.specs.Lists.{memb, someIf}
-use Rattle.lasso.proofs.Tests.{fst, snd}
+use Rattle.lists.specs.Lists.{memb, someIf}
+use Rattle.lists.proofs.Tests.{fst, snd}
 use Rattle.format.specs.Rules.{Reason, firstBroken}
 use Rattle.outcomes.specs.Outcome.{outcome}
 use Rattle.capi_claims.specs.NothingLost.{OneOf}
@@ -16,7 +16,7 @@ numbersb numbers [] = true
 numbersb numbers (r ∷ rs) = memb (r .number) numbers && numbersb numbers rs
 
 module _ {A : Type 0} (numbers : List ℕ) (a : A) where
-  -- the first reason that holds is this one or one behind it
+  -- the first reason that holds is this one or one after it
   first-one : (b : Bool) (n : ℕ) (behind : Option ℕ) → T (memb n numbers) → OneOf numbers (outcome behind a)
       → OneOf numbers (outcome (someIf b n behind) a)
   first-one true n behind this later = this

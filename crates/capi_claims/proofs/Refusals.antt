@@ -9,8 +9,8 @@ use native.Mathlib.Omega.{arith}
 use borrow.Author.Tests.{ltb-true, ltb-false}
 use lib.ListN.{length}
 use lib.Dec.{T, eqb, leb, ltb, eqb→eq, leb→le}
-use Rattle.lasso.specs.Lists.{memb, pick}
-use Rattle.lasso.proofs.Tests.{either, fst, snd}
+use Rattle.lists.specs.Lists.{memb, pick}
+use Rattle.lists.proofs.Tests.{either, fst, snd}
 use Rattle.lasso.specs.Roll.{roll}
 use Rattle.lasso.specs.Following.{following}
 use Rattle.model.specs.Model.{graphOf}
@@ -22,9 +22,9 @@ use Rattle.outcomes.specs.Tables.{written, unlessRefused}
 use Rattle.step.specs.Step.{stepOutcome}
 use Rattle.search.specs.Search.{searched, firstDue, graphAsked, searchReasons, searchOutcome}
 use Rattle.next.specs.Next.{followed, nextReasons, nextOutcome}
-use Rattle.grader.specs.Grade.{Grade, gradeOutcome}
+use Rattle.grade.specs.Grade.{Grade, gradeOutcome}
 use Rattle.distances.specs.Distances.{distanceTable, distanceReasons, distancesOutcome}
-use Rattle.combination.specs.Combination.{combinedFile, combineReasons, combineBroken, combineOutcome}
+use Rattle.combine_outcome.specs.Combination.{combinedFile, combineReasons, combineBroken, combineOutcome}
 use Rattle.figures.specs.Kinds.{Report, figuresIn, refusal, writtenReport}
 use Rattle.figures.specs.Short.{outTooShort, outShort}
 use Rattle.answers.specs.Kinds.{searchReport, nextReport}

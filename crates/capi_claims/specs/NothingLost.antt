@@ -5,7 +5,7 @@ use mathlib.Core.Path.{_≡_}
 use mathlib.Core.List.{List}
 use lib.ListN.{getD}
 use lib.Dec.{T}
-use Rattle.lasso.specs.Lists.{memb}
+use Rattle.lists.specs.Lists.{memb}
 use Rattle.gate.specs.declared.Ask.{Ask}
 use Rattle.lasso.specs.Rounds.{Record}
 use Rattle.outcomes.specs.Numbers.{stepNumbers, searchNumbers, nextNumbers, gradeNumbers, distanceNumbers}
@@ -13,7 +13,7 @@ use Rattle.outcomes.specs.Outcome.{Outcome, refused, answered}
 use Rattle.step.specs.Step.{stepOutcome}
 use Rattle.search.specs.Search.{searchOutcome}
 use Rattle.next.specs.Next.{nextOutcome}
-use Rattle.grader.specs.Grade.{Grade, gradeOutcome}
+use Rattle.grade.specs.Grade.{Grade, gradeOutcome}
 use Rattle.distances.specs.Distances.{distancesOutcome}
 use Rattle.figures.specs.Kinds.{Report, isThere, bestFigure, recordGiven, refusal, writtenReport}
 use Rattle.answers.specs.Kinds.{searchReport, nextReport}
@@ -52,9 +52,14 @@ pub record NothingLost : Type 0 where
   pub grade : Reports gradeReport
   pub grade-injective : (o p : Outcome Grade) (before-o before-p : List ℕ) → Numbered 99 o → Numbered 99 p
       → gradeReport o ≡ gradeReport p → getD (placeIn before-o o) 0 0 ≡ getD (placeIn before-p p) 0 0 → o ≡ p
-  pub step-numbers : (f : List ℕ) (t ceiling : ℕ) (rec : Record) (work : ℕ) → OneOf stepNumbers (stepOutcome f t ceiling rec work)
-  pub search-numbers : (f : List ℕ) (ask : Ask) (answer work : ℕ) → OneOf searchNumbers (searchOutcome f ask answer work)
-  pub next-numbers : (f : List ℕ) (t : ℕ) (earlier : List ℕ) (answer work : ℕ) → OneOf nextNumbers (nextOutcome f t earlier answer work)
-  pub grade-numbers : (f : List ℕ) (t : ℕ) (xs : List ℕ) (k work : ℕ) → OneOf gradeNumbers (gradeOutcome f t xs k work)
-  pub distances-numbers : (f : List ℕ) (ceiling output work : ℕ) → OneOf distanceNumbers (distancesOutcome f ceiling output work)
+  pub step-numbers : (f : List ℕ) (t ceiling : ℕ) (rec : Record) (workRoom : ℕ)
+      → OneOf stepNumbers (stepOutcome f t ceiling rec workRoom)
+  pub search-numbers : (f : List ℕ) (ask : Ask) (answerRoom workRoom : ℕ)
+      → OneOf searchNumbers (searchOutcome f ask answerRoom workRoom)
+  pub next-numbers : (f : List ℕ) (t : ℕ) (earlier : List ℕ) (answerRoom workRoom : ℕ)
+      → OneOf nextNumbers (nextOutcome f t earlier answerRoom workRoom)
+  pub grade-numbers : (f : List ℕ) (t : ℕ) (xs : List ℕ) (k workRoom : ℕ)
+      → OneOf gradeNumbers (gradeOutcome f t xs k workRoom)
+  pub distances-numbers : (f : List ℕ) (ceiling outputRoom workRoom : ℕ)
+      → OneOf distanceNumbers (distancesOutcome f ceiling outputRoom workRoom)
   pub record-back : (rec : Record) → recordGiven (rec .done) (isThere (rec .best)) (bestFigure (rec .best)) ≡ rec

@@ -6,7 +6,7 @@ use mathlib.Core.Logic.{_⊎_}
 use mathlib.Core.List.{List}
 use lib.ListN.{length}
 use lib.Dec.{T}
-use Rattle.lasso.specs.Lists.{memb}
+use Rattle.lists.specs.Lists.{memb}
 use Rattle.gate.specs.declared.Ask.{Ask}
 use Rattle.lasso.specs.Rounds.{Record}
 use Rattle.outcomes.specs.Numbers.{stepNumbers, searchNumbers, nextNumbers, gradeNumbers, distanceNumbers, combineNumbers}
@@ -14,9 +14,9 @@ use Rattle.outcomes.specs.Outcome.{Outcome, refused, answered}
 use Rattle.step.specs.Step.{stepOutcome}
 use Rattle.search.specs.Search.{searchOutcome}
 use Rattle.next.specs.Next.{nextOutcome}
-use Rattle.grader.specs.Grade.{gradeOutcome}
+use Rattle.grade.specs.Grade.{gradeOutcome}
 use Rattle.distances.specs.Distances.{distancesOutcome}
-use Rattle.combination.specs.Combination.{combineOutcome}
+use Rattle.combine_outcome.specs.Combination.{combineOutcome}
 use Rattle.figures.specs.Kinds.{Report, figuresIn}
 use Rattle.capi_step.specs.Call.{stepCall}
 use Rattle.capi_search.specs.Call.{searchCall, answerAfterSearch}

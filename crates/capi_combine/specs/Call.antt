@@ -2,7 +2,7 @@
 use Prim.Native.Nat.{ℕ}
 use mathlib.Core.List.{List}
 use lib.ListN.{length}
-use Rattle.combination.specs.Combination.{combineOutcome, combineOutput}
+use Rattle.combine_outcome.specs.Combination.{combineOutcome, combineOutput}
 use Rattle.figures.specs.Kinds.{Report, writtenReport}
 use Rattle.figures.specs.Short.{outTooShort, ifShort}
 

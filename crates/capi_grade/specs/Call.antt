@@ -4,9 +4,9 @@ use mathlib.Core.Bool.{Bool, _||_}
 use mathlib.Core.List.{List}
 use lib.ListN.{length}
 use lib.Dec.{ltb}
-use Rattle.lasso.specs.Lists.{pick}
+use Rattle.lists.specs.Lists.{pick}
 use Rattle.gate.specs.Gate.{workOf}
-use Rattle.grader.specs.Grade.{gradeOutcome}
+use Rattle.grade.specs.Grade.{gradeOutcome}
 use Rattle.figures.specs.Kinds.{Report}
 use Rattle.figures.specs.Short.{outTooShort, outShort}
 use Rattle.grade_report.specs.Grades.{gradeReport, placeIn}

@@ -6,8 +6,8 @@ ghost use Rattle.figures.specs.Short.{tooFew};
 ghost use Rattle.capi_grade.specs.Call.{noEntry, gradeCall, placeAfterGrade, workAfterGrade};
 use figures::OUT_TOO_SHORT;
 use figures::too_few;
+use grade::grade;
 use grade_report::report_grade;
-use grader::grade;
 
 // The entries that the table for a place must have.
 const PLACE_ENTRIES: usize = 1;

@@ -21,7 +21,7 @@ use harness::put_byte;
 use harness::text;
 use table::put;
 
-// An item: its sign, its numbers, and the place behind it.
+// An item: its sign, its numbers, and the place after it.
 struct Item {
     sign: u8,
     first: usize,
@@ -31,7 +31,7 @@ struct Item {
     next: usize,
 }
 
-// The place behind an item with a sign, given the places behind each of the four numbers from its first one on.
+// The place after an item with a sign, given the places after each of the four numbers from its first one on.
 fn behind(sign: u8, one: usize, two: usize, three: usize, four: usize) -> usize
     requires { ⌜ (one ≤ two) × (two ≤ three) × (three ≤ four) ⌝ }
     ensures { λ r. ⌜ r ≤ four ⌝ }
@@ -48,7 +48,7 @@ fn behind(sign: u8, one: usize, two: usize, three: usize, four: usize) -> usize
     }
 }
 
-// The item whose first number begins at a place. It has no more numbers than its sign says; those behind them are not
+// The item whose first number begins at a place. It has no more numbers than its sign says; those after them are not
 // looked at.
 fn item_at(words: &[u8], place: usize) -> Item
     requires { ⌜ place ≤ length (now words) ⌝ }
@@ -101,7 +101,7 @@ fn reduced(value: usize, modulus: usize) -> usize
     value % modulus % 65536
 }
 
-// The number at a place of an item, behind another.
+// The number at a place of an item, after another.
 fn number_at(i: Item, place: usize, before: usize) -> usize
     requires { ⌜ (i .first < 100000) × (i .second < 100000) ⌝ }
     requires { ⌜ (place < 100000) × (before < 500000) ⌝ }
@@ -157,7 +157,7 @@ fn put_number(file: &mut [u8], at: usize, value: usize, width: usize)
     }
 }
 
-// Writes the numbers of an item from a place on; answers the place behind them.
+// Writes the numbers of an item from a place on; answers the place after them.
 fn put_numbers(file: &mut [u8], from: usize, i: Item) -> usize
     requires { ⌜ from ≤ 200000 ⌝ }
     requires { ⌜ (i .first < 100000) × (i .second < 100000) × (i .third < 100000) ⌝ }
@@ -176,7 +176,7 @@ fn put_numbers(file: &mut [u8], from: usize, i: Item) -> usize
     at
 }
 
-// Writes an item behind so many bytes; answers how many there are then.
+// Writes an item after so many bytes; answers how many there are then.
 fn put_item(file: &mut [u8], size: usize, i: Item) -> usize
     requires { ⌜ size ≤ 200000 ⌝ }
     requires { ⌜ (i .first < 100000) × (i .second < 100000) × (i .third < 100000) ⌝ }

@@ -1,9 +1,10 @@
-// Reads lines of text: the bytes up to a mark, the ends of parts, and decimal numbers.
+// Reads lines of text: line after line, the bytes up to a mark, the ends of parts, and decimal numbers.
 ghost use Prim.Native.Nat.{_≤_, _<_};
 ghost use lib.ListN.{length};
+use harness::part;
 use harness::text;
 
-// A number that was read, and the place behind it.
+// A number that was read, and the place after it.
 pub struct NumberRead {
     pub value: usize,
     pub next: usize,
@@ -24,7 +25,7 @@ pub fn find(words: &[u8], from: usize, mark: u8) -> usize
     i
 }
 
-// The end of the part of a line that begins behind a place: the next slash, or the end of the line.
+// The end of the part of a line that begins after a place: the next slash, or the end of the line.
 pub fn end_behind(line: &[u8], place: usize) -> usize
     requires { ⌜ place ≤ length (now line) ⌝ }
     ensures { λ r. ⌜ (place ≤ r) × (r ≤ length (now (line .entry))) ⌝ }
@@ -35,7 +36,23 @@ pub fn end_behind(line: &[u8], place: usize) -> usize
     line.len()
 }
 
-// The byte at a place, 0 behind the end.
+// The line that begins at a place of a text.
+pub fn line_at(script: &[u8], at: usize) -> &[u8]
+    requires { ⌜ at ≤ length (now script) ⌝ }
+{
+    part(script, at, find(script, at, b'\n'))
+}
+
+// The place where the line after the one at a place begins, or the end of the text.
+pub fn line_after(script: &[u8], at: usize) -> usize
+    requires { ⌜ at < length (now script) ⌝ }
+    ensures { λ r. ⌜ at < r ⌝ }
+{
+    let end = find(script, at, b'\n');
+    if end < script.len() { end + 1 } else { end }
+}
+
+// The byte at a place, 0 after the end.
 pub fn byte_at(words: &[u8], at: usize) -> u8 {
     if at < words.len() { words[at] } else { 0 }
 }
@@ -95,7 +112,7 @@ pub fn digits(words: &[u8], from: usize) -> NumberRead
     NumberRead { value, next: i }
 }
 
-// The next number of a text, behind whatever stands before it.
+// The next number of a text, after whatever stands before it.
 pub fn next_number(words: &[u8], from: usize) -> NumberRead
     requires { ⌜ from ≤ length (now words) ⌝ }
     ensures { λ r. ⌜ (r .value < 100000) × (from ≤ r .next) × (r .next ≤ length (now (words .entry))) ⌝ }

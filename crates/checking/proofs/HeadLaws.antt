@@ -5,9 +5,10 @@ use mathlib.Core.List.{List}
 use mathlib.Core.Option.{Option, some, none}
 use lib.ListN.{length, drop}
 use lib.Dec.{ltb, ltb→lt, nltb→le}
-use Rattle.format.specs.Layout.{states, edgeCount, initial}
+use Rattle.format.specs.Layout.{states, edgeCount, startOf}
 use Rattle.format.specs.Rules.{firstBroken, headRules, rulesWith}
-use Rattle.format.proofs.Reasons.{KeptTo, none-clear, not-not, clear-append, broken-append}
+use Rattle.lists.proofs.Fails.{not-not}
+use Rattle.format.proofs.Reasons.{KeptTo, none-clear, clear-append, broken-append}
 use Rattle.format.proofs.Kept.{states-kept}
 use Rattle.model.specs.declared.Header.{Header}
 use Rattle.model.specs.declared.Checked.the-variants.{Refused, Accept}
@@ -21,7 +22,7 @@ pub record HeadKept (f : List ℕ) (h : Header) : Type 0 where
   pub long-enough : 24 ≤ length f
   pub states-range : (1 ≤ states f) × (states f ≤ 4096)
   pub edges-range : edgeCount f ≤ 8192
-  pub initial-below : initial f < states f
+  pub start-below : startOf f < states f
 
 -- a file whose first five rules are kept has such a header
 pub head-kept : (f : List ℕ) (h : Header) → headOf f ≡ Accept h → HeadKept f h
@@ -35,10 +36,10 @@ head-kept f h e =
       long-enough = nltb→le (length f) 24 (from1 .0);
       states-range = states-kept f (from1 .1 .0);
       edges-range = nltb→le 8192 (edgeCount f) (from3 .0);
-      initial-below = ltb→lt (initial f) (states f) (not-not (ltb (initial f) (states f)) (from3 .1 .0));
+      start-below = ltb→lt (startOf f) (states f) (not-not (ltb (startOf f) (states f)) (from3 .1 .0));
     }
 
--- the rules behind the first five decide, for every kind of file
+-- the rules after the first five decide, for every kind of file
 pub head-decides : {f : List ℕ} {h : Header} → HeadKept f h → (total tables : ℕ) → KeptTo 5 (rulesWith total tables f)
 head-decides {f} k total tables = clear-append (headRules f) (drop 5 (rulesWith total tables f)) (k .clear)
 

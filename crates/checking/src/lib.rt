@@ -9,6 +9,8 @@ use format::total_of;
 use format::word;
 use model::Checked;
 use model::Header;
+use numbers::limit;
+use numbers::reason;
 use rules_offsets::offsets_broken;
 use rules_rows::order_broken;
 use rules_rows::rows_broken;
@@ -37,28 +39,28 @@ pub fn check_head(file: &[u8]) -> Checked
     ensures { λ r. ⌜ r ≡ headOf (now (file .entry)) ⌝ }
 {
     if file.len() < 24 {
-        return Checked::Refused(1);
+        return Checked::Refused(reason::SHORT_FILE);
     }
     let states = word(file, 0);
     let edges = word(file, 2);
     let start = word(file, 4);
     if states == 0 {
-        return Checked::Refused(2);
+        return Checked::Refused(reason::BAD_STATES);
     }
-    if 4096 < states {
-        return Checked::Refused(2);
+    if limit::MOST_STATES < states {
+        return Checked::Refused(reason::BAD_STATES);
     }
-    if 8192 < edges {
-        return Checked::Refused(3);
+    if limit::MOST_EDGES < edges {
+        return Checked::Refused(reason::BAD_EDGES);
     }
     if states <= start {
-        return Checked::Refused(4);
+        return Checked::Refused(reason::BAD_START);
     }
-    let reserved = word(file, 6);
-    if 1 < reserved {
-        return Checked::Refused(5);
+    let stays_word = word(file, 6);
+    if 1 < stays_word {
+        return Checked::Refused(reason::BAD_STAYS);
     }
-    let stays = reserved == 1;
+    let stays = stays_word == 1;
     Checked::Accept(Header {
         states,
         edges,
@@ -78,22 +80,22 @@ pub fn check_tables(file: &[u8], h: Header, total: usize, tables: usize) -> Chec
     let n = h.states;
     let m = h.edges;
     if offsets_broken(file, n, m, total, tables) {
-        return Checked::Refused(6);
+        return Checked::Refused(reason::BAD_OFFSETS);
     }
     if file.len() != long(file, 20) {
-        return Checked::Refused(7);
+        return Checked::Refused(reason::BAD_LENGTH);
     }
     if rows_broken(file, n, m) {
-        return Checked::Refused(8);
+        return Checked::Refused(reason::BAD_ROWS);
     }
     if targets_broken(file, n, m) {
-        return Checked::Refused(9);
+        return Checked::Refused(reason::BAD_TARGETS);
     }
     if order_broken(file, n, m) {
-        return Checked::Refused(10);
+        return Checked::Refused(reason::BAD_ORDER);
     }
     if spare_set(file, n, m, tables) {
-        return Checked::Refused(11);
+        return Checked::Refused(reason::BAD_SPARE);
     }
     Checked::Accept(h)
 }

@@ -18,11 +18,11 @@ use Rattle.outcomes.proofs.OutcomeLaws.{call-answer, call-broken, call-kept}
 use Rattle.outcomes.proofs.ReadBack.{loses-nothing}
 use Rattle.text.specs.Writing.{Wrote}
 use Rattle.property.specs.Property.{badProperty, ValidProperty}
-use Rattle.combined.specs.Combined.{combined, Combinable}
+use Rattle.combine_graph.specs.Combined.{combined, Combinable}
 use Rattle.combine_letters.specs.Letters.{badLetters}
 use Rattle.combine_letters.proofs.LetterLaws.{letters-kept}
-use Rattle.combination.specs.Combination.{tooLarge, combinedFile, combineReasons, combineBroken, combineOutcome, combineOutput}
-use Rattle.combination.proofs.ReasonLaws.{rule-decides, reasons-behind-decide}
+use Rattle.combine_outcome.specs.Combination.{tooLarge, combinedFile, combineReasons, combineBroken, combineOutcome, combineOutput}
+use Rattle.combine_outcome.proofs.ReasonLaws.{rule-decides, reasons-behind-decide}
 use Rattle.combine.specs.declared.CombineAnswer.{CombineAnswer}
 use Rattle.combine.specs.declared.CombineAnswer.the-variants.{Refused, Written}
 use Rattle.combine.specs.Combine.{combineOutcomeOf, CombineLosesNothing}

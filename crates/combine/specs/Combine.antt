@@ -3,7 +3,7 @@
 use Prim.Native.Nat.{ℕ}
 use Rattle.outcomes.specs.Outcome.{Outcome, refused, answered, LosesNothing}
 pub use Rattle.combine_letters.specs.Letters.{badLetters}
-pub use Rattle.combination.specs.Combination.{tooLarge, combinedFile, combineReasons, combineBroken, combineOutcome, combineOutput}
+pub use Rattle.combine_outcome.specs.Combination.{tooLarge, combinedFile, combineReasons, combineBroken, combineOutcome, combineOutput}
 use Rattle.combine.specs.declared.CombineAnswer.{CombineAnswer}
 use Rattle.combine.specs.declared.CombineAnswer.the-variants.{Refused, Written}
 

@@ -8,12 +8,14 @@ ghost use Rattle.property.specs.Property.{badProperty, ValidProperty};
 ghost use Rattle.combine_letters.specs.Letters.{badLetters};
 ghost use Rattle.combine.specs.Combine.{combineOutcome, combineOutput, combineOutcomeOf};
 use checking::check;
+use combine_file::count_edges;
+use combine_file::write_product;
 use combine_letters::letters_broken;
 use format::total_of;
 use model::Checked;
 use model::Header;
-use product_file::count_edges;
-use product_file::write_product;
+use numbers::limit;
+use numbers::reason;
 use property::check_property;
 use property::has_zero_mask;
 
@@ -38,7 +40,7 @@ pub fn combine(rule: &[u8], letters: &[u8], property: &[u8], output: &mut [u8]) 
         Checked::Refused(n) => CombineAnswer::Refused(n),
         Checked::Accept(h) => {
             if letters_broken(letters, h.states) {
-                return CombineAnswer::Refused(16);
+                return CombineAnswer::Refused(reason::BAD_LETTERS);
             }
             with_property(rule, h, letters, property, output)
         }
@@ -62,10 +64,10 @@ fn with_property(
 {
     let checked = check_property(property);
     match checked {
-        Checked::Refused(_) => CombineAnswer::Refused(17),
+        Checked::Refused(_) => CombineAnswer::Refused(reason::BAD_PROPERTY),
         Checked::Accept(k) => {
             if has_zero_mask(property, k) {
-                return CombineAnswer::Refused(17);
+                return CombineAnswer::Refused(reason::BAD_PROPERTY);
             }
             within_limits(rule, h, letters, property, k, output)
         }
@@ -91,16 +93,16 @@ fn within_limits(
         (now (property .entry)) (now (output .entry)) ⌝ }
 {
     let states = h.states * k.states;
-    if 4096 < states {
-        return CombineAnswer::Refused(18);
+    if limit::MOST_STATES < states {
+        return CombineAnswer::Refused(reason::TOO_LARGE);
     }
     let edges = count_edges(rule, h, letters, property, k);
-    if 8192 < edges {
-        return CombineAnswer::Refused(18);
+    if limit::MOST_EDGES < edges {
+        return CombineAnswer::Refused(reason::TOO_LARGE);
     }
     let total = total_of(states, edges);
     if output.len() < total {
-        return CombineAnswer::Refused(15);
+        return CombineAnswer::Refused(reason::NO_ROOM);
     }
     let written = write_product(output, rule, h, letters, property, k, edges);
     CombineAnswer::Written(written)

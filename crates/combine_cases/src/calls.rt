@@ -42,7 +42,7 @@ fn search(file: &[u8]) -> u64
 {
     let mut answer = [0u16; 4097];
     let mut work = [0u16; 24576];
-    let code = trials::search(file, 0, 4096, 65535, &mut answer, 4097, &mut work, 24576);
+    let code = finder_trials::search(file, 0, 4096, 65535, &mut answer, 4097, &mut work, 24576);
     show_search(code, &answer);
     wrong_of(code)
 }
@@ -114,7 +114,7 @@ pub fn run(rule: &[u8], letters: &[u8], property: &[u8], space: usize, expected:
     }
 }
 
-// Looks at an output that is spoilt on purpose, up to the byte that is, and behind it; answers how many count as wrong.
+// Looks at an output that is spoilt on purpose, up to the byte that is, and after it; answers how many count as wrong.
 pub fn spoilt() -> u64 {
     let mut out = [0u8; 8];
     combine_trials::fill(&mut out);

@@ -8,6 +8,8 @@ use calls::Seen;
 use case_text::byte_at;
 use case_text::end_behind;
 use case_text::find;
+use case_text::line_after;
+use case_text::line_at;
 use case_text::make;
 use case_text::next_number;
 use harness::part;
@@ -75,7 +77,7 @@ fn run_parts(line: &[u8], e: Ends, space: usize, expected: usize) -> Seen
     )
 }
 
-// Runs the case of a line: its name is printed, and behind the parts stand the bytes of the output and the answer.
+// Runs the case of a line: its name is printed, and after the parts stand the bytes of the output and the answer.
 fn run_case(line: &[u8], before: Judged) -> Judged {
     let e = ends_of(line);
     let space = next_number(line, e.property);
@@ -106,9 +108,8 @@ fn run(script: &[u8]) -> Judged {
     };
     let mut at = 0;
     while at < script.len() {
-        let end = find(script, at, b'\n');
-        so_far = run_line(part(script, at, end), so_far);
-        at = end + 1;
+        so_far = run_line(line_at(script, at), so_far);
+        at = line_after(script, at);
     }
     so_far
 }

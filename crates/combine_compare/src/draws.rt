@@ -64,12 +64,12 @@ fn edges_of(states: usize, bits: u64) -> u64 {
 
 // The rule with a number; its marks are drawn.
 fn rule_at(number: u64, x: u64, stays: bool) -> Model
-    ensures { λ r. ⌜ (0 < r .states) × (r .states ≤ 3) × (r .initial ≤ 2) ⌝ }
+    ensures { λ r. ⌜ (0 < r .states) × (r .states ≤ 3) × (r .start ≤ 2) ⌝ }
 {
     if number < 2 {
         return Model {
             states: 1,
-            initial: 0,
+            start: 0,
             edges: edges_of(1, number),
             marks: x % 2,
             stays: stays,
@@ -78,7 +78,7 @@ fn rule_at(number: u64, x: u64, stays: bool) -> Model
     if number < 34 {
         return Model {
             states: 2,
-            initial: (number % 2) as usize,
+            start: (number % 2) as usize,
             edges: edges_of(2, (number - 2) / 2),
             marks: x % 4,
             stays: stays,
@@ -86,7 +86,7 @@ fn rule_at(number: u64, x: u64, stays: bool) -> Model
     }
     Model {
         states: 3,
-        initial: (number % 3) as usize,
+        start: (number % 3) as usize,
         edges: edges_of(3, (number - 34) / 3),
         marks: x % 8,
         stays: stays,
@@ -104,12 +104,12 @@ fn marks_of(states: usize, x: u64) -> u64 {
 
 // The property with a number.
 fn property_at(number: u64, stays: bool) -> Model
-    ensures { λ r. ⌜ (0 < r .states) × (r .states ≤ 2) × (r .initial ≤ 1) × (r .marks < 4) ⌝ }
+    ensures { λ r. ⌜ (0 < r .states) × (r .states ≤ 2) × (r .start ≤ 1) × (r .marks < 4) ⌝ }
 {
     if number < 4 {
         return Model {
             states: 1,
-            initial: 0,
+            start: 0,
             edges: number % 2,
             marks: number / 2,
             stays: stays,
@@ -117,7 +117,7 @@ fn property_at(number: u64, stays: bool) -> Model
     }
     Model {
         states: 2,
-        initial: (number % 2) as usize,
+        start: (number % 2) as usize,
         edges: edges_of(2, (number - 4) / 8),
         marks: number / 2 % 4,
         stays: stays,
@@ -164,7 +164,7 @@ fn faults_if(number: u64, x: u64) -> u64 {
 // The combination with a number: each second one has faults, each of them about every fourth time. Once all rules have
 // been gone through, they come again with implied steps.
 pub fn drawn_at(number: u64) -> Combination
-    ensures { λ r. ⌜ (0 < r .rule .states) × (r .rule .states ≤ 3) × (r .rule .initial ≤ 2) × (0 < r .property .states) × (r .property .states ≤ 2) × (r .property .initial ≤ 1) × (r .property .marks < 4) ⌝ }
+    ensures { λ r. ⌜ (0 < r .rule .states) × (r .rule .states ≤ 3) × (r .rule .start ≤ 2) × (0 < r .property .states) × (r .property .states ≤ 2) × (r .property .start ≤ 1) × (r .property .marks < 4) ⌝ }
 {
     let x = drawn(drawn(number ^ 0x9e3779b97f4a7c15));
     let y = drawn(x);

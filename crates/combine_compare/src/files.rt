@@ -29,7 +29,7 @@ pub fn lent(size: usize, short: bool) -> usize
     size
 }
 
-// Writes the mask at a place of the masks, if the property has its edge; answers the place behind it in the file.
+// Writes the mask at a place of the masks, if the property has its edge; answers the place after it in the file.
 fn put_mask(file: &mut [u8], at: usize, edges: u64, masks: u64, place: usize) -> usize
     requires { ⌜ at < 1000 ⌝ }
     ensures { λ r. ⌜ r ≤ at + 2 ⌝ }
@@ -41,7 +41,7 @@ fn put_mask(file: &mut [u8], at: usize, edges: u64, masks: u64, place: usize) ->
     at
 }
 
-// Writes a property: the file of its model with the masks behind it, which the total length counts.
+// Writes a property: the file of its model with the masks after it, which the total length counts.
 fn write_property(file: &mut [u8], m: Model, masks: u64) -> usize
     requires { ⌜ m .states ≤ 2 ⌝ }
     ensures { λ r. ⌜ r ≤ 180 ⌝ }
@@ -56,7 +56,7 @@ fn write_property(file: &mut [u8], m: Model, masks: u64) -> usize
     at
 }
 
-// Writes a rule: the file of its model, and behind it the second mark table, if it has one, which the total length counts.
+// Writes a rule: the file of its model, and after it the second mark table, if it has one, which the total length counts.
 fn write_rule(file: &mut [u8], c: Combination) -> usize
     requires { ⌜ c .rule .states ≤ 3 ⌝ }
     ensures { λ r. ⌜ r ≤ 180 ⌝ }

@@ -37,7 +37,7 @@ pub fn search(m: Model, file: &[u8]) -> Searched
 {
     let mut table = [0u16; 16];
     let mut work = [0u16; 48];
-    let code = trials::search(
+    let code = finder_trials::search(
         file,
         0,
         4096,

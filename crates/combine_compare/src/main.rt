@@ -1,4 +1,4 @@
-// Compares combine with a combination written apart, on all rules of up to three states, without implied steps and with
+// Compares combine with an independent combination, on all rules of up to three states, without implied steps and with
 // them, and all properties of up to two, with pseudo-random letters, masks and second mark tables of rules, and a search of
 // the result with an exhaustive one; every second call has faults.
 mod draws;

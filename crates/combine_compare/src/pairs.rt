@@ -1,4 +1,4 @@
-// The combination written apart: the pairs of a rule's states and a property's states, with the edges between them as a
+// The independent combination: the pairs of a rule's states and a property's states, with the edges between them as a
 // set of pairs of pairs; and what the call must answer.
 ghost use Prim.Native.Nat.{_≤_};
 use crate::draws::Combination;
@@ -98,7 +98,7 @@ fn marks(states: usize, size: usize, first: u64) -> u64 {
 
 // The model of all pairs.
 pub fn model_of(c: Combination) -> Model
-    requires { ⌜ (c .rule .states ≤ 3) × (c .rule .initial ≤ 2) × (c .property .initial ≤ 1) ⌝ }
+    requires { ⌜ (c .rule .states ≤ 3) × (c .rule .start ≤ 2) × (c .property .start ≤ 1) ⌝ }
     ensures { λ r. ⌜ r .states ≤ 7 ⌝ }
 {
     let rule = c.rule;
@@ -114,7 +114,7 @@ pub fn model_of(c: Combination) -> Model
     };
     Model {
         states: pair(size, rule.states, 0),
-        initial: pair(size, rule.initial, property.initial),
+        start: pair(size, rule.start, property.start),
         edges: edges(x),
         marks: marks(rule.states, size, property.marks),
         stays: false,

@@ -78,7 +78,7 @@ fn show(m: Model) {
         0,
         &[
             m.states as u64,
-            m.initial as u64,
+            m.start as u64,
             m.edges,
             m.marks,
             m.stays as u64,

@@ -9,8 +9,8 @@ use borrow.Author.Tests.{lt-ltb, le-ltb}
 use lib.ListN.{length, getD, drop, drop-of-length-le}
 use lib.Seq.{drop-cons}
 use lib.Dec.{T, eqb, ltb, eqb→eq, nltb→le}
-use Rattle.lasso.specs.Lists.{anyb}
-use Rattle.format.proofs.Reasons.{false-not, neither-l, neither-r, kept}
+use Rattle.lists.specs.Lists.{anyb}
+use Rattle.lists.proofs.Fails.{false-not, neither-l, neither-r, kept}
 use Rattle.combine_letters.specs.Letters.{badLetters}
 
 module _ (letters : List ℕ) (s : ℕ) where
@@ -22,7 +22,7 @@ module _ (letters : List ℕ) (s : ℕ) where
   pub letter-past : s < length letters → getD letters s 0 ≤ 15 → anyb (ltb 15) (drop s letters) ≡ anyb (ltb 15) (drop (s + 1) letters)
   letter-past less small = rw (add-one s, drop-cons letters s 0 less, le-ltb 15 (getD letters s 0) small)
 
-  -- behind the last place no letter is above 15
+  -- after the last place no letter is above 15
   pub letters-end : length letters ≤ s → anyb (ltb 15) (drop s letters) ≡ false
   letters-end past = rw (drop-of-length-le letters {i = s} past)
 

@@ -59,7 +59,7 @@ fn combine_on(rule: &[u8], letters: &[u8], property: &[u8], out: &mut [u8]) -> u
     number_of(combine::combine(rule, letters, property, out))
 }
 
-// A combination that is lent so many bytes of an output; the bytes behind them are looked at too.
+// A combination that is lent so many bytes of an output; the bytes after them are looked at too.
 pub fn combine(rule: &[u8], letters: &[u8], property: &[u8], out: &mut [u8], space: usize) -> Tried
     requires { ⌜ space ≤ length (now out) ⌝ }
     ensures { λ r. ⌜ r .wrong ≤ 1 ⌝ }

@@ -2,7 +2,8 @@
 ghost use Prim.Native.Nat.{_≤_, _<_};
 ghost use Rattle.lasso.specs.Extends.{Extends};
 ghost use Rattle.model.specs.Model.{graphIn};
-ghost use Rattle.follow.specs.Follow.{upTo, Prepared};
+ghost use Rattle.current.specs.Current.{listIn};
+ghost use Rattle.follow.specs.Follow.{Prepared};
 ghost use Rattle.follow.specs.Places.{Kept, Completed, HoldsFirst};
 ghost use Rattle.passed.specs.Passed.{PassedAt};
 use followers::first_follower;
@@ -24,7 +25,7 @@ pub fn complete(
 )
     requires { ⌜ Prepared (now file) h (now work) (transitions .0) ⌝ }
     requires { ⌜ from ≤ transitions .0 ⌝ }
-    requires { ⌜ Extends (graphIn (now file) h) (transitions .0) (upTo (graphIn (now file) h) (now work) from) ⌝ }
+    requires { ⌜ Extends (graphIn (now file) h) (transitions .0) (listIn (h .start) (now work) from) ⌝ }
     requires { ⌜ PassedAt (now file) h (now work) (transitions .0) from passed ⌝ }
     ensures { λ _. ⌜ Completed (graphIn (now (file .entry)) h) (transitions .0) from
         (now (work .entry)) (now (work .exit)) ⌝ }

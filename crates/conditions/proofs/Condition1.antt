@@ -8,7 +8,7 @@ use native.Mathlib.Omega.{arith}
 use lib.ListN.{length, drop, replicate}
 use lib.Dec.{T, leb}
 use borrow.Author.Tests.{le-leb, lt-leb}
-use Rattle.lasso.specs.Lists.{pick, differentb}
+use Rattle.lists.specs.Lists.{pick, differentb}
 use Rattle.lasso.specs.Following.{following}
 use Rattle.lasso.specs.Roll.{roll}
 use Rattle.format.specs.Layout.{states}
@@ -20,13 +20,14 @@ use Rattle.outcomes.specs.Tables.{written, listReasons, unlessRefused}
 use Rattle.step.specs.Step.{stepped, stepReasons}
 use Rattle.search.specs.Search.{searched, firstDue, graphAsked, searchReasons}
 use Rattle.next.specs.Next.{followed, dueReasons, nextReasons}
-use Rattle.grader.specs.Grade.{gradeOf}
+use Rattle.grade.specs.Grade.{gradeOf}
 use Rattle.distances.specs.Distances.{distanceTable, distanceReasons}
 use Rattle.combine.specs.Combine.{combinedFile, combineReasons}
 use Rattle.gate.specs.Gate.{namedRules, ceilingReason, zeros, workAfter, workOf}
 use Rattle.conditions.specs.Reasons.{numbersOf}
 use Rattle.conditions.specs.Condition1.{Refuses, AnswerKept, WorkLeft, Condition1Holds}
-use Rattle.conditions.proofs.FirstLaws.{noneHolds-firstBroken, clear-none, broken-first, first-broken, betweenb, broken-between, refused-some, answered-none}
+use Rattle.outcomes.proofs.OutcomeLaws.{refused-some, answered-none}
+use Rattle.conditions.proofs.FirstLaws.{noneHolds-firstBroken, clear-none, broken-first, first-broken, betweenb, broken-between}
 use Rattle.format.proofs.Reasons.{clear-append, broken-append}
 
 -- a refusal is no answer
@@ -86,7 +87,7 @@ first-decides w front rest late x (some m) q =
           absurd (omega arith);
     }
 
--- so it is with the reasons of a call that names a mark table behind the common ones
+-- so it is with the reasons of a call that names a mark table after the common ones
 work-left-behind : {A : Type 0} (f : List ℕ) (t : ℕ) (w : List ℕ) (rest : List Reason) (x : A) → T (betweenb 13 21 (numbersOf rest))
     → WorkLeft (outcome (firstBroken (namedRules f t (length w) ++ rest)) x) w (workOf f t w)
 work-left-behind f t w rest x late =

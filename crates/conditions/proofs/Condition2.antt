@@ -9,14 +9,14 @@ use native.Mathlib.Omega.{arith}
 use borrow.Author.Tests.{ltb-false}
 use lib.ListN.{length, getD, drop}
 use lib.Dec.{T, eqb→eq}
-use Rattle.lasso.specs.Lists.{below}
+use Rattle.lists.specs.Lists.{below}
 use Rattle.lasso.specs.Graph.{Graph, WellFormed, edges, loopsb, acceptingb, loopStart}
 use Rattle.lasso.specs.Roll.{roll, rollWithin}
 use Rattle.lasso.specs.Rounds.{Record, candidates}
 use Rattle.lasso.specs.Ceiling.{PathWithin}
 use Rattle.lasso.proofs.Lasso.{loop-start}
-use Rattle.lasso.proofs.Sorted.{Sorted, all-mem}
-use Rattle.lasso.proofs.Tests.{parts, lt-or-ge, anyb-some, below-lt, head-mem}
+use Rattle.lists.proofs.Sorted.{Sorted, all-mem}
+use Rattle.lists.proofs.Tests.{parts, lt-or-ge, anyb-some, below-lt, head-mem}
 use Rattle.lasso.proofs.OrderLaws.{Before}
 use Rattle.lasso.proofs.RollLaws.{in-roll, roll-strict}
 use Rattle.lasso.proofs.CeilingLaws.{RollCut, whole, no-path, longer, roll-cut, roll-within, ceiling-shown}
@@ -27,14 +27,14 @@ use Rattle.format.specs.Rules.{firstBroken, rules, Accepted}
 use Rattle.model.proofs.Laws.{accepted-well-formed}
 use Rattle.outcomes.specs.Outcome.{answered}
 use Rattle.outcomes.specs.Tables.{noRoom, lengthDue, listReasons}
-use Rattle.outcomes.proofs.OutcomeLaws.{call-answer}
+use Rattle.outcomes.proofs.OutcomeLaws.{call-answer, answered-none}
 use Rattle.search.specs.Search.{Searched, stopped, noneWithin, searched, firstDue, graphAsked, searchReasons}
 use Rattle.search.proofs.SearchLaws.{SearchIs, search-stopped, search-none, search-found, search-goes-on, roll-first}
 use Rattle.gate.specs.Gate.{namedRules, ceilingReason}
 use Rattle.conditions.specs.Reasons.{NoneHolds}
 use Rattle.conditions.specs.Condition2.{FirstShortest, Searches, SearchPasses, SearchPassesExactly, Condition2Holds}
 use Rattle.gate.proofs.GateLaws.{roomReason}
-use Rattle.conditions.proofs.FirstLaws.{noneHolds-firstBroken, clear-none, none-parts, answered-none}
+use Rattle.conditions.proofs.FirstLaws.{noneHolds-firstBroken, clear-none, none-parts}
 
 -- the first list of an ordered roll stands before every other one
 head-before : (rs : List (List ℕ)) (xs ys : List ℕ) → Sorted Before rs → head? rs ≡ some xs → List·Memᴰ ys rs → (ys ≡ xs → ⊥)
@@ -81,13 +81,13 @@ stopped-found e = let z : _≡_ {A = ℕ} 0 1 = cc in omega arith
 stopped-none : {r : Record} {rounds : ℕ} → answered (stopped r) ≡ answered (noneWithin rounds) → ⊥
 stopped-none e = let z : _≡_ {A = ℕ} 0 1 = cc in omega arith
 
-module _ (f : List ℕ) (accepted : Accepted f) (ask : Ask) (a : List ℕ) (work : ℕ) (room : 6 * states f ≤ work) (one : ask .table ≤ 1) (low : ask .ceiling .0 ≤ 4096) where
+module _ (f : List ℕ) (accepted : Accepted f) (ask : Ask) (a : List ℕ) (workRoom : ℕ) (room : 6 * states f ≤ workRoom) (one : ask .table ≤ 1) (low : ask .ceiling .0 ≤ 4096) where
   -- the allowance suffices, and no accepting path is within the ceiling
-  searches-none : length (candidates (graphAsked f ask)) ≤ ask .allowance → rollWithin (graphAsked f ask) (ask .ceiling .0) ≡ [] → Searches f ask a work
+  searches-none : length (candidates (graphAsked f ask)) ≤ ask .allowance → rollWithin (graphAsked f ask) (ask .ceiling .0) ≡ [] → Searches f ask a workRoom
   searches-none enough e =
       let g : Graph = graphAsked f ask in
       let n : ℕ = length (candidates g) in
-      let is = search-none f accepted ask (length a) work room one low enough e in
+      let is = search-none f accepted ask (length a) workRoom room one low enough e in
       let no-path : PathWithin g (ask .ceiling .0) → ⊥ = ceiling-shown g (accepted-well-formed f (ask .table) accepted) (ask .ceiling .0) .empty-exactly .0 e in
       record {
         answers = inr (n, is .outcome-is);
@@ -103,11 +103,11 @@ module _ (f : List ℕ) (accepted : Accepted f) (ask : Ask) (a : List ℕ) (work
   -- the allowance suffices, an accepting path is within the ceiling, and the answer table has room for the first of the roll
   searches-some : length (candidates (graphAsked f ask)) ≤ ask .allowance → (xs : List ℕ) → head? (roll (graphAsked f ask)) ≡ some xs
       → rollWithin (graphAsked f ask) (ask .ceiling .0) ≡ roll (graphAsked f ask) → edges xs ≤ ask .ceiling .0
-      → edges xs + 1 ≤ length a → Searches f ask a work
+      → edges xs + 1 ≤ length a → Searches f ask a workRoom
   searches-some enough xs first whole-roll within fits =
       let g : Graph = graphAsked f ask in
       let n : ℕ = length (candidates g) in
-      let is = search-found f accepted ask (length a) work room one low enough xs (ap (λ (rs : List (List ℕ)). head? rs) whole-roll ∙ first) fits in
+      let is = search-found f accepted ask (length a) workRoom room one low enough xs (ap (λ (rs : List (List ℕ)). head? rs) whole-roll ∙ first) fits in
       let best : FirstShortest g (ask .ceiling .0) xs = roll-firstShortest g (accepted-well-formed f (ask .table) accepted) (ask .ceiling .0) xs first within in
       let path : PathWithin g (ask .ceiling .0) = (xs, best .accepting, within) in
       let (low, closed) = accepting-loops g xs (best .accepting) in
@@ -136,16 +136,16 @@ module _ (f : List ℕ) (accepted : Accepted f) (ask : Ask) (a : List ℕ) (work
       }
 
 -- no reason of a search holds: what that says
-noneHolds-says : (f : List ℕ) (ask : Ask) (answer work : ℕ) → NoneHolds (searchReasons f ask answer work)
-    → SearchPasses f ask answer work
-noneHolds-says f ask answer work h =
+noneHolds-says : (f : List ℕ) (ask : Ask) (answerRoom workRoom : ℕ) → NoneHolds (searchReasons f ask answerRoom workRoom)
+    → SearchPasses f ask answerRoom workRoom
+noneHolds-says f ask answerRoom workRoom h =
     let g : Graph = graphAsked f ask in
-    let (named, (ceiling, list)) = none-parts (namedRules f (ask .table) work) (ceilingReason (ask .ceiling .0) ∷ listReasons g (firstDue g ask) answer) h in
+    let (named, (ceiling, list)) = none-parts (namedRules f (ask .table) workRoom) (ceilingReason (ask .ceiling .0) ∷ listReasons g (firstDue g ask) answerRoom) h in
     let one : ask .table ≤ 1 = ltb-false 1 (ask .table) (named .0) in
     let low : ask .ceiling .0 ≤ 4096 = ltb-false 4096 (ask .ceiling .0) ceiling in
-    let (file, table) = none-parts (rules f) (roomReason f work) (named .1) in
+    let (file, table) = none-parts (rules f) (roomReason f workRoom) (named .1) in
     let accepted : Accepted f = noneHolds-firstBroken (rules f) file in
-    let room : 6 * states f ≤ work = ltb-false work (6 * states f) (table .0) in
+    let room : 6 * states f ≤ workRoom = ltb-false workRoom (6 * states f) (table .0) in
     record {
       names-one = one;
       accepted = accepted;
@@ -154,50 +154,50 @@ noneHolds-says f ask answer work h =
       fits = λ enough l least within.
           let (xs, first, long) = roll-first g l least in
           let due : firstDue g ask ≡ some xs =
-          search-goes-on f accepted ask answer work room one low enough .1 ∙ ap (λ (rs : List (List ℕ)). head? rs) (roll-within g l (ask .ceiling .0) least within) ∙ first in
-          let free : noRoom (some (edges xs)) answer ≡ false = sym (ap (λ (d : Option (List ℕ)). noRoom (lengthDue d) answer) due) ∙ list .1 .0 in
-          omega (arith, ltb-false answer (edges xs + 1) free);
+          search-goes-on f accepted ask answerRoom workRoom room one low enough .1 ∙ ap (λ (rs : List (List ℕ)). head? rs) (roll-within g l (ask .ceiling .0) least within) ∙ first in
+          let free : noRoom (some (edges xs)) answerRoom ≡ false = sym (ap (λ (d : Option (List ℕ)). noRoom (lengthDue d) answerRoom) due) ∙ list .1 .0 in
+          omega (arith, ltb-false answerRoom (edges xs + 1) free);
     }
 
 -- where that is so, no reason holds
-passes-none : (f : List ℕ) (ask : Ask) (answer work : ℕ) → SearchPasses f ask answer work
-    → NoneHolds (searchReasons f ask answer work)
-passes-none f ask answer work passes =
+passes-none : (f : List ℕ) (ask : Ask) (answerRoom workRoom : ℕ) → SearchPasses f ask answerRoom workRoom
+    → NoneHolds (searchReasons f ask answerRoom workRoom)
+passes-none f ask answerRoom workRoom passes =
     elim (lt-or-ge (ask .allowance) (length (candidates (graphAsked f ask)))) [
-      | inl less ↦ not-refused (search-stopped f (passes .accepted) ask answer work (passes .room) (passes .names-one) (passes .ceiling-low) less)
+      | inl less ↦ not-refused (search-stopped f (passes .accepted) ask answerRoom workRoom (passes .room) (passes .names-one) (passes .ceiling-low) less)
       | inr enough ↦ by-roll enough (roll-cut (graphAsked f ask) (ask .ceiling .0))
     ]
   where
-    not-refused : {s : Searched} {due : Option (List ℕ)} → SearchIs f ask answer work (answered s) due
-        → NoneHolds (searchReasons f ask answer work)
+    not-refused : {s : Searched} {due : Option (List ℕ)} → SearchIs f ask answerRoom workRoom (answered s) due
+        → NoneHolds (searchReasons f ask answerRoom workRoom)
     not-refused {s} is =
-        let reasons = searchReasons f ask answer work in
+        let reasons = searchReasons f ask answerRoom workRoom in
         clear-none reasons (answered-none (firstBroken reasons) (searched (graphAsked f ask) ask) s (is .outcome-is))
 
     none-there : length (candidates (graphAsked f ask)) ≤ ask .allowance → rollWithin (graphAsked f ask) (ask .ceiling .0) ≡ []
-        → NoneHolds (searchReasons f ask answer work)
-    none-there enough q = not-refused (search-none f (passes .accepted) ask answer work (passes .room) (passes .names-one) (passes .ceiling-low) enough q)
+        → NoneHolds (searchReasons f ask answerRoom workRoom)
+    none-there enough q = not-refused (search-none f (passes .accepted) ask answerRoom workRoom (passes .room) (passes .names-one) (passes .ceiling-low) enough q)
 
     by-roll : length (candidates (graphAsked f ask)) ≤ ask .allowance → RollCut (graphAsked f ask) (ask .ceiling .0)
-        → NoneHolds (searchReasons f ask answer work)
+        → NoneHolds (searchReasons f ask answerRoom workRoom)
     by-roll enough (no-path e q) = none-there enough q
     by-roll enough (longer l e high q) = none-there enough q
     by-roll enough (whole l e le q) =
         let (xs, first, long) = roll-first (graphAsked f ask) l e in
-        not-refused (search-found f (passes .accepted) ask answer work (passes .room) (passes .names-one) (passes .ceiling-low) enough xs (ap (λ (rs : List (List ℕ)). head? rs) q ∙ first) (omega (arith, passes .fits enough l e le)))
+        not-refused (search-found f (passes .accepted) ask answerRoom workRoom (passes .room) (passes .names-one) (passes .ceiling-low) enough xs (ap (λ (rs : List (List ℕ)). head? rs) q ∙ first) (omega (arith, passes .fits enough l e le)))
 
 -- when no reason of a search holds
 pub passes-exactly : SearchPassesExactly
-passes-exactly f ask answer work = (noneHolds-says f ask answer work, passes-none f ask answer work)
+passes-exactly f ask answerRoom workRoom = (noneHolds-says f ask answerRoom workRoom, passes-none f ask answerRoom workRoom)
 
 -- condition 2
 pub condition-2 : Condition2Holds
-condition-2 f ask a work h =
-    let passes : SearchPasses f ask (length a) work = noneHolds-says f ask (length a) work h in
+condition-2 f ask a workRoom h =
+    let passes : SearchPasses f ask (length a) workRoom = noneHolds-says f ask (length a) workRoom h in
     record {
       suffices = λ enough. by-roll passes enough (roll-cut (graphAsked f ask) (ask .ceiling .0));
       short = λ less.
-          let is = search-stopped f (passes .accepted) ask (length a) work (passes .room) (passes .names-one) (passes .ceiling-low) less in
+          let is = search-stopped f (passes .accepted) ask (length a) workRoom (passes .room) (passes .names-one) (passes .ceiling-low) less in
           record {
             stopped-with = is .outcome-is;
             rounds-done = afterRounds-done (graphAsked f ask) (ask .ceiling .0) (ask .allowance);
@@ -207,10 +207,10 @@ condition-2 f ask a work h =
           };
     }
   where
-    by-roll : SearchPasses f ask (length a) work → length (candidates (graphAsked f ask)) ≤ ask .allowance
-        → RollCut (graphAsked f ask) (ask .ceiling .0) → Searches f ask a work
-    by-roll passes enough (no-path e q) = searches-none f (passes .accepted) ask a work (passes .room) (passes .names-one) (passes .ceiling-low) enough q
-    by-roll passes enough (longer l e high q) = searches-none f (passes .accepted) ask a work (passes .room) (passes .names-one) (passes .ceiling-low) enough q
+    by-roll : SearchPasses f ask (length a) workRoom → length (candidates (graphAsked f ask)) ≤ ask .allowance
+        → RollCut (graphAsked f ask) (ask .ceiling .0) → Searches f ask a workRoom
+    by-roll passes enough (no-path e q) = searches-none f (passes .accepted) ask a workRoom (passes .room) (passes .names-one) (passes .ceiling-low) enough q
+    by-roll passes enough (longer l e high q) = searches-none f (passes .accepted) ask a workRoom (passes .room) (passes .names-one) (passes .ceiling-low) enough q
     by-roll passes enough (whole l e le q) =
         let (xs, first, long) = roll-first (graphAsked f ask) l e in
-        searches-some f (passes .accepted) ask a work (passes .room) (passes .names-one) (passes .ceiling-low) enough xs first q (omega arith) (omega (arith, passes .fits enough l e le))
+        searches-some f (passes .accepted) ask a workRoom (passes .room) (passes .names-one) (passes .ceiling-low) enough xs first q (omega arith) (omega (arith, passes .fits enough l e le))

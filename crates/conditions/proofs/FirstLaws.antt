@@ -3,13 +3,12 @@ use Prim.Native.Nat.{ℕ, _≤_}
 use mathlib.Core.Path.{_≡_, refl, _∙_, ap}
 use mathlib.Core.Bool.{Bool, true, false, _&&_}
 use mathlib.Core.List.{List, [], _∷_, _++_}
-use mathlib.Core.Option.{Option, some, none}
+use mathlib.Core.Option.{some, none}
 use native.Mathlib.Omega.{arith}
 use lib.Dec.{T, leb, leb→le}
-use Rattle.lasso.specs.Lists.{someIf}
-use Rattle.lasso.proofs.Tests.{parts}
+use Rattle.lists.specs.Lists.{someIf}
+use Rattle.lists.proofs.Tests.{parts}
 use Rattle.format.specs.Rules.{Reason, firstBroken}
-use Rattle.outcomes.specs.Outcome.{refused, answered, outcome}
 use Rattle.conditions.specs.Reasons.{numbersOf, NoneHolds, FirstHolds}
 use Rattle.format.proofs.Reasons.{clear-append}
 
@@ -83,13 +82,3 @@ broken-between low high (r ∷ rs) b n e =
         let high-le : r .number ≤ high = search (parts, leb→le) in
         omega arith
     by-test later false q = later q
-
--- a call is refused with the number that is found
-pub refused-some : {A : Type 0} (o : Option ℕ) (x : A) (n : ℕ) → outcome o x ≡ refused n → o ≡ some n
-refused-some none x n e = let z : _≡_ {A = ℕ} 0 1 = cc in absurd (omega arith)
-refused-some (some m) x n e = let same : m ≡ n = cc in ap some same
-
--- a call is answered if none is found
-pub answered-none : {A : Type 0} (o : Option ℕ) (x y : A) → outcome o x ≡ answered y → o ≡ none
-answered-none none x y e = refl
-answered-none (some m) x y e = let z : _≡_ {A = ℕ} 0 1 = cc in absurd (omega arith)

@@ -5,8 +5,9 @@ use mathlib.Core.Logic.{_↔_}
 use mathlib.Core.List.{List}
 use lib.ListN.{length, replicate}
 use lib.Dec.{T}
-use Rattle.lasso.specs.Lists.{differentb}
+use Rattle.lists.specs.Lists.{differentb}
 use Rattle.lasso.specs.Rounds.{Record}
+use Rattle.numbers.specs.Reasons as reason
 use Rattle.gate.specs.declared.Ask.{Ask}
 use Rattle.format.specs.Rules.{Reason}
 use Rattle.outcomes.specs.Numbers.{stepNumbers, searchNumbers, nextNumbers, gradeNumbers, distanceNumbers, combineNumbers}
@@ -14,7 +15,7 @@ use Rattle.outcomes.specs.Outcome.{Outcome, refused, answered}
 use Rattle.step.specs.Step.{stepReasons, stepOutcome}
 use Rattle.search.specs.Search.{searchReasons, searchOutcome, searchAnswer}
 use Rattle.next.specs.Next.{nextReasons, nextOutcome, nextAnswer}
-use Rattle.grader.specs.Grade.{gradeOutcome}
+use Rattle.grade.specs.Grade.{gradeOutcome}
 use Rattle.distances.specs.Distances.{distanceReasons, distancesOutcome, distancesOutput}
 use Rattle.combine.specs.Combine.{combineReasons, combineOutcome, combineOutput}
 use Rattle.gate.specs.Gate.{namedRules, workOf}
@@ -36,8 +37,8 @@ AnswerKept o a a' = (n : ℕ) → o ≡ refused n → a' ≡ a
 -- the working table is untouched after 1 to 12; after every other number and after every answer all its entries are zero,
 -- however long it is
 pub record WorkLeft {A : Type 0} (o : Outcome A) (w w' : List ℕ) : Type 0 where
-  pub untouched : (n : ℕ) → o ≡ refused n → n ≤ 12 → w' ≡ w
-  pub zero-refused : (n : ℕ) → o ≡ refused n → 12 < n → w' ≡ replicate (length w) 0
+  pub untouched : (n : ℕ) → o ≡ refused n → n ≤ reason.smallTable → w' ≡ w
+  pub zero-refused : (n : ℕ) → o ≡ refused n → reason.smallTable < n → w' ≡ replicate (length w) 0
   pub zero-answered : (x : A) → o ≡ answered x → w' ≡ replicate (length w) 0
 
 -- a step, which is lent no answer table, with any mark table number

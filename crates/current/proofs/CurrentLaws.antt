@@ -9,10 +9,10 @@ use native.Mathlib.Omega.{arith}
 use lib.ListN.{length, getD, take, drop, set, length-append, length-take, length-drop, drop-of-length-le}
 use lib.Seq.{getD-take, getD-drop, length-take-le, take-suc, drop-cons, append-snoc, set-at, take-all, take-at, drop-at, take-add, drop-drop}
 use borrow.Rule.Slice.PartMut.{putMid}
-use Rattle.lasso.specs.Lists.{placeOf}
+use Rattle.lists.specs.Lists.{placeOf}
 use Rattle.lasso.specs.Graph.{loopStart}
-use Rattle.lasso.proofs.Tests.{eq-or-apart, lt-or-ge}
-use Rattle.lasso.proofs.Lasso.{placeOf-first}
+use Rattle.lists.proofs.Tests.{eq-or-apart, lt-or-ge}
+use Rattle.lists.proofs.Places.{placeOf-first}
 use Rattle.table.specs.Changes.{SameOutside}
 
 -- the states of the list from place 1 on are the table's entries from 0 on
@@ -20,12 +20,12 @@ pub list-place : (start : ℕ) (w : List ℕ) (i : ℕ) → 1 ≤ i → getD (st
 list-place start w zero l = absurd (omega arith)
 list-place start w (suc i) l = let e : i ≡ suc i - 1 = omega arith in ap (λ (j : ℕ). getD w j 0) e
 
--- a change behind a place of the list keeps its state
+-- a change after a place of the list keeps its state
 pub list-kept : {from to : ℕ} {w w' : List ℕ} (start k : ℕ) → SameOutside from to w w' → k ≤ from → getD (start ∷ w') k 0 ≡ getD (start ∷ w) k 0
 list-kept start zero same h = refl
 list-kept start (suc k) same h = same .same-before k (omega arith)
 
--- a store behind the entries of s that stand in front takes in the next one
+-- a store after the entries of s that stand in front takes in the next one
 pub front-more : (s d : List ℕ) (i : ℕ) → i < length s → i < length d
     → set (take i s ++ drop i d) i (getD s i 0) ≡ take (i + 1) s ++ drop (i + 1) d
 front-more s d i hs hd =

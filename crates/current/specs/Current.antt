@@ -8,9 +8,9 @@ use Rattle.model.specs.declared.Header.{Header}
 abbrev pub stateAt : Header → List ℕ → ℕ → ℕ
 stateAt h w place = getD (h .start ∷ w) place 0
 
--- the list with l transitions that the table holds: the start, and then the first entries of region 0
-abbrev pub listIn : Header → List ℕ → ℕ → List ℕ
-listIn h w l = h .start ∷ take l w
+-- the list up to place l that the table holds: the start, and then the first entries of region 0
+abbrev pub listIn : (start : ℕ) → List ℕ → ℕ → List ℕ
+listIn start w l = start ∷ take l w
 
 -- the table whose first n entries are those of a list, the later ones as before
 abbrev pub overFront : ℕ → List ℕ → List ℕ → List ℕ

@@ -25,7 +25,7 @@ pub fn list_at(h: Header, work: &[u16], place: usize) -> usize
 // The place where the loop starts: the first place that holds the last state.
 fn loop_start(h: Header, work: &[u16], transitions: Transitions) -> usize
     requires { ⌜ transitions .0 ≤ length (now work) ⌝ }
-    ensures { λ k. ⌜ (k ≡ loopStart (listIn h (now (work .entry)) (transitions .0))) × (k ≤ transitions .0) ⌝ }
+    ensures { λ k. ⌜ (k ≡ loopStart (listIn (h .start) (now (work .entry)) (transitions .0))) × (k ≤ transitions .0) ⌝ }
 {
     let end = transitions.number();
     let last = list_at(h, work, end);
@@ -56,9 +56,9 @@ pub fn write_list(h: Header, work: &[u16], transitions: Transitions, answer: &mu
     requires { ⌜ transitions .0 ≤ length (now work) ⌝ }
     requires { ⌜ transitions .0 < length (now answer) ⌝ }
     requires { ⌜ h .start < 65536 ⌝ }
-    ensures start { λ k. ⌜ (k ≡ loopStart (listIn h (now (work .entry)) (transitions .0))) × (k ≤ transitions .0) ⌝ }
+    ensures start { λ k. ⌜ (k ≡ loopStart (listIn (h .start) (now (work .entry)) (transitions .0))) × (k ≤ transitions .0) ⌝ }
     ensures list { λ k. ⌜ now (answer .exit)
-        ≡ listIn h (now (work .entry)) (transitions .0) ++ drop (transitions .0 + 1) (now (answer .entry)) ⌝ }
+        ≡ listIn (h .start) (now (work .entry)) (transitions .0) ++ drop (transitions .0 + 1) (now (answer .entry)) ⌝ }
 {
     let k = loop_start(h, work, transitions);
     let entries = transitions.entries();

@@ -12,7 +12,8 @@ use Rattle.model.specs.declared.Header.{Header}
 use Rattle.model.specs.Model.{graphIn}
 use Rattle.candidates.specs.Promises.{RoundsReady}
 use Rattle.stems.specs.Stems.{StemEntries}
-use Rattle.follow.specs.Follow.{Prepared, upTo}
+use Rattle.current.specs.Current.{listIn}
+use Rattle.follow.specs.Follow.{Prepared}
 use Rattle.follow.specs.Places.{Kept, Replaced}
 use Rattle.follow.proofs.PlacesTable.{prepared-kept}
 use Rattle.cursor.specs.Cursor.{At, PlacedAt, MovedOn}
@@ -26,7 +27,7 @@ prepared-start r e stems same =
 
 -- the table is at the first list
 pub at-first : {f : List ℕ} {h : Header} {l : ℕ} {w : List ℕ} → Prepared f h w l
-    → head? (roll (graphIn f h)) ≡ some (upTo (graphIn f h) w l) → At f h l 0 w
+    → head? (roll (graphIn f h)) ≡ some (listIn (graphIn f h .start) w l) → At f h l 0 w
 at-first p e = record { prepared = p; current = stands-first e }
 
 -- an entry of a list is at some place
@@ -36,7 +37,7 @@ mem-at xs (r ∷ rs) (List·Memᴰ·head e) = (0, omega arith, sym e)
 mem-at xs (r ∷ rs) (List·Memᴰ·tail m) = let (i, low, at) = mem-at xs rs m in (suc i, omega arith, at)
 
 -- the table is at the place of a list of the roll
-pub placed-at : {f : List ℕ} {h : Header} {l : ℕ} {w : List ℕ} (xs : List ℕ) → Prepared f h w l → upTo (graphIn f h) w l ≡ xs
+pub placed-at : {f : List ℕ} {h : Header} {l : ℕ} {w : List ℕ} (xs : List ℕ) → Prepared f h w l → listIn (graphIn f h .start) w l ≡ xs
     → List·Memᴰ xs (roll (graphIn f h)) → PlacedAt f h l xs w
 placed-at {f} {h} xs p e m =
     let (i, low, at) = mem-at xs (roll (graphIn f h)) m in
@@ -54,10 +55,10 @@ moved-on false a kept place at = stands-last (at .current) (a .0)
 
 -- from the place of a list to the next: the list there follows
 pub moved-some : {f : List ℕ} {h : Header} {l : ℕ} {xs w : List ℕ} (w' : List ℕ) (r : Bool) → PlacedAt f h l xs w
-    → MovedOn f h l w w' r → r ≡ true → following xs (roll (graphIn f h)) ≡ some (upTo (graphIn f h) w' l)
+    → MovedOn f h l w w' r → r ≡ true → following xs (roll (graphIn f h)) ≡ some (listIn (graphIn f h .start) w' l)
 moved-some {f} {h} {l} w' true p m e =
     let at = p .placed .at in
-    subst (λ (zs : List ℕ). following zs (roll (graphIn f h)) ≡ some (upTo (graphIn f h) w' l)) (p .list-is)
+    subst (λ (zs : List ℕ). following zs (roll (graphIn f h)) ≡ some (listIn (graphIn f h .start) w' l)) (p .list-is)
     (follows-next w' (at .current) (m (p .placed .place) at .current))
 moved-some w' false p m e = let z : _≡_ {A = ℕ} 0 1 = cc in absurd (omega arith)
 

@@ -16,7 +16,7 @@ loadedTo j xs d = take (j - 1) (drop 1 xs) ++ drop (j - 1) d
 abbrev pub loaded : List ℕ → List ℕ → List ℕ
 loaded xs d = drop 1 xs ++ drop (edges xs) d
 
--- the entry at place j is put behind those before it
+-- the entry at place j is put after those before it
 pub load-more : (xs d p : List ℕ) (j v : ℕ) → p ≡ loadedTo j xs d → v ≡ getD xs j 0 → 1 ≤ j → j < length xs → j ≤ length d
     → set p (j - 1) v ≡ loadedTo (j + 1) xs d
 load-more xs d p j v at-p at-v low high fits =

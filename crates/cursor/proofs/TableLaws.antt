@@ -8,7 +8,7 @@ use lib.ListN.{length, getD}
 use lib.Dec.{T, eqb, eqb→eq}
 use Rattle.lasso.specs.Graph.{Graph, edges}
 use Rattle.lasso.specs.Roll.{leastLength, roll}
-use Rattle.lasso.proofs.Tests.{parts}
+use Rattle.lists.proofs.Tests.{parts}
 use Rattle.lasso.proofs.RollLaws.{leastLength-range, roll-length, roll-lasso}
 use Rattle.model.specs.declared.Header.{Header}
 use Rattle.model.specs.Model.{graphIn}
@@ -16,7 +16,8 @@ use Rattle.model.proofs.Laws.{valid-sizes}
 use Rattle.candidates.specs.Promises.{RoundsReady}
 use Rattle.stems.specs.Stems.{StemEntries}
 use Rattle.stems.proofs.StemTable.{stems-kept}
-use Rattle.follow.specs.Follow.{Prepared, upTo}
+use Rattle.current.specs.Current.{listIn}
+use Rattle.follow.specs.Follow.{Prepared}
 use Rattle.cursor.proofs.LoadLaws.{loaded, loaded-list, loaded-after, loaded-length}
 
 module _ (g : Graph) (l : ℕ) (least : leastLength g ≡ some l) (xs : List ℕ) (m : List·Memᴰ xs (roll g)) where
@@ -32,9 +33,9 @@ module _ (g : Graph) (l : ℕ) (least : leastLength g ≡ some l) (xs : List ℕ
   roll-edges = roll-lasso g l least xs m .1
 
   -- put into region 0, it is the list up to place l
-  pub loaded-upTo : (w w' : List ℕ) → w' ≡ loaded xs w → upTo g w' l ≡ xs
-  loaded-upTo w w' e =
-      ap (λ (z : List ℕ). upTo g z l) e ∙ loaded-list (g .start) xs w l (roll-length g l least xs m) roll-start
+  pub loaded-listIn : (w w' : List ℕ) → w' ≡ loaded xs w → listIn (g .start) w' l ≡ xs
+  loaded-listIn w w' e =
+      ap (λ (z : List ℕ). listIn (g .start) z l) e ∙ loaded-list (g .start) xs w l (roll-length g l least xs m) roll-start
 
 module _ {f : List ℕ} {h : Header} {w : List ℕ} (ready : RoundsReady f h w) (l : ℕ) (least : leastLength (graphIn f h) ≡ some l) where
   -- the least length fits region 0

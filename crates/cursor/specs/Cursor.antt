@@ -8,12 +8,13 @@ use Rattle.lasso.specs.Graph.{Graph}
 use Rattle.lasso.specs.Roll.{roll}
 use Rattle.model.specs.declared.Header.{Header}
 use Rattle.model.specs.Model.{graphIn}
-use Rattle.follow.specs.Follow.{Prepared, upTo}
+use Rattle.current.specs.Current.{listIn}
+use Rattle.follow.specs.Follow.{Prepared}
 
 -- the list in region 0 is the one at a place of the roll
 pub record Stands (g : Graph) (l : ℕ) (w : List ℕ) (place : ℕ) : Type 0 where
   pub place-in : place < length (roll g)
-  pub list-at : getD (roll g) place [] ≡ upTo g w l
+  pub list-at : getD (roll g) place [] ≡ listIn (g .start) w l
 
 -- the working table is at a place of the roll: the list there stands in region 0, and what is needed to go on is prepared
 pub record At (f : List ℕ) (h : Header) (l place : ℕ) (w : List ℕ) : Type 0 where
@@ -28,7 +29,7 @@ pub record Placed (f : List ℕ) (h : Header) (l : ℕ) (w : List ℕ) : Type 0 
 -- it is at the place of a given list
 pub record PlacedAt (f : List ℕ) (h : Header) (l : ℕ) (xs w : List ℕ) : Type 0 where
   pub placed : Placed f h l w
-  pub list-is : upTo (graphIn f h) w l ≡ xs
+  pub list-is : listIn (graphIn f h .start) w l ≡ xs
 
 -- after a place: true if the table is at the next one, false if there is none
 abbrev pub MovedTo : List ℕ → Header → ℕ → ℕ → List ℕ → Bool → Type 0

@@ -7,7 +7,7 @@ use mathlib.Core.Option.{Option, some}
 use native.Mathlib.Omega.{arith}
 use lib.ListN.{length, take}
 use lib.Seq.{take-all}
-use Rattle.lasso.proofs.Tests.{lt-or-ge}
+use Rattle.lists.proofs.Tests.{lt-or-ge}
 use Rattle.format.specs.Rules.{rules, firstBroken}
 use Rattle.reading.specs.Reading.{FirstBytes}
 use Rattle.input_sizes.proofs.CutLaws.{cut-refused}

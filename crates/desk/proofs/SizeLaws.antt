@@ -6,6 +6,7 @@ use mathlib.Core.Option.{Option, some, none}
 use native.Mathlib.Omega.{arith}
 use Rattle.lasso.specs.Roll.{leastLength}
 use Rattle.lasso.proofs.RollLaws.{leastLength-range, roll-empty}
+use Rattle.numbers.specs.Limits.{answerEntries, workEntries}
 use Rattle.text.specs.Decimal.{decimal}
 use Rattle.format.specs.Layout.{states}
 use Rattle.model.specs.Model.{graphOf}
@@ -18,8 +19,9 @@ use Rattle.search.proofs.SearchLaws.{search-none, search-found, roll-first}
 use Rattle.format.proofs.Reasons.{broken-append, broken-number}
 use Rattle.gate.proofs.GateLaws.{common-refused}
 use Rattle.sheet_text.specs.SheetText.{sheetAsk}
-use Rattle.sheet_text.proofs.SheetLaws.{outcome-answered, enough-rounds, whole-roll}
-use Rattle.desk.specs.Desk.{answerEntries, workEntries, inputRefusal}
+use Rattle.outcomes.proofs.OutcomeLaws.{answered-none}
+use Rattle.sheet_text.proofs.SheetLaws.{enough-rounds, whole-roll}
+use Rattle.desk.specs.Desk.{inputRefusal}
 use Rattle.desk.specs.Sizes.{OnlyTheFileRefuses, RefusedUpToEleven, EmptyRefused}
 
 module _ (f : List ℕ) (accepted : Accepted f) where
@@ -35,14 +37,14 @@ module _ (f : List ℕ) (accepted : Accepted f) where
       go none e =
           let none-left = whole-roll f accepted answerEntries workEntries work-enough ∙ roll-empty (graphOf f 0) .1 e in
           let is = search-none f accepted sheetAsk answerEntries workEntries work-enough (omega arith) (omega arith) (enough-rounds f accepted answerEntries workEntries work-enough) none-left in
-          outcome-answered (inputRefusal f) (searched (graphOf f 0) sheetAsk) _ (is .outcome-is)
+          answered-none (inputRefusal f) (searched (graphOf f 0) sheetAsk) _ (is .outcome-is)
       go (some l) e =
           let facts = accepted-facts f accepted in
           let (xs, first, long) = roll-first (graphOf f 0) l e in
           let is = search-found f accepted sheetAsk answerEntries workEntries work-enough (omega arith) (omega arith) (enough-rounds f accepted answerEntries workEntries work-enough) xs
           (ap (λ (rs : List (List ℕ)). head? rs) (whole-roll f accepted answerEntries workEntries work-enough) ∙ first)
           (omega (arith, leastLength-range (graphOf f 0) l e, facts .states-range)) in
-          outcome-answered (inputRefusal f) (searched (graphOf f 0) sheetAsk) _ (is .outcome-is)
+          answered-none (inputRefusal f) (searched (graphOf f 0) sheetAsk) _ (is .outcome-is)
 
 -- a refused file is refused with its own number
 input-refused : (f : List ℕ) (n : ℕ) → firstBroken (rules f) ≡ some n → inputRefusal f ≡ some n
@@ -57,7 +59,7 @@ only-the-file-refuses f = go (firstBroken (rules f)) refl
     go none e = accepted-kept f e ∙ sym e
     go (some n) e = input-refused f n e ∙ sym e
 
--- only 1 to 11 are printed behind `refused`
+-- only 1 to 11 are printed after `refused`
 pub refused-up-to-eleven : RefusedUpToEleven
 refused-up-to-eleven f n e =
     broken-number (λ k. (1 ≤ k) × (k ≤ 11)) (rules f) (omega arith) n (sym (only-the-file-refuses f) ∙ e)

@@ -3,17 +3,9 @@ use Prim.Native.Nat.{ℕ}
 use mathlib.Core.Bool.{Bool}
 use mathlib.Core.List.{List}
 use mathlib.Core.Option.{Option}
-use Rattle.input_sizes.specs.Sizes.{fileBytes}
+use Rattle.numbers.specs.Limits.{fileBytes, answerEntries, workEntries}
 use Rattle.reading.specs.Reading.{inputOf}
 use Rattle.sheet_text.specs.SheetText.{sheetRefusal, sheetText}
-
--- the entries of the answer table
-abbrev pub answerEntries : ℕ
-answerEntries = 4097
-
--- the entries of the working table
-abbrev pub workEntries : ℕ
-workEntries = 24576
 
 -- the bytes of the buffer that an input is read into: one more than the longest file has
 abbrev pub inputBytes : ℕ

@@ -4,6 +4,7 @@ use mathlib.Core.Path.{_≡_}
 use mathlib.Core.List.{List, []}
 use mathlib.Core.Option.{some}
 use lib.ListN.{take}
+use Rattle.numbers.specs.Reasons as reason
 use Rattle.text.specs.Figure.{figure}
 use Rattle.format.specs.Rules.{rules, firstBroken}
 use Rattle.sheet_head.specs.Words.{refusedWord}
@@ -17,10 +18,10 @@ FirstBytesDecide = (input : List ℕ) → inputText (take inputBytes input) ≡ 
 abbrev pub OnlyTheFileRefuses : Type 0
 OnlyTheFileRefuses = (input : List ℕ) → inputRefusal input ≡ firstBroken (rules input)
 
--- only 1 to 11 are printed behind `refused`
+-- only 1 to 11 are printed after `refused`
 abbrev pub RefusedUpToEleven : Type 0
-RefusedUpToEleven = (input : List ℕ) (n : ℕ) → inputRefusal input ≡ some n → (1 ≤ n) × (n ≤ 11)
+RefusedUpToEleven = (input : List ℕ) (n : ℕ) → inputRefusal input ≡ some n → (reason.shortFile ≤ n) × (n ≤ reason.badSpare)
 
 -- the empty input, and so one that cannot be read to its end, is refused with 1
 abbrev pub EmptyRefused : Type 0
-EmptyRefused = inputText [] ≡ figure refusedWord 1
+EmptyRefused = inputText [] ≡ figure refusedWord reason.shortFile

@@ -2,18 +2,19 @@
 ghost use mathlib.Core.Path.{_≡_};
 ghost use Prim.Native.Nat.{_≤_};
 ghost use lib.ListN.{length};
+ghost use Rattle.numbers.specs.Limits.{answerEntries, workEntries, sheetRoom};
 ghost use Rattle.text.specs.Writing.{Wrote};
-ghost use Rattle.sheet_text.specs.SheetText.{sheetRoom};
-ghost use Rattle.desk.specs.Desk.{answerEntries, workEntries, inputText, deskText};
+ghost use Rattle.desk.specs.Desk.{inputText, deskText};
+use numbers::limit;
 use reading::input_bytes;
 use reading::read_model;
 use sheet::sheet;
 
 // The bytes of the buffer for an input: one more than the longest file has, so that no longer input passes for it.
-const INPUT_ROOM: usize = 25_627;
+const INPUT_ROOM: usize = limit::FILE_BYTES;
 
 // The bytes of the buffer for a text: no sheet is longer.
-const TEXT_ROOM: usize = 410_000;
+const TEXT_ROOM: usize = limit::SHEET_ROOM;
 
 // Writes the sheet of an input with tables and a text of the program's sizes.
 fn write_sheet(input: &[u8], answer: &mut [u16], work: &mut [u16], text: &mut [u8]) -> usize
@@ -30,8 +31,8 @@ fn write_sheet(input: &[u8], answer: &mut [u16], work: &mut [u16], text: &mut [u
 pub fn desk_sheet(read: &[u8], failed: bool, text: &mut [u8; TEXT_ROOM]) -> usize
     ensures { λ r. ⌜ Wrote (now (text .entry)) 0 (deskText failed (now (read .entry))) (now (text .exit)) r ⌝ }
 {
-    let mut answer = [0u16; 4097];
-    let mut work = [0u16; 24576];
+    let mut answer = [0u16; limit::ANSWER_ENTRIES];
+    let mut work = [0u16; limit::WORK_ENTRIES];
     let enough = input_bytes(read, failed, INPUT_ROOM);
     write_sheet(&read[..enough], &mut answer, &mut work, text)
 }

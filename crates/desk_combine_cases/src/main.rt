@@ -14,7 +14,7 @@ fn main() {
     }
 }
 
-// Prints the names of three files, those of the arguments behind a place, and what is written for them.
+// Prints the names of three files, those of the arguments after a place, and what is written for them.
 fn print_case(place: usize)
     requires { ⌜ place + 3 < 18446744073709551616 ⌝ }
 {
@@ -32,7 +32,7 @@ fn print_case(place: usize)
     libc::close(property);
 }
 
-// Prints an argument behind a space.
+// Prints an argument after a space.
 fn print_argument(place: usize) {
     let mut name = io::buffer();
     let length = os::arg(place, &mut name);

@@ -10,21 +10,21 @@ use native.Mathlib.Omega.{arith}
 use borrow.Author.Tests.{ne-eqb}
 use lib.ListN.{length, take, replicate, length-replicate}
 use lib.Seq.{length-take-le, take-all}
-use Rattle.lasso.proofs.Tests.{lt-or-ge}
+use Rattle.lists.proofs.Tests.{lt-or-ge}
+use Rattle.numbers.specs.Limits.{fileBytes, lettersBytes, propertyBytes, outputBytes}
 use Rattle.format.specs.Layout.{states}
 use Rattle.format.specs.Rules.{rules, firstBroken, Accepted}
-use Rattle.format.proofs.Reasons.{false-not}
+use Rattle.lists.proofs.Fails.{false-not}
 use Rattle.model.proofs.Laws.{accepted-facts}
 use Rattle.property.specs.Property.{badProperty}
 use Rattle.property.proofs.PropertyLaws.{bad-kept, property-facts, property-length}
 use Rattle.outcomes.specs.Outcome.{Outcome, refused}
-use Rattle.input_sizes.specs.Sizes.{fileBytes, lettersBytes, propertyBytes}
 use Rattle.reading.specs.Reading.{FirstBytes}
 use Rattle.input_sizes.proofs.CutLaws.{cut-refused}
 use Rattle.combine.specs.Combine.{badLetters, combinedFile, combineOutcome}
 use Rattle.combine.proofs.ReasonLaws.{CombineIs, refused-rule, refused-16, refused-17}
 use Rattle.combine.specs.declared.CombineAnswer.the-variants.{Refused}
-use Rattle.desk_combining.specs.Combining.{outputBytes, combining, fileTold, lineTold, outputText, errorText}
+use Rattle.desk_combining.specs.Combining.{combining, fileTold, lineTold, outputText, errorText}
 use Rattle.desk_combining.specs.Sizes.{FirstBytesOfEachDecide}
 
 -- the same is told of three inputs and of three others

@@ -10,17 +10,19 @@ use borrow.Author.Tests.{le-ltb}
 use lib.ListN.{length, drop}
 use lib.Dec.{T, ltb, nltb→le}
 use Rattle.lasso.specs.Graph.{Graph}
+use Rattle.numbers.specs.Limits.{outputBytes}
 use Rattle.format.specs.Layout.{states}
 use Rattle.format.specs.Rules.{firstBroken, rules}
-use Rattle.format.proofs.Reasons.{clear-append, broken-append, broken-number, false-not, neither-l, neither-r}
+use Rattle.lists.proofs.Fails.{false-not, neither-l, neither-r}
+use Rattle.format.proofs.Reasons.{clear-append, broken-append, broken-number}
 use Rattle.outcomes.specs.Outcome.{Outcome, refused, answered, outcome}
 use Rattle.writer.specs.File.{edgeTotal, fileOf}
 use Rattle.writer.proofs.FileLaws.{file-length-is}
 use Rattle.property.specs.Property.{badProperty}
-use Rattle.combined.specs.Combined.{combined}
+use Rattle.combine_graph.specs.Combined.{combined}
 use Rattle.combine.specs.Combine.{badLetters, tooLarge, combinedFile, combineReasons, combineBroken, combineOutcome}
-use Rattle.combination.proofs.ReasonLaws.{firstBehind}
-use Rattle.desk_combining.specs.Combining.{outputBytes, NumberFits}
+use Rattle.combine_outcome.proofs.ReasonLaws.{firstBehind}
+use Rattle.desk_combining.specs.Combining.{NumberFits}
 use Rattle.desk_combining.specs.Sizes.{RefusedNumbers}
 
 -- a model that is not too large has a file that the output holds
@@ -35,7 +37,7 @@ file-fits g e =
 output-suffices : (g : Graph) → tooLarge g ≡ false → ltb outputBytes (length (fileOf g)) ≡ false
 output-suffices g e = le-ltb outputBytes (length (fileOf g)) (file-fits g e)
 
--- the reasons behind the rule's own are 16 to 18
+-- the reasons after the rule's own are 16 to 18
 behind-number : (letters property large short : Bool) → (large ≡ false → short ≡ false) → (n : ℕ)
     → firstBehind letters property large short ≡ some n → (16 ≤ n) × (n ≤ 18)
 behind-number true property large short fits n e = let same : _≡_ {A = ℕ} 16 n = cc in omega arith
@@ -59,7 +61,7 @@ broken-numbers f letters p n e = go (firstBroken (rules f)) refl
         inr (behind-number (badLetters (states f) letters) (badProperty p) (tooLarge g) (ltb outputBytes (length (fileOf g))) (output-suffices g) n
         (sym (clear-append (rules f) (drop 11 (combineReasons f letters p outputBytes)) q) ∙ e))
 
--- only 1 to 11 and 16 to 18 are printed behind `refused`
+-- only 1 to 11 and 16 to 18 are printed after `refused`
 pub refused-numbers : RefusedNumbers
 refused-numbers f letters p n e = go (combineBroken f letters p outputBytes) refl e
   where

@@ -6,13 +6,14 @@ use mathlib.Core.Option.{Option, some, none}
 use native.Mathlib.Omega.{arith}
 use native.Mathlib.Nat.{zero-add}
 use lib.ListN.{length, drop}
+use Rattle.numbers.specs.Limits.{outputBytes}
 use Rattle.text.specs.Writing.{Wrote}
 use Rattle.text.proofs.WroteLaws.{wrote-none, wrote-as}
 use Rattle.outcomes.specs.Outcome.{Outcome, outcome}
 use Rattle.outcomes.specs.Tables.{unlessRefused, written}
 use Rattle.combine.specs.Combine.{combinedFile, combineBroken, combineOutcome, combineOutput}
-use Rattle.combination.proofs.ClaimLaws.{combination-holds}
-use Rattle.desk_combining.specs.Combining.{outputBytes, fileTold, bytesTold, lineTold, outputText, errorText}
+use Rattle.combine_outcome.proofs.ClaimLaws.{combination-holds}
+use Rattle.desk_combining.specs.Combining.{fileTold, bytesTold, lineTold, outputText, errorText}
 
 module _ (f letters p out : List ℕ) (long : length out ≡ outputBytes) where
   -- the output holds the file, unless the combination is refused

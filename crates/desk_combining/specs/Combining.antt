@@ -1,18 +1,15 @@
 -- What the combining program writes, for every three inputs.
 use Prim.Native.Nat.{ℕ, _<_}
 use mathlib.Core.List.{List, []}
+use Rattle.numbers.specs.Limits.{outputBytes}
 use Rattle.text.specs.Figure.{figure}
 use Rattle.sheet_head.specs.Words.{refusedWord}
 use Rattle.outcomes.specs.Outcome.{Outcome, refused, answered}
 use Rattle.combine.specs.Combine.{combinedFile, combineOutcome}
 
--- the bytes of the output: no model file with one mark table has more
-abbrev pub outputBytes : ℕ
-outputBytes = 25114
-
 -- the bytes that are enough for the line of a refusal
-abbrev pub lineRoom : ℕ
-lineRoom = 13
+abbrev pub refusalRoom : ℕ
+refusalRoom = 13
 
 -- the answer to three inputs
 abbrev pub combining : (rule letters property : List ℕ) → Outcome ℕ

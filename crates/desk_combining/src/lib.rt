@@ -3,13 +3,14 @@
 ghost use mathlib.Core.Path.{_≡_};
 ghost use Prim.Native.Nat.{_≤_};
 ghost use lib.ListN.{length};
+ghost use Rattle.numbers.specs.Limits.{outputBytes};
 ghost use Rattle.text.specs.Writing.{Wrote};
 ghost use Rattle.reading.specs.Reading.{inputOf};
 ghost use Rattle.combine.specs.Combine.{combineOutcomeOf};
-ghost use Rattle.desk_combining.specs.Combining.{outputBytes, lineRoom, NumberFits};
-ghost use Rattle.desk_combining.specs.Combining.{bytesTold, lineTold, outputText, errorText};
+ghost use Rattle.desk_combining.specs.Combining.{refusalRoom, NumberFits, bytesTold, lineTold, outputText, errorText};
 use combine::CombineAnswer;
 use combine::combine;
+use numbers::limit;
 use reading::input_bytes;
 use reading::read_letters;
 use reading::read_model;
@@ -18,14 +19,14 @@ use sheet_head::write_refusal;
 
 // The bytes of the buffers for a rule, a letter table and a property: one more than the longest of each has, so that no
 // longer input passes for it.
-const RULE_ROOM: usize = 25_627;
+const RULE_ROOM: usize = limit::FILE_BYTES;
 
-const LETTERS_ROOM: usize = 4_097;
+const LETTERS_ROOM: usize = limit::LETTERS_BYTES;
 
-const PROPERTY_ROOM: usize = 41_499;
+const PROPERTY_ROOM: usize = limit::PROPERTY_BYTES;
 
 // The bytes of the buffers for a combined model file and for the line of a refusal: none is longer.
-const OUTPUT_ROOM: usize = 25_114;
+const OUTPUT_ROOM: usize = limit::OUTPUT_BYTES;
 
 const LINE_ROOM: usize = 16;
 
@@ -45,7 +46,7 @@ pub struct Told {
 // Writes the line of a refusal, and answers how many bytes there are to be told.
 fn tell(answer: CombineAnswer, line: &mut [u8]) -> Told
     requires { ⌜ NumberFits (combineOutcomeOf answer) ⌝ }
-    requires { ⌜ lineRoom ≤ length (now line) ⌝ }
+    requires { ⌜ refusalRoom ≤ length (now line) ⌝ }
     ensures output { λ r. ⌜ r .output ≡ bytesTold (combineOutcomeOf answer) ⌝ }
     ensures errors { λ r. ⌜ Wrote (now (line .entry)) 0 (lineTold (combineOutcomeOf answer)) (now (line .exit))
         (r .errors) ⌝ }
@@ -74,7 +75,7 @@ fn write_combination(
     line: &mut [u8],
 ) -> Told
     requires { ⌜ length (now out) ≡ outputBytes ⌝ }
-    requires { ⌜ lineRoom ≤ length (now line) ⌝ }
+    requires { ⌜ refusalRoom ≤ length (now line) ⌝ }
     ensures output { λ r. ⌜ Wrote (now (out .entry)) 0
         (outputText (now (rule .entry)) (now (letters .entry)) (now (property .entry)))
         (now (out .exit)) (r .output) ⌝ }

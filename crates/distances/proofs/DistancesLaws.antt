@@ -8,7 +8,7 @@ use mathlib.Core.Option.{Option, some, none}
 use borrow.Author.Tests.{lt-ltb, le-ltb}
 use lib.ListN.{length}
 use lib.Dec.{ltb, nltb→le}
-use Rattle.lasso.specs.Lists.{someIf}
+use Rattle.lists.specs.Lists.{someIf}
 use Rattle.format.specs.Layout.{states}
 use Rattle.format.specs.Rules.{Reason, firstBroken, Accepted}
 use Rattle.format.proofs.Reasons.{none-clear, clear-append, broken-append, append-clear}
@@ -25,62 +25,62 @@ use Rattle.distances.specs.Distances.{distancesOutcomeOf, DistancesLoseN
 
 -- the reason 15 of a distance call
 abbrev roomReason : List ℕ → ℕ → Reason
-roomReason f output = record { number = 15; holds = ltb output (states f) }
+roomReason f outputRoom = record { number = 15; holds = ltb outputRoom (states f) }
 
-module _ (f : List ℕ) (ceiling output work : ℕ) where
+module _ (f : List ℕ) (ceiling outputRoom workRoom : ℕ) where
   -- a reason of 1 to 12 is the first
-  pub reasons-common : (n : ℕ) → firstBroken (commonRules f work) ≡ some n
-      → firstBroken (distanceReasons f ceiling output work) ≡ some n
-  reasons-common n e = broken-append (commonRules f work) (ceilingReason ceiling ∷ roomReason f output ∷ []) n e
+  pub reasons-common : (n : ℕ) → firstBroken (commonRules f workRoom) ≡ some n
+      → firstBroken (distanceReasons f ceiling outputRoom workRoom) ≡ some n
+  reasons-common n e = broken-append (commonRules f workRoom) (ceilingReason ceiling ∷ roomReason f outputRoom ∷ []) n e
 
-  -- behind them a ceiling above 4,096 breaks 21
-  pub reasons-high : firstBroken (commonRules f work) ≡ none → 4096 < ceiling
-      → firstBroken (distanceReasons f ceiling output work) ≡ some 21
-  reasons-high e high = ceiling-high (commonRules f work) ceiling (roomReason f output ∷ []) e high
+  -- after them a ceiling above 4,096 breaks 21
+  pub reasons-high : firstBroken (commonRules f workRoom) ≡ none → 4096 < ceiling
+      → firstBroken (distanceReasons f ceiling outputRoom workRoom) ≡ some 21
+  reasons-high e high = ceiling-high (commonRules f workRoom) ceiling (roomReason f outputRoom ∷ []) e high
 
   -- with one up to 4,096, an output with fewer entries than there are states breaks 15
-  pub reasons-short : firstBroken (commonRules f work) ≡ none → ceiling ≤ 4096 → output < states f
-      → firstBroken (distanceReasons f ceiling output work) ≡ some 15
+  pub reasons-short : firstBroken (commonRules f workRoom) ≡ none → ceiling ≤ 4096 → outputRoom < states f
+      → firstBroken (distanceReasons f ceiling outputRoom workRoom) ≡ some 15
   reasons-short e low short =
-      ceiling-low (commonRules f work) ceiling (roomReason f output ∷ []) e low
-      ∙ ap (λ (b : Bool). someIf b 15 none) (lt-ltb output (states f) short)
+      ceiling-low (commonRules f workRoom) ceiling (roomReason f outputRoom ∷ []) e low
+      ∙ ap (λ (b : Bool). someIf b 15 none) (lt-ltb outputRoom (states f) short)
 
   -- and one with as many breaks nothing
-  pub reasons-clear : firstBroken (commonRules f work) ≡ none → ceiling ≤ 4096 → states f ≤ output
-      → firstBroken (distanceReasons f ceiling output work) ≡ none
+  pub reasons-clear : firstBroken (commonRules f workRoom) ≡ none → ceiling ≤ 4096 → states f ≤ outputRoom
+      → firstBroken (distanceReasons f ceiling outputRoom workRoom) ≡ none
   reasons-clear e low room =
-      ceiling-low (commonRules f work) ceiling (roomReason f output ∷ []) e low
-      ∙ ap (λ (b : Bool). someIf b 15 none) (le-ltb output (states f) room)
+      ceiling-low (commonRules f workRoom) ceiling (roomReason f outputRoom ∷ []) e low
+      ∙ ap (λ (b : Bool). someIf b 15 none) (le-ltb outputRoom (states f) room)
 
   -- where no reason holds the file is accepted, the ceiling is up to 4,096 and the output has an entry for each state
-  pub clear-reasons : firstBroken (distanceReasons f ceiling output work) ≡ none
-      → Accepted f × (ceiling ≤ 4096) × (states f ≤ output)
+  pub clear-reasons : firstBroken (distanceReasons f ceiling outputRoom workRoom) ≡ none
+      → Accepted f × (ceiling ≤ 4096) × (states f ≤ outputRoom)
   clear-reasons e =
-      let own : List Reason = ceilingReason ceiling ∷ roomReason f output ∷ [] in
-      let common : firstBroken (commonRules f work) ≡ none = append-clear (commonRules f work) own e in
-      let (low, (room, end)) = none-clear own (sym (clear-append (commonRules f work) own common) ∙ e) in
-      (clear-common f work common .0, nltb→le 4096 ceiling low, nltb→le output (states f) room)
+      let own : List Reason = ceilingReason ceiling ∷ roomReason f outputRoom ∷ [] in
+      let common : firstBroken (commonRules f workRoom) ≡ none = append-clear (commonRules f workRoom) own e in
+      let (low, (room, end)) = none-clear own (sym (clear-append (commonRules f workRoom) own common) ∙ e) in
+      (clear-common f workRoom common .0, nltb→le 4096 ceiling low, nltb→le outputRoom (states f) room)
 
-module _ (f : List ℕ) (ceiling : ℕ) (d : List ℕ) (work : ℕ) where
+module _ (f : List ℕ) (ceiling : ℕ) (d : List ℕ) (workRoom : ℕ) where
   -- the answer is the call's, and so is the output afterwards
   abbrev pub DistancesAre : Outcome ℕ → List ℕ → Type 0
-  DistancesAre o d' = (o ≡ distancesOutcome f ceiling (length d) work) × (d' ≡ distancesOutput f ceiling d work)
+  DistancesAre o d' = (o ≡ distancesOutcome f ceiling (length d) workRoom) × (d' ≡ distancesOutput f ceiling d workRoom)
 
   -- refused with the first reason that holds: the output is as before
-  pub distances-refused : (n : ℕ) → firstBroken (distanceReasons f ceiling (length d) work) ≡ some n
+  pub distances-refused : (n : ℕ) → firstBroken (distanceReasons f ceiling (length d) workRoom) ≡ some n
       → DistancesAre (refused n) d
   distances-refused n e =
       let t : Option (List ℕ) = some (distanceTable (graphOf f 0) ceiling) in
-      let is = call-broken (distanceReasons f ceiling (length d) work) (states f) t n e in
+      let is = call-broken (distanceReasons f ceiling (length d) workRoom) (states f) t n e in
       (sym (is .outcome-is), sym (call-answer d is))
 
   -- not refused: the number of states, and the entries of all states from entry 0 on
-  pub distances-written : firstBroken (distanceReasons f ceiling (length d) work) ≡ none
+  pub distances-written : firstBroken (distanceReasons f ceiling (length d) workRoom) ≡ none
       → (n : ℕ) → n ≡ states f → (d' : List ℕ) → d' ≡ written (some (distanceTable (graphOf f 0) ceiling)) d
       → DistancesAre (answered n) d'
   distances-written e n q d' all =
       let t : Option (List ℕ) = some (distanceTable (graphOf f 0) ceiling) in
-      let is = call-kept (distanceReasons f ceiling (length d) work) (states f) n t t e (sym q) refl in
+      let is = call-kept (distanceReasons f ceiling (length d) workRoom) (states f) n t t e (sym q) refl in
       (sym (is .outcome-is), all ∙ sym (call-answer d is))
 
 -- the answer of a distance call with a given outcome

@@ -8,11 +8,12 @@ use native.Mathlib.Omega.{arith}
 use native.Mathlib.Numerals.{add-one}
 use lib.ListN.{length, getD, set, drop}
 use lib.Seq.{take-all, paste, paste-suc, length-paste}
-use Rattle.lasso.specs.Limit.{under}
+use Rattle.lists.specs.Limit.{under}
 use Rattle.lasso.specs.Graph.{Graph}
 use Rattle.lasso.specs.Distance.{dist}
-use Rattle.lasso.proofs.UnderLaws.{under-lt, under-ge}
-use Rattle.lasso.proofs.BelowLaws.{map-below-at, map-below-length}
+use Rattle.lists.proofs.UnderLaws.{under-lt, under-ge}
+use Rattle.lists.proofs.BelowLaws.{map-below-at, map-below-length}
+use Rattle.numbers.specs.Limits.{notReached}
 use Rattle.model.specs.declared.Header.{Header}
 use Rattle.model.specs.Values.{Valid}
 use Rattle.model.specs.Model.{graphIn, graphOf}
@@ -22,7 +23,7 @@ use Rattle.frontier.specs.Regions.{entryOf, valueOf}
 use Rattle.candidates.specs.Promises.{StartDistances, StartDistancesPut}
 use Rattle.candidates.proofs.DistanceLaws.{entry-zero}
 use Rattle.outcomes.specs.Tables.{written}
-use Rattle.distances.specs.Distances.{notReached, entryFor, distanceEntry, distanceTable}
+use Rattle.distances.specs.Distances.{entryFor, distanceEntry, distanceTable}
 
 -- the entry from what the working table holds for a state
 abbrev pub fromStored : ℕ → ℕ → ℕ
@@ -69,7 +70,7 @@ pub table-at : (g : Graph) (ceiling s : ℕ) → s < g .size
     → getD (distanceTable g ceiling) s 0 ≡ distanceEntry g ceiling s
 table-at g ceiling s l = map-below-at (distanceEntry g ceiling) (g .size) s l
 
--- the entries of the states below s stand in front of the output, which is as before behind them
+-- the entries of the states below s stand in front of the output, which is as before after them
 abbrev pub Written : Graph → ℕ → List ℕ → List ℕ → ℕ → Type 0
 Written g ceiling d d' s = d' ≡ paste d 0 (distanceTable g ceiling) s
 

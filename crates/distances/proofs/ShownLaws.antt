@@ -7,19 +7,20 @@ use mathlib.Core.Option.{Option, some, none}
 use native.Mathlib.Omega.{arith}
 use lib.ListN.{length, getD, drop, List·getD-append}
 use lib.Seq.{length-front, length-take-le, getD-append-add, getD-drop}
-use Rattle.lasso.specs.Least.{IsLeast}
-use Rattle.lasso.specs.Limit.{under}
+use Rattle.lists.specs.Least.{IsLeast}
+use Rattle.lists.specs.Limit.{under}
 use Rattle.lasso.specs.Graph.{Graph, WellFormed}
 use Rattle.lasso.specs.Distance.{dist}
-use Rattle.lasso.proofs.Tests.{lt-or-ge}
-use Rattle.lasso.proofs.UnderLaws.{under-least}
+use Rattle.lists.proofs.Tests.{lt-or-ge}
+use Rattle.lists.proofs.UnderLaws.{under-least}
 use Rattle.lasso.proofs.ShownLaws.{distance-shown}
+use Rattle.numbers.specs.Limits.{notReached}
 use Rattle.format.specs.Layout.{states}
 use Rattle.format.specs.Rules.{firstBroken}
 use Rattle.model.specs.Model.{graphOf}
 use Rattle.model.proofs.Laws.{accepted-well-formed}
 use Rattle.outcomes.specs.Outcome.{answered}
-use Rattle.distances.specs.Distances.{notReached, entryFor, distanceEntry, distanceTable, distanceReasons, distancesOutput}
+use Rattle.distances.specs.Distances.{entryFor, distanceEntry, distanceTable, distanceReasons, distancesOutput}
 use Rattle.distances.specs.Shown.{FromStart, EntryIs, DistancesSayOf, DistancesSay}
 use Rattle.distances.proofs.EntryLaws.{table-length, table-at}
 use Rattle.distances.proofs.DistancesLaws.{DistancesAre, clear-reasons, distances-written}
@@ -55,8 +56,8 @@ module _ (P : ℕ → Type 0) (ceiling : ℕ) (low : ceiling ≤ 4096) where
       let (p, within) = least .0 in
       (λ e n le q. omega arith, λ unreached. absurd (unreached k (omega arith) p))
 
-module _ (f : List ℕ) (ceiling : ℕ) (output : List ℕ) (work : ℕ)
-    (clear : firstBroken (distanceReasons f ceiling (length output) work) ≡ none) where
+module _ (f : List ℕ) (ceiling : ℕ) (output : List ℕ) (workRoom : ℕ)
+    (clear : firstBroken (distanceReasons f ceiling (length output) workRoom) ≡ none) where
   -- the model of the file, and the entries of its states
   abbrev g : Graph
   g = graphOf f 0
@@ -69,21 +70,21 @@ module _ (f : List ℕ) (ceiling : ℕ) (output : List ℕ) (work : ℕ)
   near s = under (suc ceiling) (dist g (g .start) s)
 
   -- the answer is the number of states, and the output holds their entries, with what lies past them as before
-  call-is : DistancesAre f ceiling output work (answered (states f)) (t ++ drop (length t) output)
-  call-is = distances-written f ceiling output work clear (states f) refl (t ++ drop (length t) output) refl
+  call-is : DistancesAre f ceiling output workRoom (answered (states f)) (t ++ drop (length t) output)
+  call-is = distances-written f ceiling output workRoom clear (states f) refl (t ++ drop (length t) output) refl
 
-  output-is : distancesOutput f ceiling output work ≡ t ++ drop (length t) output
+  output-is : distancesOutput f ceiling output workRoom ≡ t ++ drop (length t) output
   output-is = sym (call-is .1)
 
   -- the entry of a state stands at its place
-  state-entry : (s : ℕ) → s < states f → getD (distancesOutput f ceiling output work) s 0 ≡ distanceEntry g ceiling s
+  state-entry : (s : ℕ) → s < states f → getD (distancesOutput f ceiling output workRoom) s 0 ≡ distanceEntry g ceiling s
   state-entry s l =
       ap (λ (xs : List ℕ). getD xs s 0) output-is
       ∙ List·getD-append t (drop (length t) output) 0 s (omega (arith, table-length g ceiling))
       ∙ table-at g ceiling s l
 
-  -- an entry behind them is as before
-  later-entry : (i : ℕ) → states f ≤ i → EntryIs f ceiling output work i (getD output i 0)
+  -- an entry after them is as before
+  later-entry : (i : ℕ) → states f ≤ i → EntryIs f ceiling output workRoom i (getD output i 0)
   later-entry i past =
       let long : length t ≡ g .size = table-length g ceiling in
       let at : i ≡ length t + (i - length t) = omega arith in
@@ -94,23 +95,23 @@ module _ (f : List ℕ) (ceiling : ℕ) (output : List ℕ) (work : ℕ)
       ∙ ap (λ (j : ℕ). getD output j 0) (sym at)
 
   -- the length of the output is as before
-  output-length : length (distancesOutput f ceiling output work) ≡ length output
+  output-length : length (distancesOutput f ceiling output workRoom) ≡ length output
   output-length =
-      let (accepted, low, room) = clear-reasons f ceiling (length output) work clear in
+      let (accepted, low, room) = clear-reasons f ceiling (length output) workRoom clear in
       let long : length t ≡ g .size = table-length g ceiling in
       ap length output-is ∙ length-front output t (length t) (sym (length-take-le (length t) output (omega arith)))
 
   -- the distance under the ceiling is the least length up to the ceiling of a path from the initial state
   least-up-to : (s : ℕ) → IsLeast (UpTo (FromStart f s) ceiling) (near s)
   least-up-to s =
-      let wf : WellFormed g = accepted-well-formed f 0 (clear-reasons f ceiling (length output) work clear .0) in
+      let wf : WellFormed g = accepted-well-formed f 0 (clear-reasons f ceiling (length output) workRoom clear .0) in
       let shown = distance-shown g wf (g .start) s (wf .start-state) in
       under-least (FromStart f s) (suc ceiling) (dist g (g .start) s) shown
 
   -- so the call says what it is to say
-  says : DistancesSayOf f ceiling output work
+  says : DistancesSayOf f ceiling output workRoom
   says =
-      let low = clear-reasons f ceiling (length output) work clear .1 in
+      let low = clear-reasons f ceiling (length output) workRoom clear .1 in
       record {
         answers = sym (call-is .0);
         distance-exactly = λ s d l.

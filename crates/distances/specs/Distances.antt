@@ -4,10 +4,12 @@ use mathlib.Core.List.{List, [], _∷_, _++_, map}
 use mathlib.Core.Option.{Option, some, none}
 use lib.ListN.{length}
 use lib.Dec.{ltb}
-use Rattle.lasso.specs.Lists.{below}
-use Rattle.lasso.specs.Limit.{under}
+use Rattle.numbers.specs.Reasons as reason
+use Rattle.lists.specs.Lists.{below}
+use Rattle.lists.specs.Limit.{under}
 use Rattle.lasso.specs.Graph.{Graph}
 use Rattle.lasso.specs.Distance.{dist}
+use Rattle.numbers.specs.Limits.{notReached}
 use Rattle.format.specs.Layout.{states}
 use Rattle.format.specs.Rules.{Reason, firstBroken}
 use Rattle.model.specs.Model.{graphOf}
@@ -26,10 +28,6 @@ distancesOutcomeOf (DistancesAnswers.Written entries) = answered entries
 abbrev pub DistancesLoseNothing : Type 0
 DistancesLoseNothing = LosesNothing distancesOutcomeOf
 
--- 65,535, the entry of a state that has no distance from the initial state up to the ceiling
-abbrev pub notReached : ℕ
-notReached = 65535
-
 -- the entry for a distance, if there is one
 abbrev pub entryFor : Option ℕ → ℕ
 entryFor none = notReached
@@ -46,17 +44,18 @@ distanceTable g ceiling = map (distanceEntry g ceiling) (below (g .size))
 -- the reasons that a distance call applies: 1 to 12, then 21 for a ceiling above 4,096, then 15 if the output has fewer
 -- than N entries
 abbrev pub distanceReasons : List ℕ → ℕ → ℕ → ℕ → List Reason
-distanceReasons f ceiling output work =
-    commonRules f work ++ ceilingReason ceiling ∷ record { number = 15; holds = ltb output (states f) } ∷ []
+distanceReasons f ceiling outputRoom workRoom =
+    commonRules f workRoom ++ ceilingReason ceiling ∷ record { number = reason.noRoom; holds = ltb outputRoom (states f) } ∷ []
 
 -- what a distance call answers: not refused, it writes N entries
 abbrev pub distancesOutcome : List ℕ → ℕ → ℕ → ℕ → Outcome ℕ
-distancesOutcome f ceiling output work = outcome (firstBroken (distanceReasons f ceiling output work)) (states f)
+distancesOutcome f ceiling outputRoom workRoom =
+    outcome (firstBroken (distanceReasons f ceiling outputRoom workRoom)) (states f)
 
 -- the output after a distance call: not refused, the entries of all states from entry 0 on
 abbrev pub distancesOutput : List ℕ → ℕ → List ℕ → ℕ → List ℕ
-distancesOutput f ceiling output work =
+distancesOutput f ceiling output workRoom =
     written
-    (unlessRefused (firstBroken (distanceReasons f ceiling (length output) work))
+    (unlessRefused (firstBroken (distanceReasons f ceiling (length output) workRoom))
     (some (distanceTable (graphOf f 0) ceiling)))
     output

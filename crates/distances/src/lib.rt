@@ -3,7 +3,7 @@
 ghost use mathlib.Core.Path.{_≡_};
 ghost use Prim.Native.Nat.{suc, _*_, _≤_};
 ghost use lib.ListN.{length};
-ghost use Rattle.lasso.specs.Limit.{under};
+ghost use Rattle.lists.specs.Limit.{under};
 ghost use Rattle.frontier.specs.Regions.{valueOf};
 ghost use Rattle.model.specs.Values.{Valid};
 ghost use Rattle.gate.specs.Gate.{workOf};
@@ -15,6 +15,8 @@ use gate::leave;
 use lasso::Transitions;
 use model::Checked;
 use model::Header;
+use numbers::limit;
+use numbers::reason;
 
 // The answer of a distance call: refused with a number, or the number of entries written.
 pub enum DistancesAnswer {
@@ -25,21 +27,18 @@ pub enum DistancesAnswer {
 // The mark table of a call that names none. Distances do not depend on marks.
 const TABLE_NOT_NAMED: u16 = 0;
 
-// The entry of a state that has no distance from the initial state up to the ceiling.
-const NOT_REACHED: u16 = 65535;
-
 // The entry of a state, from what the working table holds for it: one more than its distance, or 0 if it has none.
 fn entry_for(stored: u16, ceiling: Transitions) -> u16
     ensures { λ r. ⌜ r ≡ entryFor (under (suc (ceiling .0)) (valueOf stored)) ⌝ }
 {
     if stored == 0 {
-        return NOT_REACHED;
+        return limit::NOT_REACHED;
     }
     let distance = stored - 1;
     if distance <= ceiling.0 {
         return distance;
     }
-    NOT_REACHED
+    limit::NOT_REACHED
 }
 
 // The distances of all states, where none of 1 to 12 holds. The distances are found in full; the ceiling only decides
@@ -63,10 +62,10 @@ fn distances_model(
     let n = h.states;
     let high = ceiling_too_high(ceiling);
     if high {
-        return DistancesAnswer::Refused(21);
+        return DistancesAnswer::Refused(reason::HIGH_CEILING);
     }
     if output.len() < n {
-        return DistancesAnswer::Refused(15);
+        return DistancesAnswer::Refused(reason::NO_ROOM);
     }
     start_distances(file, h, work);
     let mut s: usize = 0;

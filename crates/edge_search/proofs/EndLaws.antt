@@ -8,18 +8,18 @@ use mathlib.Core.Option.{Option, some, none}
 use native.Mathlib.Omega.{arith}
 use lib.ListN.{length}
 use lib.Dec.{T}
-use Rattle.lasso.specs.Lists.{memb}
+use Rattle.lists.specs.Lists.{memb}
 use Rattle.lasso.specs.Graph.{Graph, WellFormed, edgeb}
-use Rattle.lasso.proofs.Tests.{lt-or-ge}
-use Rattle.lasso.proofs.Least.{IsLeast, isLeast-unique}
+use Rattle.lists.proofs.Tests.{lt-or-ge}
+use Rattle.lists.proofs.Least.{IsLeast, isLeast-unique}
 use Rattle.lasso.proofs.Walk.{Run, done, next, Walk, walk-here, walk-edge, walk-append}
 use Rattle.frontier.specs.Regions.{entry, entryOf}
-use Rattle.lasso.specs.Limit.{under}
+use Rattle.lists.specs.Limit.{under}
 use Rattle.hits.specs.Hit.{hitLevel, hitLength}
 use Rattle.frontier.specs.Buckets.{sources}
 use Rattle.edge_search.specs.Promises.{FoundFrom, ExhaustedFrom}
 use Rattle.frontier.specs.Search.{Hit, start, step, ReachedBy, State}
-use Rattle.lasso.proofs.UnderLaws.{under-lt, under-least}
+use Rattle.lists.proofs.UnderLaws.{under-lt, under-least}
 use Rattle.hits.proofs.HitLaws.{Timed, hitLevel-least, hitLength-least}
 use Rattle.frontier.proofs.BucketLaws.{source-entry}
 use Rattle.frontier.proofs.PushLaws.{level-le}

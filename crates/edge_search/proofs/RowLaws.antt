@@ -5,7 +5,7 @@ use mathlib.Core.Logic.{_⊎_, inl, inr}
 use mathlib.Core.List.{List, [], _∷_}
 use native.Mathlib.Omega.{arith}
 use lib.ListN.{length, getD}
-use Rattle.lasso.proofs.Tests.{lt-or-ge, memb-at, at-memb}
+use Rattle.lists.proofs.Tests.{lt-or-ge, memb-at, at-memb}
 use Rattle.frontier.specs.Regions.{entry, queued}
 use Rattle.frontier.specs.Buckets.{sources, Planned}
 use Rattle.frontier.specs.Search.{Hit, step, ReachedBy, State, Reached}
@@ -165,7 +165,7 @@ pub row-end :
 row-end level R es (inl e) l apart q = row-done level R q (omega (arith, ap length e))
 row-end level R es (inr e) l apart q = row-done level (row-alone level R e (apart e)) q (omega (arith, ap length e))
 
--- all states of the level have been looked at: those behind them are the next level's
+-- all states of the level have been looked at: those after them are the next level's
 pub level-done : {n limit target v at end count : ℕ} {succs : ℕ → List ℕ} {w₀ w : List ℕ} → end ≤ at → State n succs limit target w₀ v at end count w → State n succs limit target w₀ v at at count w
 level-done l S =
     record {

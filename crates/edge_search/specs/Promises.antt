@@ -10,7 +10,7 @@ use Rattle.edge_search.specs.declared.SpreadAnswer.the-variants.{Length,
 use Rattle.frontier.specs.Regions.{entry, entryOf}
 use Rattle.frontier.specs.Buckets.{sources, Planned}
 use Rattle.frontier.specs.Search.{Queue}
-use Rattle.lasso.specs.Limit.{under}
+use Rattle.lists.specs.Limit.{under}
 use Rattle.hits.specs.Hit.{hitLevel, hitLength}
 
 -- a walk from a source into the target was found: its length is the least, and at most the limit

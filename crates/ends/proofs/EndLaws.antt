@@ -7,7 +7,7 @@ use mathlib.Core.List.{List, _∷_}
 use lib.ListN.{length, getD, set}
 use lib.Seq.{getD-set-same, getD-set-other}
 use Rattle.lasso.specs.Graph.{Graph, WellFormed}
-use Rattle.lasso.proofs.Tests.{lt-or-ge}
+use Rattle.lists.proofs.Tests.{lt-or-ge}
 use Rattle.table.specs.Changes.{SameOutside}
 use Rattle.table.proofs.Laws.{sameOutside-refl, sameOutside-sym, sameOutside-set}
 use Rattle.frontier.specs.Regions.{entry}

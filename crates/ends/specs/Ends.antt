@@ -1,4 +1,4 @@
--- The ends of the ways behind a loop start, by the entries of the working table.
+-- The ends of the ways after a loop start, by the entries of the working table.
 use Prim.Native.Nat.{ℕ, _*_, _≤_, _<_}
 use mathlib.Core.Path.{_≡_}
 use mathlib.Core.List.{List}

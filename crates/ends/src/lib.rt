@@ -1,4 +1,4 @@
-// Flags in region 4 the ends of the ways behind a loop start: the states of one level with a step to a goal, and the marked
+// Flags in region 4 the ends of the ways after a loop start: the states of one level with a step to a goal, and the marked
 // states whose entries in two regions are the same.
 ghost use Prim.Native.Nat.{_*_, _≤_, _<_};
 ghost use lib.ListN.{length};

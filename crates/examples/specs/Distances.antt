@@ -40,10 +40,10 @@ pub record Measured : Type 0 where
 -- what it does at a row, lent an output of 8 entries and 6 × N working entries
 abbrev pub distancesGiven : DistanceRow → Measured
 distancesGiven r =
-    let work : ℕ = 6 * states (r .file) in
+    let workRoom : ℕ = 6 * states (r .file) in
     record {
-      answer = distancesOutcome (r .file) (r .ceiling) (length lentAnswer) work;
-      output = distancesOutput (r .file) (r .ceiling) lentAnswer work;
+      answer = distancesOutcome (r .file) (r .ceiling) (length lentAnswer) workRoom;
+      output = distancesOutput (r .file) (r .ceiling) lentAnswer workRoom;
     }
 
 -- what is expected: N entries, the row's, and later entries as they were lent

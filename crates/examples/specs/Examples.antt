@@ -5,8 +5,9 @@ use mathlib.Core.List.{List, [], _∷_, _++_, map}
 use mathlib.Core.Option.{some, none}
 use lib.ListN.{length, getD, take, drop, replicate}
 use lib.Dec.{leb}
-use Rattle.lasso.specs.Lists.{memb, pick}
+use Rattle.lists.specs.Lists.{memb, pick}
 use Rattle.lasso.specs.Graph.{Graph}
+use Rattle.format.specs.ExampleD.{bytesWith, bytesD, fileTwo}
 use Rattle.format.specs.Layout.{states}
 use Rattle.writer.specs.File.{word16, fileOf}
 use Rattle.gate.specs.declared.Ask.{Ask}
@@ -14,7 +15,7 @@ use Rattle.gate.specs.Gate.{asking, zeros}
 use Rattle.outcomes.specs.Outcome.{Outcome, refused, answered}
 use Rattle.search.specs.Search.{Searched, stopped, noneWithin}
 use Rattle.next.specs.Next.{Followed, noMore}
-use Rattle.sequence.specs.Calls.{Call, search, next, Answer, ofSearch, ofNext, Result, finderAt}
+use Rattle.sequence.specs.Calls.{Call, search, next, Answer, ofSearch, ofNext, Result, workLent, finderAt}
 
 -- the model with the initial state, the successors of each state, and the marked states
 abbrev pub graphWith : ℕ → List (List ℕ) → List ℕ → Graph
@@ -61,24 +62,7 @@ fileG = fileOf (graphWith 0 ((1 ∷ []) ∷ (1 ∷ []) ∷ []) (1 ∷ []))
 abbrev pub fileH : List ℕ
 fileH = fileOf (graphWith 0 ((1 ∷ 5 ∷ []) ∷ (2 ∷ []) ∷ (3 ∷ []) ∷ (4 ∷ []) ∷ (1 ∷ []) ∷ (6 ∷ []) ∷ (6 ∷ []) ∷ []) (1 ∷ 6 ∷ []))
 
--- D's bytes with a total and marks: header, offsets and total, rows, targets, marks
-abbrev pub bytesWith : (total : ℕ) → (marks : List ℕ) → List ℕ
-bytesWith total marks =
-    5 ∷ 0 ∷ 7 ∷ 0 ∷ 0 ∷ 0 ∷ 0 ∷ 0 ∷
-    24 ∷ 0 ∷ 0 ∷ 0 ∷ 36 ∷ 0 ∷ 0 ∷ 0 ∷ 50 ∷ 0 ∷ 0 ∷ 0 ∷ total ∷ 0 ∷ 0 ∷ 0 ∷
-    0 ∷ 0 ∷ 2 ∷ 0 ∷ 3 ∷ 0 ∷ 4 ∷ 0 ∷ 6 ∷ 0 ∷ 7 ∷ 0 ∷
-    1 ∷ 0 ∷ 2 ∷ 0 ∷ 3 ∷ 0 ∷ 3 ∷ 0 ∷ 1 ∷ 0 ∷ 2 ∷ 0 ∷ 4 ∷ 0 ∷
-    marks
-
--- D's bytes as the paper gives them
-abbrev pub bytesD : List ℕ
-bytesD = bytesWith 51 (24 ∷ [])
-
--- D with a second mark table, which marks state 1
-abbrev pub fileTwo : List ℕ
-fileTwo = bytesWith 52 (24 ∷ 2 ∷ [])
-
--- a file with a second mark table behind it, of these bytes, which its total length counts
+-- a file with a second mark table after it, of these bytes, which its total length counts
 abbrev pub withSecond : List ℕ → (marks : List ℕ) → List ℕ
 withSecond f marks = take 20 f ++ word16 (length f + length marks) ++ drop 22 f ++ marks
 
@@ -128,9 +112,9 @@ abbrev pub nextRow : List ℕ → List ℕ → Outcome Followed → List ℕ →
 nextRow f earlier o list = nextNaming f 0 earlier o list
 
 -- the row of a search that names table 2, lent so many working entries: refused with 22
-abbrev pub tableTwo : List ℕ → (work : ℕ) → Row
-tableTwo f work =
-    record { file = f; call = search (asking 2 4096 65535) lentAnswer (replicate work 9); answer = ofSearch (refused 22); list = [] }
+abbrev pub tableTwo : List ℕ → (workRoom : ℕ) → Row
+tableTwo f workRoom =
+    record { file = f; call = search (asking 2 4096 65535) lentAnswer (replicate workRoom 9); answer = ofSearch (refused 22); list = [] }
 
 -- H's row for an allowance that suffices
 abbrev pub rowH : ℕ → Row
@@ -203,11 +187,6 @@ examples =
 abbrev pub given : Row → Result
 given r = finderAt (r .file) (r .call)
 
--- the working table lent with a call
-abbrev pub workLent : Call → List ℕ
-workLent (search ask a w) = w
-workLent (next t earlier a w) = w
-
 -- the working table after an answer: untouched after the refusals 1 to 12, else all zero
 abbrev pub workLeft : Answer → List ℕ → List ℕ
 workLeft (ofSearch (refused n)) w = pick (leb n 12) w (zeros w)
@@ -226,7 +205,7 @@ expected r =
     }
 
 -- The examples hold: each row gives what is expected; H does with any allowance from 2 on; the file of D is the paper's; and
--- D with two tables is D with a second one behind it.
+-- D with two tables is D with a second one after it.
 pub record ExamplesHold : Type 0 where
   pub rows : map given examples ≡ map expected examples
   pub more-allowance : (allowance : ℕ) → 2 ≤ allowance → given (rowH allowance) ≡ expected (rowH allowance)

@@ -5,8 +5,9 @@ use mathlib.Core.List.{List, [], _∷_, map}
 use mathlib.Core.Option.{Option, some, none}
 use Rattle.format.specs.Layout.{states}
 use Rattle.outcomes.specs.Outcome.{Outcome, refused, answered}
-use Rattle.grader.specs.Grade.{Said, accepting, shortest, Grade, gradeOutcome}
-use Rattle.examples.specs.Examples.{fileA, fileA1, fileB, fileD, fileTwo, fileH}
+use Rattle.grade.specs.Grade.{Said, accepting, shortest, Grade, gradeOutcome}
+use Rattle.format.specs.ExampleD.{fileTwo}
+use Rattle.examples.specs.Examples.{fileA, fileA1, fileB, fileD, fileH}
 
 -- A row of the table: a file, a mark table, a list with a claimed k, and the answer expected.
 pub record GradeRow : Type 0 where

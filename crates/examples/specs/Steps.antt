@@ -7,7 +7,8 @@ use Rattle.lasso.specs.Rounds.{Record}
 use Rattle.format.specs.Layout.{states}
 use Rattle.outcomes.specs.Outcome.{Outcome, refused, answered}
 use Rattle.step.specs.Step.{Stepped, finished, advanced, stepOutcome}
-use Rattle.examples.specs.Examples.{fileD, fileTwo, fileBare, fileH}
+use Rattle.format.specs.ExampleD.{fileTwo}
+use Rattle.examples.specs.Examples.{fileD, fileBare, fileH}
 
 -- A row of the table: a file, a mark table, a ceiling, a record, and the answer expected of a step from that record.
 pub record StepRow : Type 0 where

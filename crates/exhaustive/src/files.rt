@@ -8,7 +8,7 @@ use crate::models::Model;
 use harness::header_word;
 use harness::put16;
 
-// The 16-bit number at a place behind the header: the edges before each row, where they lead, and the marks.
+// The 16-bit number at a place after the header: the edges before each row, where they lead, and the marks.
 fn table_word(m: Model, states: usize, edges: usize, place: usize) -> usize
     requires { ⌜ place < 100 ⌝ }
 {
@@ -35,7 +35,7 @@ fn word(m: Model, states: usize, edges: usize, place: usize) -> usize
         return m.stays as usize;
     }
     if place < 12 {
-        return header_word(place, states, edges, m.initial);
+        return header_word(place, states, edges, m.start);
     }
     table_word(m, states, edges, place - 12)
 }

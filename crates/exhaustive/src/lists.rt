@@ -64,8 +64,8 @@ pub fn tables_for(entries: usize, turn: usize) -> usize {
 // A number from a model, to draw from.
 pub fn seed_of(m: Model) -> u64 {
     let marks = m.marks << 56;
-    let initial = (m.initial as u64) << 61;
-    drawn(drawn(m.edges ^ marks ^ initial ^ 0x2545f4914f6cdd1d))
+    let start = (m.start as u64) << 61;
+    drawn(drawn(m.edges ^ marks ^ start ^ 0x2545f4914f6cdd1d))
 }
 
 // The list that a draw gives: up to eight entries below eight, every second time with a first entry of its own.

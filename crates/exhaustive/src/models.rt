@@ -8,7 +8,7 @@ use crate::digits::holds;
 // without edges has an implied step to itself.
 pub struct Model {
     pub states: usize,
-    pub initial: usize,
+    pub start: usize,
     pub edges: u64,
     pub marks: u64,
     pub stays: bool,
@@ -63,7 +63,7 @@ pub fn has_implied(m: Model) -> bool {
 pub fn with_marks(m: Model, marks: u64) -> Model {
     Model {
         states: m.states,
-        initial: m.initial,
+        start: m.start,
         edges: m.edges,
         marks: marks,
         stays: m.stays,
@@ -74,7 +74,7 @@ pub fn with_marks(m: Model, marks: u64) -> Model {
 pub fn explicit(m: Model) -> Model {
     Model {
         states: m.states,
-        initial: m.initial,
+        start: m.start,
         edges: m.edges | all_implied(m),
         marks: m.marks,
         stays: false,
@@ -94,7 +94,7 @@ fn small(states: usize, number: u64, stays: bool) -> Model
     let third = (edges >> (2 * side)) & row;
     Model {
         states: states,
-        initial: (number % side) as usize,
+        start: (number % side) as usize,
         edges: (edges & row) ^ (second << 8) ^ (third << 16),
         marks: sets & row,
         stays: stays,
@@ -170,7 +170,7 @@ fn random(states: usize, number: u64, stays: bool) -> Model
     let f = drawn(e);
     Model {
         states: states,
-        initial: ((f >> 8) % (states as u64)) as usize,
+        start: ((f >> 8) % (states as u64)) as usize,
         edges: thinned(a, b, c, states, number % 6) & all_edges(states),
         marks: marked(d >> 16, e >> 16, states, (number / 6) % 4) & below(states),
         stays: stays,

@@ -1,4 +1,4 @@
-// The search written apart: it follows every path without repeated states from the initial state, depth first, and
+// The independent search: it follows every path without repeated states from the initial state, depth first, and
 // closes each in every way. The graph is a set of pairs, the implied steps among them, a path a number with one digit for
 // each state.
 use crate::digits::and;
@@ -41,7 +41,7 @@ fn widened(m: Model, set: u64, state: usize) -> u64 {
 
 // The states that can be reached from the initial state: seven sweeps over seven states.
 fn reached(m: Model) -> u64 {
-    let mut set = bit(m.initial);
+    let mut set = bit(m.start);
     let mut turn = 0;
     while turn < 49 {
         set = widened(m, set, turn % 7);
@@ -105,7 +105,7 @@ fn one_more(count: usize) -> usize {
     count
 }
 
-// Keeps an accepting path: alone if it is shorter than those kept, behind them if it is as long.
+// Keeps an accepting path: alone if it is shorter than those kept, after them if it is as long.
 fn kept(t: Truth, list: u64, count: usize, lengths: u64, roll: &mut [u64]) -> Truth {
     let candidates = t.candidates;
     let least = t.least;
@@ -215,9 +215,9 @@ fn nothing(m: Model) -> Truth {
 // The trail that a search starts with.
 fn start(m: Model) -> Trail {
     Trail {
-        list: m.initial as u64,
+        list: m.start as u64,
         count: 1,
-        passed: bit(m.initial),
+        passed: bit(m.start),
         next: 0,
     }
 }

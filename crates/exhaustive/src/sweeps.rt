@@ -1,4 +1,4 @@
-// Distances written apart: sweeps over all edges, each of which lowers what is too great behind it, with no queue. The
+// Independent distances: sweeps over all edges, each of which lowers what is too great after it, with no queue. The
 // distances are a number with one digit for each state, and 15 for a state that is not reached.
 use crate::digits::and;
 use crate::digits::digit;
@@ -22,7 +22,7 @@ fn lowered(m: Model, distances: u64, from: usize, to: usize) -> u64 {
 // The distances from the initial state: seven sweeps over all pairs of seven states. An implied step leads to no other
 // state, so it lowers nothing.
 pub fn distances(m: Model) -> u64 {
-    let mut found = with_digit(0xffffffffffffffff, m.initial, 0);
+    let mut found = with_digit(0xffffffffffffffff, m.start, 0);
     let mut turn = 0;
     while turn < 343 {
         found = lowered(m, found, turn / 7 % 7, turn % 7);

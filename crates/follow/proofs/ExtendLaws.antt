@@ -10,12 +10,12 @@ use lib.Seq.{append-snoc}
 use lib.Dec.{T, eqb, eqb→eq}
 use Rattle.lasso.specs.Graph.{Graph, edgeb, pathb, edges, lassob}
 use Rattle.lasso.specs.Roll.{leastLength, ofLength}
-use Rattle.lasso.proofs.Tests.{fst, both, parts}
+use Rattle.lists.proofs.Tests.{fst, both, parts, nonEmpty-some}
 use Rattle.lasso.proofs.Walk.{next, done, run-append, run-path, path-run, path-tail}
 use Rattle.lasso.specs.Extends.{Extends}
 use Rattle.lasso.proofs.PlaceByPlace.{lasso-extends}
-use Rattle.lasso.proofs.RollLaws.{nonEmpty-some, leastLength-occurs, Occurs, roll-of, roll-lasso, lasso-length}
-use Rattle.lasso.proofs.Least.{isLeast-has}
+use Rattle.lasso.proofs.RollLaws.{leastLength-occurs, Occurs, roll-of, roll-lasso, lasso-length}
+use Rattle.lists.proofs.Least.{isLeast-has}
 
 -- a path goes on along an edge from its last state
 pub path-snoc : (g : Graph) (x : ℕ) (xs : List ℕ) (t : ℕ) → T (pathb g (x ∷ xs)) → T (edgeb g (getD (x ∷ xs) (length xs) 0) t) → T (pathb g (x ∷ xs ++ t ∷ []))

@@ -13,14 +13,15 @@ use lib.Dec.{T}
 use Rattle.lasso.specs.Graph.{Graph, WellFormed, pathb}
 use Rattle.lasso.specs.Roll.{leastLength}
 use Rattle.lasso.specs.Distance.{dist}
-use Rattle.lasso.proofs.Least.{isLeast-le, isLeast-has}
+use Rattle.lists.proofs.Least.{isLeast-le, isLeast-has}
 use Rattle.lasso.proofs.Walk.{Walk, walk-append, walk-length, walk-end-state, path-segment}
 use Rattle.lasso.proofs.Distance.{dist-le, dist-walk}
 use Rattle.lasso.proofs.Lasso.{walk-ends}
-use Rattle.lasso.specs.Decides.{Decides}
+use Rattle.lists.specs.Decides.{Decides}
 use Rattle.lasso.specs.Extends.{Extends}
-use Rattle.lasso.proofs.Tests.{decides-iff}
-use Rattle.lasso.proofs.Extend.{Ahead, MarkAhead, BothPassed, CompletesWithin, joined-passed, extends-completes, extends-least-iff}
+use Rattle.lists.proofs.Tests.{decides-iff}
+use Rattle.lists.proofs.Places.{joined-passed}
+use Rattle.lasso.proofs.Extend.{Ahead, MarkAhead, BothPassed, CompletesWithin, extends-completes, extends-least-iff}
 use Rattle.frontier.specs.Regions.{entry}
 use Rattle.walks.specs.Through.{viaMark, loopLength}
 use Rattle.walks.proofs.ThroughLaws.{ViaMark, viaMark-least, loopLength-least}

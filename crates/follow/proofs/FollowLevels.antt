@@ -9,10 +9,10 @@ use Rattle.lasso.specs.Graph.{Graph, WellFormed}
 use Rattle.lasso.specs.Distance.{dist}
 use Rattle.edge_search.specs.declared.SpreadAnswer.{SpreadAnswer}
 use Rattle.frontier.specs.Regions.{entry, valueOf}
-use Rattle.lasso.specs.Limit.{under}
+use Rattle.lists.specs.Limit.{under}
 use Rattle.edge_search.specs.Promises.{SpreadFrom}
 use Rattle.walks.specs.Through.{viaMark, markedSources, DistancesWithin}
-use Rattle.lasso.proofs.UnderLaws.{under-under}
+use Rattle.lists.proofs.UnderLaws.{under-under}
 use Rattle.spread.proofs.SearchLaws.{value-entry, level-entry}
 use Rattle.walks.proofs.ThroughLaws.{viaMark-nothing}
 

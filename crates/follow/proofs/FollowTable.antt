@@ -9,7 +9,7 @@ use native.Mathlib.Omega.{arith}
 use lib.ListN.{length, getD}
 use lib.Seq.{length-take-le, getD-take}
 use lib.Dec.{T}
-use Rattle.lasso.specs.Decides.{Decides}
+use Rattle.lists.specs.Decides.{Decides}
 use Rattle.lasso.specs.Graph.{Graph, pathb}
 use Rattle.lasso.specs.Distance.{dist}
 use Rattle.lasso.proofs.RollLaws.{leastLength-range}
@@ -25,9 +25,9 @@ use Rattle.walks.specs.Through.{markedSources, DistancesWithin}
 use Rattle.spread.proofs.SearchLaws.{spread-sameOutside}
 use Rattle.stems.specs.Stems.{StemEntries}
 use Rattle.stems.proofs.StemTable.{stems-kept}
-use Rattle.current.specs.Current.{stateAt}
+use Rattle.current.specs.Current.{stateAt, listIn}
 use Rattle.current.proofs.CurrentLaws.{list-kept}
-use Rattle.follow.specs.Follow.{Prepared, upTo, StatesTo, OnStem, ClosesMarked, ClosesStart, MayFollow}
+use Rattle.follow.specs.Follow.{Prepared, StatesTo, OnStem, ClosesMarked, ClosesStart, MayFollow}
 use Rattle.follow.proofs.FollowLevels.{LevelsBelow, distances-levels, marks-levels}
 use Rattle.follow.proofs.FollowLaws.{Beginning, Holds, next-state, place-state, ahead-stem, stem-extends, marked-extends, closes-not-extends, closes-decides}
 
@@ -39,10 +39,10 @@ module _ (g : Graph) (w v : List ℕ) (same : SameOutside (2 * g .size) (6 * g .
       stems-kept (λ s h. same .same-before (1 * g .size + s) (omega arith)) stems
 
   -- the states of the list stand as before
-  list-same : (place : ℕ) → place ≤ g .size → (k : ℕ) → k ≤ place → getD (g .start ∷ v) k 0 ≡ getD (upTo g w place) k 0
+  list-same : (place : ℕ) → place ≤ g .size → (k : ℕ) → k ≤ place → getD (g .start ∷ v) k 0 ≡ getD (listIn (g .start) w place) k 0
   list-same place b k h = list-kept (g .start) k same (omega arith) ∙ in-front k h
     where
-      in-front : (k : ℕ) → k ≤ place → getD (g .start ∷ w) k 0 ≡ getD (upTo g w place) k 0
+      in-front : (k : ℕ) → k ≤ place → getD (g .start ∷ w) k 0 ≡ getD (listIn (g .start) w place) k 0
       in-front zero i = refl
       in-front (suc k) i = sym (getD-take place w k 0 (omega arith))
 
@@ -60,7 +60,7 @@ prepared-same {f} {h} {w} {w'} {l} p same =
 pub record Asked (f : List ℕ) (h : Header) (w : List ℕ) (l place t : ℕ) : Type 0 where
   pub prepared : Prepared f h w l
   pub within : place < l
-  pub path : T (pathb (graphIn f h) (upTo (graphIn f h) w place ++ t ∷ []))
+  pub path : T (pathb (graphIn f h) (listIn (graphIn f h .start) w place ++ t ∷ []))
 
 -- a state asked of, and the table after a search
 module _ {f : List ℕ} {h : Header} {w : List ℕ} {l place t : ℕ} (asked : Asked f h w l place t) where
@@ -71,7 +71,7 @@ module _ {f : List ℕ} {h : Header} {w : List ℕ} {l place t : ℕ} (asked : A
       (omega (arith, leastLength-range (graphIn f h) l (asked .prepared .least), S .states-are), asked .prepared .room, S)
 
   -- the list and the state are the beginning of a path
-  pub asked-beginning : Beginning (graphIn f h) l place (upTo (graphIn f h) w place) t
+  pub asked-beginning : Beginning (graphIn f h) l place (listIn (graphIn f h .start) w place) t
   asked-beginning =
       record {
         well-formed = valid-well-formed (asked .prepared .valid);
@@ -83,7 +83,7 @@ module _ {f : List ℕ} {h : Header} {w : List ℕ} {l place t : ℕ} (asked : A
       }
 
   -- after a search the table holds what the tests read
-  pub asked-holds : {φ : ℕ → Option ℕ} (v : List ℕ) → SameOutside (2 * graphIn f h .size) (6 * graphIn f h .size) w v → LevelsBelow (graphIn f h .size) (l - (place + 1) + 1) v φ → Holds (graphIn f h) l place (upTo (graphIn f h) w place) φ v
+  pub asked-holds : {φ : ℕ → Option ℕ} (v : List ℕ) → SameOutside (2 * graphIn f h .size) (6 * graphIn f h .size) w v → LevelsBelow (graphIn f h .size) (l - (place + 1) + 1) v φ → Holds (graphIn f h) l place (listIn (graphIn f h .start) w place) φ v
   asked-holds v same levels =
       record {
         stems = stems-same (graphIn f h) w v same l (asked .prepared .stems);
@@ -105,17 +105,17 @@ module _ {f : List ℕ} {h : Header} {w : List ℕ} {l place t : ℕ} (asked : A
   stem-follows x = stem-extends asked-beginning (asked .prepared .stems) x
 
   -- the states of the list by their places
-  pub asked-at : (k : ℕ) → k ≤ place → stateAt h w k ≡ getD (upTo (graphIn f h) w place) k 0
+  pub asked-at : (k : ℕ) → k ≤ place → stateAt h w k ≡ getD (listIn (graphIn f h .start) w place) k 0
   asked-at = list-same (graphIn f h) w w (sameOutside-refl _ _ w) place (omega (arith, asked-sizes, asked .within))
 
   -- t on no stem: the loop start is not ahead
-  pub not-ahead : (OnStem (h .states) w place t → ⊥) → Ahead (graphIn f h) l (upTo (graphIn f h) w place) t → ⊥
+  pub not-ahead : (OnStem (h .states) w place t → ⊥) → Ahead (graphIn f h) l (listIn (graphIn f h .start) w place) t → ⊥
   not-ahead no-stem x = no-stem (ahead-stem asked-beginning (asked .prepared .stems) x)
 
   -- after the search from t
   module _ {count : ℕ} (v : List ℕ) (D : DistancesWithin (graphIn f h) t (l - (place + 1) + 1) w v count) where
     -- the table holds the distances from t
-    near : Holds (graphIn f h) l place (upTo (graphIn f h) w place) (dist (graphIn f h) t) v
+    near : Holds (graphIn f h) l place (listIn (graphIn f h .start) w place) (dist (graphIn f h) t) v
     near = asked-holds v (D .outside) (distances-levels D)
 
     -- a loop start and a mark passed: t may follow

@@ -8,13 +8,14 @@ use lib.ListN.{length, getD, take, set, length-append, length-take, List·getD-a
 use lib.Seq.{take-append-le, take-at, getD-at, take-set-le, length-take-le}
 use lib.Dec.{T}
 use Rattle.lasso.specs.Graph.{Graph, edges, lassob}
-use Rattle.lasso.proofs.Tests.{lt-or-ge}
+use Rattle.lists.proofs.Tests.{lt-or-ge}
 use Rattle.lasso.specs.Extends.{Extends}
 use Rattle.model.specs.declared.Header.{Header}
 use Rattle.model.specs.Model.{graphIn}
 use Rattle.model.proofs.Laws.{Sizes, valid-sizes}
 use Rattle.table.specs.Changes.{SameOutside}
-use Rattle.follow.specs.Follow.{Prepared, upTo}
+use Rattle.current.specs.Current.{listIn}
+use Rattle.follow.specs.Follow.{Prepared}
 use Rattle.follow.specs.Places.{LeastFollower, Kept, Completed}
 use Rattle.follow.proofs.ExtendLaws.{extends-whole}
 use Rattle.follow.proofs.PlacesTable.{same-take, length-fits, kept-refl, kept-trans, prepared-kept, stored-kept, stored-take}
@@ -42,11 +43,11 @@ pub record Completing (f : List ℕ) (h : Header) (l from : ℕ) (w w' : List �
   pub from-le : from ≤ place
   pub within : place ≤ l
   pub prefix : take from w' ≡ take from w
-  pub extends : Extends (graphIn f h) l (upTo (graphIn f h) w' place)
-  pub least : LeastAfter (graphIn f h) l from (upTo (graphIn f h) w' place)
+  pub extends : Extends (graphIn f h) l (listIn (graphIn f h .start) w' place)
+  pub least : LeastAfter (graphIn f h) l from (listIn (graphIn f h .start) w' place)
 
 -- at first no place is completed
-pub completing-none : {f w : List ℕ} {h : Header} {l from : ℕ} → Prepared f h w l → from ≤ l → Extends (graphIn f h) l (upTo (graphIn f h) w from) → Completing f h l from w w from
+pub completing-none : {f w : List ℕ} {h : Header} {l from : ℕ} → Prepared f h w l → from ≤ l → Extends (graphIn f h) l (listIn (graphIn f h .start) w from) → Completing f h l from w w from
 completing-none {f} {w} {h} {l} {from} p within x =
     record {
       prepared = p;
@@ -60,7 +61,7 @@ completing-none {f} {w} {h} {l} {from} p within x =
 
 -- the least state that may stand at the next place, stored there, completes one place more
 pub completing-more : {f w w' v : List ℕ} {h : Header} {l from place : ℕ} (t : ℕ) → Completing f h l from w w' place → place < l
-    → SameOutside (2 * h .states) (6 * h .states) w' v → LeastFollower (graphIn f h) l (upTo (graphIn f h) w' place) 0 t → Completing f h l from w (set v place t) (place + 1)
+    → SameOutside (2 * h .states) (6 * h .states) w' v → LeastFollower (graphIn f h) l (listIn (graphIn f h .start) w' place) 0 t → Completing f h l from w (set v place t) (place + 1)
 completing-more {f} {w} {w'} {v} {h} {l} {from} {place} t c inside same o =
     record {
       prepared = prepared-kept (c .prepared) change;
@@ -70,7 +71,7 @@ completing-more {f} {w} {w'} {v} {h} {l} {from} {place} t c inside same o =
       prefix = take-set-le from v place t (c .from-le) ∙ same-take (h .states) from same (omega (arith, c .from-le, length-fits (c .prepared))) ∙ c .prefix;
       extends = subst (λ (xs : List ℕ). Extends (graphIn f h) l (graphIn f h .start ∷ xs)) (sym longer) (o .extends);
       least = subst (λ (xs : List ℕ). LeastAfter (graphIn f h) l from (graphIn f h .start ∷ xs)) (sym longer)
-          (least-snoc (graphIn f h) l from (upTo (graphIn f h) w' place) t (c .least) (λ y. o .least y (omega arith)));
+          (least-snoc (graphIn f h) l from (listIn (graphIn f h .start) w' place) t (c .least) (λ y. o .least y (omega arith)));
     }
   where
     change : Kept (h .states) w' (set v place t)
@@ -96,11 +97,11 @@ completing-all {f} {w} {w'} {h} {l} {from} {place} c all =
     last : place ≡ l
     last = omega (arith, c .within)
 
-    long : length (upTo (graphIn f h) w' l) ≡ suc l
+    long : length (listIn (graphIn f h .start) w' l) ≡ suc l
     long = ap suc (length-take-le l w' (omega (arith, length-fits (c .prepared), c .prepared .room)))
 
-    whole : T (lassob (graphIn f h) (upTo (graphIn f h) w' l)) × (edges (upTo (graphIn f h) w' l) ≡ l)
-    whole = extends-whole (graphIn f h) l (upTo (graphIn f h) w' l) long (subst (λ (p : ℕ). Extends (graphIn f h) l (upTo (graphIn f h) w' p)) last (c .extends))
+    whole : T (lassob (graphIn f h) (listIn (graphIn f h .start) w' l)) × (edges (listIn (graphIn f h .start) w' l) ≡ l)
+    whole = extends-whole (graphIn f h) l (listIn (graphIn f h .start) w' l) long (subst (λ (p : ℕ). Extends (graphIn f h) l (listIn (graphIn f h .start) w' p)) last (c .extends))
 
-    least : LeastAfter (graphIn f h) l from (upTo (graphIn f h) w' l)
-    least = subst (λ (p : ℕ). LeastAfter (graphIn f h) l from (upTo (graphIn f h) w' p)) last (c .least)
+    least : LeastAfter (graphIn f h) l from (listIn (graphIn f h .start) w' l)
+    least = subst (λ (p : ℕ). LeastAfter (graphIn f h) l from (listIn (graphIn f h .start) w' p)) last (c .least)

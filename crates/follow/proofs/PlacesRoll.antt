@@ -12,7 +12,7 @@ use lib.Dec.{T}
 use Rattle.lasso.specs.Graph.{pathb}
 use Rattle.lasso.specs.Roll.{roll}
 use Rattle.lasso.specs.Following.{following}
-use Rattle.lasso.proofs.Tests.{lt-or-ge}
+use Rattle.lists.proofs.Tests.{lt-or-ge}
 use Rattle.lasso.specs.Extends.{Extends}
 use Rattle.lasso.proofs.PlaceByPlace.{first-of-roll, next-of-roll, last-of-roll}
 use Rattle.lasso.proofs.RollLaws.{roll-lasso}
@@ -21,18 +21,19 @@ use Rattle.model.specs.Model.{graphIn}
 use Rattle.model.proofs.Laws.{valid-well-formed}
 use Rattle.table.specs.Changes.{SameOutside}
 use Rattle.table.proofs.Laws.{sameOutside-refl, sameOutside-trans}
-use Rattle.follow.specs.Follow.{Prepared, upTo}
+use Rattle.current.specs.Current.{listIn}
+use Rattle.follow.specs.Follow.{Prepared}
 use Rattle.follow.specs.Places.{LeastFollower, Kept, Completed}
 use Rattle.follow.proofs.FollowTable.{prepared-same}
 use Rattle.follow.proofs.ExtendLaws.{lasso-path, path-begin, extends-start}
 use Rattle.follow.proofs.PlacesTable.{same-take, length-fits, kept-trans, same-kept, prepared-kept, stored-kept, stored-take}
 
 -- the list completed from place 0 is the first of the roll
-pub completed-first : {f w w' : List ℕ} {h : Header} {l : ℕ} → Prepared f h w l → Completed (graphIn f h) l 0 w w' → head? (roll (graphIn f h)) ≡ some (upTo (graphIn f h) w' l)
+pub completed-first : {f w w' : List ℕ} {h : Header} {l : ℕ} → Prepared f h w l → Completed (graphIn f h) l 0 w w' → head? (roll (graphIn f h)) ≡ some (listIn (graphIn f h .start) w' l)
 completed-first {f} {w' = w'} {h} {l} p c =
-    first-of-roll (graphIn f h) (valid-well-formed (p .valid)) l (p .least) (upTo (graphIn f h) w' l) (c .lasso) (c .length) none-less
+    first-of-roll (graphIn f h) (valid-well-formed (p .valid)) l (p .least) (listIn (graphIn f h .start) w' l) (c .lasso) (c .length) none-less
   where
-    none-less : (j y : ℕ) → j ≤ l → y < getD (upTo (graphIn f h) w' l) j 0 → Extends (graphIn f h) l (take j (upTo (graphIn f h) w' l) ++ y ∷ []) → ⊥
+    none-less : (j y : ℕ) → j ≤ l → y < getD (listIn (graphIn f h .start) w' l) j 0 → Extends (graphIn f h) l (take j (listIn (graphIn f h .start) w' l) ++ y ∷ []) → ⊥
     none-less zero y a less x = omega (arith, extends-start (graphIn f h) l y x)
     none-less (suc j) y a less x = c .least (suc j) y (omega arith) a less x
 
@@ -40,13 +41,13 @@ completed-first {f} {w' = w'} {h} {l} p c =
 -- table changed in the regions 2 to 5 alone.
 pub record Retreating (f : List ℕ) (h : Header) (l : ℕ) (w w' : List ℕ) (place : ℕ) : Type 0 where
   pub prepared : Prepared f h w l
-  pub listed : List·Memᴰ (upTo (graphIn f h) w l) (roll (graphIn f h))
+  pub listed : List·Memᴰ (listIn (graphIn f h .start) w l) (roll (graphIn f h))
   pub within : place ≤ l
   pub same : SameOutside (2 * h .states) (6 * h .states) w w'
-  pub none-greater : (i y : ℕ) → place < i → i ≤ l → getD (upTo (graphIn f h) w l) i 0 < y → Extends (graphIn f h) l (take i (upTo (graphIn f h) w l) ++ y ∷ []) → ⊥
+  pub none-greater : (i y : ℕ) → place < i → i ≤ l → getD (listIn (graphIn f h .start) w l) i 0 < y → Extends (graphIn f h) l (take i (listIn (graphIn f h .start) w l) ++ y ∷ []) → ⊥
 
 -- at first no place is passed
-pub retreating-none : {f w : List ℕ} {h : Header} {l : ℕ} → Prepared f h w l → List·Memᴰ (upTo (graphIn f h) w l) (roll (graphIn f h)) → Retreating f h l w w l
+pub retreating-none : {f w : List ℕ} {h : Header} {l : ℕ} → Prepared f h w l → List·Memᴰ (listIn (graphIn f h .start) w l) (roll (graphIn f h)) → Retreating f h l w w l
 retreating-none {w = w} {h = h} p m =
     record {
       prepared = p;
@@ -57,13 +58,13 @@ retreating-none {w = w} {h = h} p m =
     }
 
 -- nothing follows the list if at no place a greater state may stand
-pub retreating-all : {f w w' : List ℕ} {h : Header} {l place : ℕ} → Retreating f h l w w' place → place ≤ 0 → (following (upTo (graphIn f h) w l) (roll (graphIn f h)) ≡ none) × (take l w' ≡ take l w)
+pub retreating-all : {f w w' : List ℕ} {h : Header} {l place : ℕ} → Retreating f h l w w' place → place ≤ 0 → (following (listIn (graphIn f h .start) w l) (roll (graphIn f h)) ≡ none) × (take l w' ≡ take l w)
 retreating-all {f} {w} {h = h} {l = l} r e = (
-  last-of-roll (graphIn f h) (valid-well-formed (r .prepared .valid)) l (r .prepared .least) (upTo (graphIn f h) w l) (r .listed) none-greater,
+  last-of-roll (graphIn f h) (valid-well-formed (r .prepared .valid)) l (r .prepared .least) (listIn (graphIn f h .start) w l) (r .listed) none-greater,
   same-take (h .states) l (r .same) (omega (arith, length-fits (r .prepared))),
 )
   where
-    none-greater : (i y : ℕ) → i ≤ l → getD (upTo (graphIn f h) w l) i 0 < y → Extends (graphIn f h) l (take i (upTo (graphIn f h) w l) ++ y ∷ []) → ⊥
+    none-greater : (i y : ℕ) → i ≤ l → getD (listIn (graphIn f h .start) w l) i 0 < y → Extends (graphIn f h) l (take i (listIn (graphIn f h .start) w l) ++ y ∷ []) → ⊥
     none-greater zero y a more x = omega (arith, extends-start (graphIn f h) l y x)
     none-greater (suc i) y a more x = r .none-greater (suc i) y (omega arith) a more x
 
@@ -99,11 +100,11 @@ module _ {f w w' : List ℕ} {h : Header} {l p bound : ℕ} (r : Raising f h l w
   still-prepared = prepared-same (r .retreating .prepared) (r .retreating .same)
 
   -- what the search for a greater state asks
-  pub raising-asks : Prepared f h w' l × ((p < l) × T (pathb (graphIn f h) (upTo (graphIn f h) w' p)))
+  pub raising-asks : Prepared f h w' l × ((p < l) × T (pathb (graphIn f h) (listIn (graphIn f h .start) w' p)))
   raising-asks = (still-prepared, (inside, subst (λ (xs : List ℕ). T (pathb (graphIn f h) (graphIn f h .start ∷ xs))) (before-place ∙ sym same-list) path))
     where
-      whole : T (pathb (graphIn f h) (upTo (graphIn f h) w l))
-      whole = lasso-path (graphIn f h) (upTo (graphIn f h) w l) (roll-lasso (graphIn f h) l (r .retreating .prepared .least) (upTo (graphIn f h) w l) (r .retreating .listed) .0)
+      whole : T (pathb (graphIn f h) (listIn (graphIn f h .start) w l))
+      whole = lasso-path (graphIn f h) (listIn (graphIn f h .start) w l) (roll-lasso (graphIn f h) l (r .retreating .prepared .least) (listIn (graphIn f h .start) w l) (r .retreating .listed) .0)
 
       path : T (pathb (graphIn f h) (graphIn f h .start ∷ take p (take l w)))
       path =
@@ -111,15 +112,15 @@ module _ {f w w' : List ℕ} {h : Header} {l p bound : ℕ} (r : Raising f h l w
           (subst (λ (xs : List ℕ). T (pathb (graphIn f h) (graphIn f h .start ∷ xs))) (sym (take-append-drop p (take l w))) whole)
 
   -- the state that stands at the place
-  stands : getD (upTo (graphIn f h) w l) (suc p) 0 ≡ getD w p 0
+  stands : getD (listIn (graphIn f h .start) w l) (suc p) 0 ≡ getD w p 0
   stands = getD-take l w p 0 inside
 
   -- a state that may stand at the place of the whole list may stand after the list up to there
-  pub may-stand : (y : ℕ) → Extends (graphIn f h) l (take (suc p) (upTo (graphIn f h) w l) ++ y ∷ []) → Extends (graphIn f h) l (upTo (graphIn f h) w' p ++ y ∷ [])
+  pub may-stand : (y : ℕ) → Extends (graphIn f h) l (take (suc p) (listIn (graphIn f h .start) w l) ++ y ∷ []) → Extends (graphIn f h) l (listIn (graphIn f h .start) w' p ++ y ∷ [])
   may-stand y x = subst (λ (xs : List ℕ). Extends (graphIn f h) l (graphIn f h .start ∷ xs ++ y ∷ [])) (before-place ∙ sym same-list) x
 
   -- if no state from the bound on may stand at the place, it is passed
-  pub raising-nothing : {v : List ℕ} → SameOutside (2 * h .states) (6 * h .states) w' v → ((y : ℕ) → bound ≤ y → Extends (graphIn f h) l (upTo (graphIn f h) w' p ++ y ∷ []) → ⊥) → Retreating f h l w v p
+  pub raising-nothing : {v : List ℕ} → SameOutside (2 * h .states) (6 * h .states) w' v → ((y : ℕ) → bound ≤ y → Extends (graphIn f h) l (listIn (graphIn f h .start) w' p ++ y ∷ []) → ⊥) → Retreating f h l w v p
   raising-nothing same nothing =
       record {
         prepared = r .retreating .prepared;
@@ -129,22 +130,22 @@ module _ {f w w' : List ℕ} {h : Header} {l p bound : ℕ} (r : Raising f h l w
         none-greater = none-greater;
       }
     where
-      here : (y : ℕ) → getD (upTo (graphIn f h) w l) (suc p) 0 < y → Extends (graphIn f h) l (take (suc p) (upTo (graphIn f h) w l) ++ y ∷ []) → ⊥
+      here : (y : ℕ) → getD (listIn (graphIn f h .start) w l) (suc p) 0 < y → Extends (graphIn f h) l (take (suc p) (listIn (graphIn f h .start) w l) ++ y ∷ []) → ⊥
       here y more x = nothing y (omega (arith, r .bound-is, stands)) (may-stand y x)
 
-      none-greater : (i y : ℕ) → p < i → i ≤ l → getD (upTo (graphIn f h) w l) i 0 < y → Extends (graphIn f h) l (take i (upTo (graphIn f h) w l) ++ y ∷ []) → ⊥
+      none-greater : (i y : ℕ) → p < i → i ≤ l → getD (listIn (graphIn f h .start) w l) i 0 < y → Extends (graphIn f h) l (take i (listIn (graphIn f h .start) w l) ++ y ∷ []) → ⊥
       none-greater i y a b =
           elim (lt-or-ge (p + 1) i) [
             | inl q ↦ r .retreating .none-greater i y q b
             | inr q ↦
                 let e : suc p ≡ i = omega arith in
-                subst (λ (k : ℕ). getD (upTo (graphIn f h) w l) k 0 < y → Extends (graphIn f h) l (take k (upTo (graphIn f h) w l) ++ y ∷ []) → ⊥) e (here y)
+                subst (λ (k : ℕ). getD (listIn (graphIn f h .start) w l) k 0 < y → Extends (graphIn f h) l (take k (listIn (graphIn f h .start) w l) ++ y ∷ []) → ⊥) e (here y)
           ]
 
   -- The least state t from the bound on that may stand at the place is stored there.
-  module _ {v : List ℕ} {t : ℕ} (same : SameOutside (2 * h .states) (6 * h .states) w' v) (o : LeastFollower (graphIn f h) l (upTo (graphIn f h) w' p) bound t) where
-    -- what completing the list behind the place asks
-    pub raised-asks : Prepared f h (set v p t) l × ((p + 1 ≤ l) × Extends (graphIn f h) l (upTo (graphIn f h) (set v p t) (p + 1)))
+  module _ {v : List ℕ} {t : ℕ} (same : SameOutside (2 * h .states) (6 * h .states) w' v) (o : LeastFollower (graphIn f h) l (listIn (graphIn f h .start) w' p) bound t) where
+    -- what completing the list after the place asks
+    pub raised-asks : Prepared f h (set v p t) l × ((p + 1 ≤ l) × Extends (graphIn f h) l (listIn (graphIn f h .start) (set v p t) (p + 1)))
     raised-asks = (
       prepared-kept still-prepared (stored-kept t still-prepared inside same),
       (omega (arith, inside), subst (λ (xs : List ℕ). Extends (graphIn f h) l (graphIn f h .start ∷ xs)) (sym (stored-take t still-prepared inside same)) (o .extends)),
@@ -157,9 +158,9 @@ module _ {f w w' : List ℕ} {h : Header} {l p bound : ℕ} (r : Raising f h l w
         (kept-trans (stored-kept t still-prepared inside same) (c .kept))
 
     -- the completed list follows the list of the table w
-    pub raised-follows : {u : List ℕ} → Completed (graphIn f h) l (p + 1) (set v p t) u → following (upTo (graphIn f h) w l) (roll (graphIn f h)) ≡ some (upTo (graphIn f h) u l)
+    pub raised-follows : {u : List ℕ} → Completed (graphIn f h) l (p + 1) (set v p t) u → following (listIn (graphIn f h .start) w l) (roll (graphIn f h)) ≡ some (listIn (graphIn f h .start) u l)
     raised-follows {u} c =
-        next-of-roll (graphIn f h) (valid-well-formed (r .retreating .prepared .valid)) l (r .retreating .prepared .least) (upTo (graphIn f h) w l) (upTo (graphIn f h) u l) (suc p)
+        next-of-roll (graphIn f h) (valid-well-formed (r .retreating .prepared .valid)) l (r .retreating .prepared .least) (listIn (graphIn f h .start) w l) (listIn (graphIn f h .start) u l) (suc p)
         (r .retreating .listed) (c .lasso) (c .length) inside agrees
         (omega (arith, stands, raised, r .bound-is, o .from-bound))
         (λ y more less x. o .least y (omega (arith, r .bound-is, stands)) (omega (arith, raised)) (may-stand y x))
@@ -172,12 +173,12 @@ module _ {f w w' : List ℕ} {h : Header} {l p bound : ℕ} (r : Raising f h l w
         long : length (take p w) ≡ p
         long = length-take-le p w (omega (arith, inside, length-fits (r .retreating .prepared), r .retreating .prepared .room))
 
-        agrees : take (suc p) (upTo (graphIn f h) u l) ≡ take (suc p) (upTo (graphIn f h) w l)
+        agrees : take (suc p) (listIn (graphIn f h .start) u l) ≡ take (suc p) (listIn (graphIn f h .start) w l)
         agrees =
             ap (λ (xs : List ℕ). graphIn f h .start ∷ xs)
             (take-take p l u (omega (arith, inside)) ∙ sym (take-take p (p + 1) u (omega arith)) ∙ ap (take p) begins ∙ take-at (take p w) (t ∷ []) p long ∙ sym before-place)
 
-        raised : getD (upTo (graphIn f h) u l) (suc p) 0 ≡ t
+        raised : getD (listIn (graphIn f h .start) u l) (suc p) 0 ≡ t
         raised =
             getD-take l u p 0 inside ∙ sym (getD-take (p + 1) u p 0 (omega arith)) ∙ ap (λ (xs : List ℕ). getD xs p 0) begins
             ∙ getD-at (take p w) t [] 0 p long

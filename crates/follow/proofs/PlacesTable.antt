@@ -9,16 +9,16 @@ use lib.ListN.{length, getD, take, set, length-take, length-set}
 use lib.Seq.{ext-getD, getD-take, getD-set-same, getD-set-other, take-suc-set, length-take-le}
 use lib.Dec.{T}
 use Rattle.lasso.specs.Graph.{WellFormed, pathb}
-use Rattle.lasso.proofs.Tests.{lt-or-ge}
+use Rattle.lists.proofs.Tests.{lt-or-ge}
 use Rattle.lasso.proofs.Walk.{path-states}
 use Rattle.lasso.proofs.RollLaws.{leastLength-range}
 use Rattle.model.specs.declared.Header.{Header}
 use Rattle.model.specs.Model.{graphIn}
 use Rattle.model.proofs.Laws.{Sizes, valid-sizes, valid-well-formed}
 use Rattle.table.specs.Changes.{SameOutside}
-use Rattle.current.specs.Current.{stateAt}
+use Rattle.current.specs.Current.{stateAt, listIn}
 use Rattle.stems.proofs.StemTable.{stems-kept}
-use Rattle.follow.specs.Follow.{Prepared, StatesTo, upTo}
+use Rattle.follow.specs.Follow.{Prepared, StatesTo}
 use Rattle.follow.specs.Places.{LeastFollower, Kept}
 use Rattle.follow.proofs.FollowTable.{prepared-same}
 use Rattle.follow.proofs.ExtendLaws.{path-begin, extends-path}
@@ -32,10 +32,10 @@ pub length-fits : {f w : List ℕ} {h : Header} {l : ℕ} → Prepared f h w l �
 length-fits p = prepared-sizes p .0
 
 -- the states of a path are states
-pub states-to : {f : List ℕ} {h : Header} {w : List ℕ} {l : ℕ} (place : ℕ) → Prepared f h w l → place ≤ l → T (pathb (graphIn f h) (upTo (graphIn f h) w place)) → StatesTo h w place
+pub states-to : {f : List ℕ} {h : Header} {w : List ℕ} {l : ℕ} (place : ℕ) → Prepared f h w l → place ≤ l → T (pathb (graphIn f h) (listIn (graphIn f h .start) w place)) → StatesTo h w place
 states-to {f} {h} {w} {l} place p i path k j =
     subst (λ (x : ℕ). x < h .states) (at k j)
-    (path-states (graphIn f h) (upTo (graphIn f h) w place) wf path (wf .start-state) k (omega (arith, length-take-le place w short)))
+    (path-states (graphIn f h) (listIn (graphIn f h .start) w place) wf path (wf .start-state) k (omega (arith, length-take-le place w short)))
   where
     wf : WellFormed (graphIn f h)
     wf = valid-well-formed (p .valid)
@@ -43,7 +43,7 @@ states-to {f} {h} {w} {l} place p i path k j =
     short : place ≤ length w
     short = omega (arith, prepared-sizes p)
 
-    at : (k : ℕ) → k ≤ place → getD (upTo (graphIn f h) w place) k 0 ≡ stateAt h w k
+    at : (k : ℕ) → k ≤ place → getD (listIn (graphIn f h .start) w place) k 0 ≡ stateAt h w k
     at zero j = refl
     at (suc k) j = getD-take place w k 0 (omega arith)
 
@@ -95,11 +95,11 @@ prepared-kept {f} {w} {w'} {h} {l} p k =
     sizes : Sizes f h
     sizes = valid-sizes (p .valid)
 
--- a store behind the list makes it one longer
+-- a store after the list makes it one longer
 pub set-take : (w : List ℕ) (p t : ℕ) → p < length w → take (p + 1) (set w p t) ≡ take p w ++ t ∷ []
 set-take w p t h = rw (add-one p) (take-suc-set w p t h)
 
--- a state is stored behind the list
+-- a state is stored after the list
 module _ {f w : List ℕ} {h : Header} {l place : ℕ} (t : ℕ) (p : Prepared f h w l) (inside : place < l) where
   -- the listing can go on
   pub set-prepared : Prepared f h (set w place t) l
@@ -118,22 +118,22 @@ module _ {f w : List ℕ} {h : Header} {l place : ℕ} (t : ℕ) (p : Prepared f
 
 -- what `append` asks of the table and of the least state that may stand at the next place, which tests found
 pub append-asks : {f w v : List ℕ} {h : Header} {l place bound t : ℕ} → Prepared f h w l → place < l → SameOutside (2 * h .states) (6 * h .states) w v
-    → LeastFollower (graphIn f h) l (upTo (graphIn f h) w place) bound t → Prepared f h v l × ((place < l) × (StatesTo h v place × (t < h .states)))
+    → LeastFollower (graphIn f h) l (listIn (graphIn f h .start) w place) bound t → Prepared f h v l × ((place < l) × (StatesTo h v place × (t < h .states)))
 append-asks {f} {w} {v} {h} {l} {place} {t = t} p inside same o = (
   prepared-same p same,
   (inside, (states-to place (prepared-same p same) (omega arith) path, omega (arith, valid-sizes (p .valid), o .state))),
 )
   where
-    path : T (pathb (graphIn f h) (upTo (graphIn f h) v place))
+    path : T (pathb (graphIn f h) (listIn (graphIn f h .start) v place))
     path =
         rw (same-take (h .states) place same (omega (arith, length-fits p)))
-        (path-begin (graphIn f h) (upTo (graphIn f h) w place) (t ∷ []) (extends-path (graphIn f h) l (upTo (graphIn f h) w place ++ t ∷ []) (o .extends)))
+        (path-begin (graphIn f h) (listIn (graphIn f h .start) w place) (t ∷ []) (extends-path (graphIn f h) l (listIn (graphIn f h .start) w place ++ t ∷ []) (o .extends)))
 
--- a test and a store behind the list keep what the listing keeps
+-- a test and a store after the list keep what the listing keeps
 pub stored-kept : {f w v : List ℕ} {h : Header} {l place : ℕ} (t : ℕ) → Prepared f h w l → place < l → SameOutside (2 * h .states) (6 * h .states) w v → Kept (h .states) w (set v place t)
 stored-kept {v = v} {h = h} {place = place} t p inside same = kept-trans (same-kept (h .states) same) (set-kept (h .states) v place t (omega (arith, length-fits p)))
 
--- a test and a store behind the list make it one longer
+-- a test and a store after the list make it one longer
 pub stored-take : {f w v : List ℕ} {h : Header} {l place : ℕ} (t : ℕ) → Prepared f h w l → place < l → SameOutside (2 * h .states) (6 * h .states) w v → take (place + 1) (set v place t) ≡ take place w ++ t ∷ []
 stored-take {v = v} {h = h} {place = place} t p inside same =
     set-take v place t (omega (arith, length-fits p, p .room, same .same-length))

@@ -3,7 +3,7 @@ use Prim.Native.Nat.{ℕ, suc, _+_, _*_, _/_, _%_, _≤_, _<_}
 use mathlib.Core.Path.{_≡_}
 use mathlib.Core.List.{List, [], _∷_, _++_}
 use mathlib.Core.Option.{some}
-use lib.ListN.{length, getD, take}
+use lib.ListN.{length, getD}
 use lib.Dec.{T}
 use Rattle.lasso.specs.Graph.{Graph}
 use Rattle.lasso.specs.Roll.{leastLength}
@@ -12,12 +12,8 @@ use Rattle.model.specs.declared.Header.{Header}
 use Rattle.model.specs.Values.{Valid}
 use Rattle.model.specs.Model.{graphIn}
 use Rattle.frontier.specs.Regions.{entry}
-use Rattle.current.specs.Current.{stateAt}
+use Rattle.current.specs.Current.{listIn, stateAt}
 use Rattle.stems.specs.Stems.{StemEntries}
-
--- the list up to a place: the start, and then what region 0 holds
-abbrev pub upTo : Graph → List ℕ → ℕ → List ℕ
-upTo g w place = g .start ∷ take place w
 
 -- what stands in the list up to a place are states
 abbrev pub StatesTo : Header → List ℕ → ℕ → Type 0
@@ -53,4 +49,4 @@ ClosesStart n start w place left =
 
 -- state t may stand after the list up to a place: the two begin a lasso with l transitions
 abbrev pub MayFollow : Graph → ℕ → List ℕ → ℕ → ℕ → Type 0
-MayFollow g l w place t = Extends g l (upTo g w place ++ t ∷ [])
+MayFollow g l w place t = Extends g l (listIn (g .start) w place ++ t ∷ [])

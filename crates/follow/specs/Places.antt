@@ -11,7 +11,7 @@ use Rattle.lasso.specs.Graph.{Graph, edges, lassob}
 use Rattle.lasso.specs.Roll.{roll}
 use Rattle.lasso.specs.Following.{following}
 use Rattle.lasso.specs.Extends.{Extends}
-use Rattle.follow.specs.Follow.{upTo}
+use Rattle.current.specs.Current.{listIn}
 
 -- the least state from a bound on that may stand after q
 pub record LeastFollower (g : Graph) (l : ℕ) (q : List ℕ) (bound t : ℕ) : Type 0 where
@@ -31,16 +31,16 @@ pub record Kept (n : ℕ) (w w' : List ℕ) : Type 0 where
 pub record Completed (g : Graph) (l from : ℕ) (w w' : List ℕ) : Type 0 where
   pub kept : Kept (g .size) w w'
   pub prefix : take from w' ≡ take from w
-  pub lasso : T (lassob g (upTo g w' l))
-  pub length : edges (upTo g w' l) ≡ l
-  pub least : (i y : ℕ) → from < i → i ≤ l → y < getD (upTo g w' l) i 0
-      → Extends g l (take i (upTo g w' l) ++ y ∷ []) → ⊥
+  pub lasso : T (lassob g (listIn (g .start) w' l))
+  pub length : edges (listIn (g .start) w' l) ≡ l
+  pub least : (i y : ℕ) → from < i → i ≤ l → y < getD (listIn (g .start) w' l) i 0
+      → Extends g l (take i (listIn (g .start) w' l) ++ y ∷ []) → ⊥
 
 -- the first of the roll stands in the table
 abbrev pub HoldsFirst : Graph → ℕ → List ℕ → Type 0
-HoldsFirst g l w = head? (roll g) ≡ some (upTo g w l)
+HoldsFirst g l w = head? (roll g) ≡ some (listIn (g .start) w l)
 
 -- the list was replaced by the one after it, or it was the last and stands as before
 abbrev pub Replaced : Graph → ℕ → List ℕ → List ℕ → Bool → Type 0
-Replaced g l w w' true = following (upTo g w l) (roll g) ≡ some (upTo g w' l)
-Replaced g l w w' false = (following (upTo g w l) (roll g) ≡ none) × (take l w' ≡ take l w)
+Replaced g l w w' true = following (listIn (g .start) w l) (roll g) ≡ some (listIn (g .start) w' l)
+Replaced g l w w' false = (following (listIn (g .start) w l) (roll g) ≡ none) × (take l w' ≡ take l w)

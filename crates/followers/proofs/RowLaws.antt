@@ -9,36 +9,37 @@ use lib.ListN.{length, getD, take}
 use lib.Seq.{getD-take, length-take-le}
 use lib.Dec.{T}
 use Rattle.lasso.specs.Graph.{WellFormed, edgeb, pathb}
-use Rattle.lasso.proofs.Tests.{at-memb}
+use Rattle.lists.proofs.Tests.{at-memb}
 use Rattle.lasso.proofs.Walk.{path-states}
-use Rattle.lasso.specs.Decides.{Decides}
+use Rattle.lists.specs.Decides.{Decides}
 use Rattle.model.specs.declared.Header.{Header}
 use Rattle.model.specs.Model.{graphIn}
 use Rattle.model.proofs.Laws.{Sizes, valid-sizes, valid-well-formed}
 use Rattle.table.specs.Changes.{SameOutside}
-use Rattle.follow.specs.Follow.{Prepared, upTo}
+use Rattle.current.specs.Current.{listIn}
+use Rattle.follow.specs.Follow.{Prepared}
 use Rattle.follow.proofs.FollowTable.{prepared-same}
 use Rattle.follow.proofs.ExtendLaws.{path-snoc}
 use Rattle.follow.proofs.PlacesTable.{prepared-sizes, same-take}
 
 -- the last state of the list up to a place is the one at that place
-pub upTo-last : (x : ℕ) (w : List ℕ) (p : ℕ) → p ≤ length w → getD (x ∷ take p w) (length (take p w)) 0 ≡ getD (x ∷ w) p 0
-upTo-last x w zero h = refl
-upTo-last x w (suc p) h = rw (length-take-le (suc p) w h) (getD-take (suc p) w p 0 (omega arith))
+pub listIn-last : (x : ℕ) (w : List ℕ) (p : ℕ) → p ≤ length w → getD (x ∷ take p w) (length (take p w)) 0 ≡ getD (x ∷ w) p 0
+listIn-last x w zero h = refl
+listIn-last x w (suc p) h = rw (length-take-le (suc p) w h) (getD-take (suc p) w p 0 (omega arith))
 
 -- what is known of the state s at a place of the list, which is its last state up to there
 pub record StateRead (f : List ℕ) (h : Header) (w : List ℕ) (l place s : ℕ) : Type 0 where
   pub prepared : Prepared f h w l
   pub inside : place < l
-  pub path : T (pathb (graphIn f h) (upTo (graphIn f h) w place))
+  pub path : T (pathb (graphIn f h) (listIn (graphIn f h .start) w place))
   pub sizes : Sizes f h
   pub fits : l ≤ h .states
   pub long : length (take place w) ≡ place
-  pub last : s ≡ getD (upTo (graphIn f h) w place) (length (take place w)) 0
+  pub last : s ≡ getD (listIn (graphIn f h .start) w place) (length (take place w)) 0
   pub state : s < h .states
 
 -- the state that stands at the last place of a path is its last state
-pub read-row : {f w : List ℕ} {h : Header} {l place s : ℕ} → Prepared f h w l → place < l → T (pathb (graphIn f h) (upTo (graphIn f h) w place)) → s ≡ getD (h .start ∷ w) place 0 → StateRead f h w l place s
+pub read-row : {f w : List ℕ} {h : Header} {l place s : ℕ} → Prepared f h w l → place < l → T (pathb (graphIn f h) (listIn (graphIn f h .start) w place)) → s ≡ getD (h .start ∷ w) place 0 → StateRead f h w l place s
 read-row {f} {w} {h} {l} {place} {s} p inside path at =
     record { prepared = p; inside = inside; path = path; sizes = sizes; fits = prepared-sizes p .0; long = long; last = last; state = state }
   where
@@ -54,11 +55,11 @@ read-row {f} {w} {h} {l} {place} {s} p inside path at =
     long : length (take place w) ≡ place
     long = length-take-le place w short
 
-    last : s ≡ getD (upTo (graphIn f h) w place) (length (take place w)) 0
-    last = at ∙ sym (upTo-last (graphIn f h .start) w place short)
+    last : s ≡ getD (listIn (graphIn f h .start) w place) (length (take place w)) 0
+    last = at ∙ sym (listIn-last (graphIn f h .start) w place short)
 
     state : s < h .states
-    state = omega (arith, last, sizes, path-states (graphIn f h) (upTo (graphIn f h) w place) wf path (wf .start-state) (length (take place w)) (omega arith))
+    state = omega (arith, last, sizes, path-states (graphIn f h) (listIn (graphIn f h .start) w place) wf path (wf .start-state) (length (take place w)) (omega arith))
 
 -- the successor at place k is joined to s by an edge
 successor-edge : {f w : List ℕ} {h : Header} {l place s k : ℕ} (t : ℕ) → StateRead f h w l place s → k < length (graphIn f h .succs s) → t ≡ getD (graphIn f h .succs s) k 0 → T (edgeb (graphIn f h) s t)
@@ -70,10 +71,10 @@ successor-state {s = s} t r inside at = omega (arith, r .sizes, valid-well-forme
 
 -- what the test of the successor t at place k asks, after tests of others
 pub test-asks : {f w w' : List ℕ} {h : Header} {l place s k : ℕ} (t : ℕ) → StateRead f h w l place s → SameOutside (2 * h .states) (6 * h .states) w w' → k < length (graphIn f h .succs s) → t ≡ getD (graphIn f h .succs s) k 0
-    → Prepared f h w' l × ((place < l) × ((t < h .states) × T (pathb (graphIn f h) (upTo (graphIn f h) w' place ++ t ∷ []))))
+    → Prepared f h w' l × ((place < l) × ((t < h .states) × T (pathb (graphIn f h) (listIn (graphIn f h .start) w' place ++ t ∷ []))))
 test-asks {f} {w} {w'} {h} {l} {place} {s} {k} t r same inside at = (prepared-same (r .prepared) same, (r .inside, (successor-state t r inside at, path)))
   where
-    path : T (pathb (graphIn f h) (upTo (graphIn f h) w' place ++ t ∷ []))
+    path : T (pathb (graphIn f h) (listIn (graphIn f h .start) w' place ++ t ∷ []))
     path =
         rw (same-take (h .states) place same (omega (arith, r .inside, r .fits)))
         (path-snoc (graphIn f h) (graphIn f h .start) (take place w) t (r .path) (subst (λ (u : ℕ). T (edgeb (graphIn f h) u t)) (r .last) (successor-edge t r inside at)))

@@ -6,7 +6,8 @@ ghost use lib.Dec.{T};
 ghost use Rattle.lasso.specs.Graph.{pathb};
 ghost use Rattle.lasso.specs.Extends.{Extends};
 ghost use Rattle.model.specs.Model.{graphIn};
-ghost use Rattle.follow.specs.Follow.{upTo, Prepared};
+ghost use Rattle.current.specs.Current.{listIn};
+ghost use Rattle.follow.specs.Follow.{Prepared};
 ghost use Rattle.passed.specs.Passed.{PassedAt, KnownFrom};
 ghost use Rattle.followers.specs.Followers.{TrySays, LeastFound, FirstFound};
 use current::list_at;
@@ -52,7 +53,7 @@ fn try_next(
     requires { ⌜ Prepared (now file) h (now work) (transitions .0) ⌝ }
     requires { ⌜ place < transitions .0 ⌝ }
     requires { ⌜ t < h .states ⌝ }
-    requires { ⌜ T (pathb (graphIn (now file) h) (upTo (graphIn (now file) h) (now work) place ++ t ∷ [])) ⌝ }
+    requires { ⌜ T (pathb (graphIn (now file) h) (listIn (h .start) (now work) place ++ t ∷ [])) ⌝ }
     requires { ⌜ PassedAt (now file) h (now work) (transitions .0) place passed ⌝ }
     ensures { λ r. ⌜ TrySays (now (file .entry)) h (now (work .entry)) (now (work .exit)) (transitions .0) place bound t r ⌝ }
 {
@@ -77,7 +78,7 @@ pub fn least_follower(
 ) -> Found
     requires { ⌜ Prepared (now file) h (now work) (transitions .0) ⌝ }
     requires { ⌜ place < transitions .0 ⌝ }
-    requires { ⌜ T (pathb (graphIn (now file) h) (upTo (graphIn (now file) h) (now work) place)) ⌝ }
+    requires { ⌜ T (pathb (graphIn (now file) h) (listIn (h .start) (now work) place)) ⌝ }
     requires { ⌜ KnownFrom (now file) h (now work) (transitions .0) place passed ⌝ }
     ensures { λ r. ⌜ LeastFound (now (file .entry)) h (now (work .entry)) (now (work .exit)) (transitions .0) place bound r ⌝ }
 {
@@ -115,7 +116,7 @@ pub fn first_follower(
 ) -> Chosen
     requires { ⌜ Prepared (now file) h (now work) (transitions .0) ⌝ }
     requires { ⌜ place < transitions .0 ⌝ }
-    requires { ⌜ Extends (graphIn (now file) h) (transitions .0) (upTo (graphIn (now file) h) (now work) place) ⌝ }
+    requires { ⌜ Extends (graphIn (now file) h) (transitions .0) (listIn (h .start) (now work) place) ⌝ }
     requires { ⌜ PassedAt (now file) h (now work) (transitions .0) place passed ⌝ }
     ensures { λ r. ⌜ FirstFound (now (file .entry)) h (now (work .entry)) (now (work .exit)) (transitions .0) place r ⌝ }
 {

@@ -7,13 +7,12 @@ use native.Mathlib.Omega.{arith}
 use native.Mathlib.Nat.{le-refl, le-trans}
 use lib.ListN.{length}
 use lib.Dec.{T, eqb, ltb, eqb→eq, ltb→lt, nltb→le}
-use Rattle.lasso.specs.Lists.{anyb, below}
-use Rattle.lasso.specs.Graph.{ascendingb}
-use Rattle.lasso.proofs.Tests.{anyb-some, upFrom-range}
+use Rattle.lists.specs.Lists.{anyb, below, ascendingb}
+use Rattle.lists.proofs.Tests.{anyb-some, upFrom-range}
 use Rattle.format.specs.Bytes.{long}
 use Rattle.format.specs.Layout.{states, edgeCount, markBytes, rowEntry, target, rowTargets, markBit}
 use Rattle.format.specs.Rules.{badStates, totalFits, badOffsets, badLength, badRows, badTargets, badOrder, spareSet, badSpare}
-use Rattle.format.proofs.Reasons.{kept, not-not, neqb→ne, none-passes, none-below}
+use Rattle.lists.proofs.Fails.{kept, not-not, neqb→ne, none-passes, none-below}
 
 -- rule 2 is kept: the number of states is 1 to 4,096
 pub states-kept : (f : List ℕ) → T (not (badStates f)) → (1 ≤ states f) × (states f ≤ 4096)

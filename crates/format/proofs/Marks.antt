@@ -10,13 +10,13 @@ use borrow.Author.Tests.{eq-eqb}
 use lib.ListN.{length, getD, List·getD-eq-default}
 use lib.Dec.{T, eqb, eqb→eq}
 use lib.Pow.{pow-pos}
-use Rattle.lasso.specs.Lists.{upFrom, below}
-use Rattle.lasso.proofs.Tests.{either, or-l, or-r, decide, T-true, T-false, eq→eqb, anyb-some, upFrom-range, below-lt}
+use Rattle.lists.specs.Lists.{upFrom, below}
+use Rattle.lists.proofs.Tests.{either, or-l, or-r, decide, T-true, T-false, eq→eqb, anyb-some, upFrom-range, below-lt}
 use Rattle.format.specs.Bytes.{long, bitb}
 use Rattle.format.specs.Layout.{states, edgeCount, rowsAt, edgesAt, marksAt, markBytes, totalOf, tableAt, markBit}
 use Rattle.format.specs.Rules.{totalFits, badOffsets, spareSet, badSpare}
 use Rattle.format.specs.Marks.{OneOrTwoTables, OneOrTwoTotals, SpareOfBothTables, OneTableNoMarks}
-use Rattle.format.proofs.Reasons.{kept, false-not}
+use Rattle.lists.proofs.Fails.{kept, false-not}
 use Rattle.format.proofs.Kept.{spare-kept}
 
 -- no bit of 0 is set

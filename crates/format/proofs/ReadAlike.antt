@@ -8,12 +8,11 @@ use native.Mathlib.Omega.{arith}
 use native.Mathlib.Nat.{le-refl}
 use lib.ListN.{length}
 use lib.Dec.{T, eqb, ltb}
-use Rattle.lasso.specs.Lists.{anyb, upFrom, below, someIf}
-use Rattle.lasso.specs.Graph.{ascendingb}
+use Rattle.lists.specs.Lists.{anyb, upFrom, below, someIf, ascendingb}
 use Rattle.format.specs.Bytes.{long}
-use Rattle.format.specs.Layout.{states, edgeCount, initial, rowsAt, edgesAt, marksAt, markBytes, rowEntry, target, rowTargets}
-use Rattle.format.specs.Rules.{firstBroken, badReserved, badOffsets, badRows, badTargets, badOrder, badSpare, rulesWith}
-use Rattle.format.proofs.Reasons.{false-not}
+use Rattle.format.specs.Layout.{states, edgeCount, startOf, rowsAt, edgesAt, marksAt, markBytes, rowEntry, target, rowTargets}
+use Rattle.format.specs.Rules.{firstBroken, badStays, badOffsets, badRows, badTargets, badOrder, badSpare, rulesWith}
+use Rattle.lists.proofs.Fails.{false-not}
 use Rattle.format.proofs.Kept.{rows-ascend-kept, row-last-kept, row-end-within}
 
 -- tests that agree on a range find a number of it alike
@@ -37,7 +36,7 @@ map-alike g h a (suc n) same =
     map-alike g h (suc a) n (λ x l m. same x (omega arith) (omega arith)) in
     λ i. same a (le-refl a) (omega arith) i ∷ rest i
 
--- what stands behind a reason matters only where it does not hold
+-- what stands after a reason matters only where it does not hold
 behind-alike : (n : ℕ) (b b' : Bool) (o o' : Option ℕ) → b ≡ b' → (b ≡ false → o ≡ o') → someIf b n o ≡ someIf b' n o'
 behind-alike n true b' o o' e later = ap (λ (x : Bool). someIf x n o') e
 behind-alike n false b' o o' e later = later refl ∙ ap (λ (x : Bool). someIf x n o') e
@@ -47,7 +46,7 @@ pub record ReadAlike (f f' : List ℕ) : Type 0 where
   pub same-length : length f ≡ length f'
   pub same-states : states f ≡ states f'
   pub same-edges : edgeCount f ≡ edgeCount f'
-  pub same-initial : initial f ≡ initial f'
+  pub same-start : startOf f ≡ startOf f'
   pub same-offset : (at : ℕ) → 8 ≤ at → at ≤ 20 → long f at ≡ long f' at
   pub same-entry : (s : ℕ) → s ≤ states f → rowEntry f s ≡ rowEntry f' s
   pub same-target : (e : ℕ) → e < edgeCount f → target f e ≡ target f' e
@@ -100,7 +99,7 @@ module _ {f f' : List ℕ} (same : ReadAlike f f') where
       (λ s l i. not (ascendingb (row-alike kept s l i)))
 
   -- the first rule that both break is the same, if both or neither break rule 5 and so it is with rule 11
-  pub first-alike : (total : ℕ → ℕ → ℕ) (tables : ℕ) → badReserved f ≡ badReserved f' → badSpare tables f ≡ badSpare tables f'
+  pub first-alike : (total : ℕ → ℕ → ℕ) (tables : ℕ) → badStays f ≡ badStays f' → badSpare tables f ≡ badSpare tables f'
       → firstBroken (rulesWith (total (states f) (edgeCount f)) tables f) ≡ firstBroken (rulesWith (total (states f') (edgeCount f')) tables f')
   first-alike total tables five eleven =
       let from8 = behind-alike 8 (badRows f) (badRows f') _ _ rows-alike (λ kept i.
@@ -110,7 +109,7 @@ module _ {f f' : List ℕ} (same : ReadAlike f f') where
       someIf (ltb (same .same-length i) 24) 1
       (someIf (eqb n 0 || ltb 4096 n) 2
       (someIf (ltb 8192 (same .same-edges i)) 3
-      (someIf (not (ltb (same .same-initial i) n)) 4
+      (someIf (not (ltb (same .same-start i) n)) 4
       (someIf (five i) 5
       (someIf (offsets-alike total tables i) 6
       (someIf (not (eqb (same .same-length i) (same .same-offset 20 (omega arith) (omega arith) i))) 7

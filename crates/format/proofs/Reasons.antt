@@ -1,15 +1,14 @@
 -- What it says that no reason of a table holds, and how the first one that holds is found.
-use Prim.Native.Nat.{ℕ, _+_, _≤_, _<_}
+use Prim.Native.Nat.{ℕ, _+_}
 use mathlib.Core.Path.{_≡_, refl, sym, ap, subst, _∙_}
-use mathlib.Core.Bool.{Bool, true, false, _||_, not}
+use mathlib.Core.Bool.{Bool, true, false, not}
 use mathlib.Core.List.{List, [], _∷_, _++_}
 use mathlib.Core.Option.{Option, some, none, Option·some-ne-none}
 use native.Mathlib.Omega.{arith}
 use lib.ListN.{drop}
-use lib.Dec.{T, eqb, not-T, T-not}
-use Rattle.lasso.specs.Lists.{anyb, upFrom, below, someIf}
-use Rattle.lasso.proofs.Sorted.{All}
-use Rattle.lasso.proofs.Tests.{some-anyb, range-upFrom, eq→eqb}
+use lib.Dec.{T}
+use Rattle.lists.specs.Lists.{someIf}
+use Rattle.lists.proofs.Sorted.{All}
 use Rattle.format.specs.Rules.{Reason, firstBroken}
 
 -- no reason of a table holds
@@ -17,7 +16,7 @@ abbrev pub Clear : List Reason → Type 0
 Clear [] = Unit {0}
 Clear (r ∷ rs) = T (not (r .holds)) × Clear rs
 
--- a skipped reason does not hold, and the table behind it decides
+-- a skipped reason does not hold, and the table after it decides
 skipped : (b : Bool) (n : ℕ) (o : Option ℕ) → someIf b n o ≡ none → T (not b) × (o ≡ none)
 skipped true n o e = absurd (Option·some-ne-none n e)
 skipped false n o e = (tt, e)
@@ -45,11 +44,11 @@ firstBroken-append [] ss = refl
 firstBroken-append (r ∷ rs) ss =
     rw (firstBroken-append rs ss) (someIf-orElse (r .holds) (r .number) (firstBroken rs) (firstBroken ss))
 
--- if no reason of a table holds, those behind it decide
+-- if no reason of a table holds, those after it decide
 pub clear-append : (rs ss : List Reason) → firstBroken rs ≡ none → firstBroken (rs ++ ss) ≡ firstBroken ss
 clear-append rs ss e = firstBroken-append rs ss ∙ ap (λ (o : Option ℕ). orElse o (firstBroken ss)) e
 
--- if a reason of a table holds, those behind it do not count
+-- if a reason of a table holds, those after it do not count
 pub broken-append : (rs ss : List Reason) (n : ℕ) → firstBroken rs ≡ some n → firstBroken (rs ++ ss) ≡ some n
 broken-append rs ss n e = firstBroken-append rs ss ∙ ap (λ (o : Option ℕ). orElse o (firstBroken ss)) e
 
@@ -70,43 +69,10 @@ broken-number P (r ∷ rs) h n e = go (r .holds) e (λ q. broken-number P rs (h 
     go true q later = let same : r .number ≡ n = cc in subst P same (h .0)
     go false q later = later q
 
--- the first k reasons of a table do not hold: those behind them decide
+-- the first k reasons of a table do not hold: those after them decide
 abbrev pub KeptTo : ℕ → List Reason → Type 0
 KeptTo k rs = firstBroken rs ≡ firstBroken (drop k rs)
 
--- a reason that does not hold leaves the answer to the reasons behind it
+-- a reason that does not hold leaves the answer to the reasons after it
 pub unheld-skipped : (o : Option ℕ) (b : Bool) (n : ℕ) (rest : Option ℕ) → o ≡ someIf b n rest → b ≡ false → o ≡ rest
 unheld-skipped o b n rest e q = e ∙ ap (λ (x : Bool). someIf x n rest) q
-
--- the negation of a test that is false passes
-pub false-not : (b : Bool) → b ≡ false → T (not b)
-false-not b e = rw e tt
-
--- the first part of a disjunction that fails fails
-pub neither-l : (a b : Bool) → T (not (a || b)) → T (not a)
-neither-l true b h = h
-neither-l false b h = tt
-
--- the second part of a disjunction that fails fails
-pub neither-r : (a b : Bool) → T (not (a || b)) → T (not b)
-neither-r true b h = absurd h
-neither-r false b h = h
-
--- a test whose negation fails passes
-pub not-not : (a : Bool) → T (not (not a)) → T a
-not-not true h = tt
-not-not false h = h
-
-pub ruleset kept = (neither-l, neither-r, not-not)
-
--- numbers that are not tested equal differ
-pub neqb→ne : (a b : ℕ) → T (not (eqb a b)) → a ≡ b → ⊥
-neqb→ne a b h e = T-not (eqb a b) h (eq→eqb a b e)
-
--- no number of a range passes a test that finds none
-pub none-passes : (p : ℕ → Bool) (a n : ℕ) → T (not (anyb p (upFrom a n))) → (i : ℕ) → a ≤ i → i < a + n → T (not (p i))
-none-passes p a n h i l m = not-T (p i) (λ t. T-not (anyb p (upFrom a n)) h (some-anyb p (range-upFrom a n i l m) t))
-
--- no number below n passes a test that finds none
-pub none-below : (p : ℕ → Bool) (n : ℕ) → T (not (anyb p (below n))) → (i : ℕ) → i < n → T (not (p i))
-none-below p n h i l = none-passes p 0 n h i (omega arith) (omega arith)

@@ -9,8 +9,7 @@ use lib.ListN.{length, getD, take, drop}
 use lib.Seq.{drop-cons}
 use lib.Dec.{ltb}
 use borrow.Author.Tests.{lt-ltb, le-ltb}
-use Rattle.lasso.specs.Graph.{ascendingb}
-use Rattle.lasso.specs.Lists.{upFrom}
+use Rattle.lists.specs.Lists.{ascendingb, upFrom}
 use Rattle.format.specs.Bytes.{word, words}
 use Rattle.format.specs.Layout.{rowEntry, rowNumbers}
 
@@ -54,7 +53,7 @@ words-row f base s a b ea eb l h =
     let q : base + 2 * b - (base + 2 * a) ≡ 2 * (b - a) = omega arith in
     rw (q, words-part f base a (b - a) (omega arith), ea, eb)
 
--- the test of the numbers from place k on compares the first two and goes on behind the first
+-- the test of the numbers from place k on compares the first two and goes on after the first
 ascending-step :
     (ws : List ℕ) (k : ℕ) → suc k < length ws
     → ascendingb (drop k ws) ≡ (ltb (getD ws k 0) (getD ws (suc k) 0) && ascendingb (drop (suc k) ws))
@@ -80,7 +79,7 @@ module _ (part : List ℕ) (k : ℕ) (more : k + 1 < length part / 2) where
       let n : length (words part) ≡ length part / 2 = words-length part in
       ascending-step (words part) k (omega arith) ∙ rw (e, words-at part k (omega arith), words-at part (k + 1) (omega arith))
 
-  -- a number less than the next leaves the test to the numbers behind it
+  -- a number less than the next leaves the test to the numbers after it
   pub part-rises :
       word part (2 * k) < word part (2 * (k + 1)) → ascendingb (drop k (words part)) ≡ ascendingb (drop (k + 1) (words part))
   part-rises h = part-step ∙ rw (lt-ltb (word part (2 * k)) (word part (2 * (k + 1))) h)

@@ -5,7 +5,8 @@ use mathlib.Core.Bool.{Bool}
 use mathlib.Core.List.{List, map}
 use lib.ListN.{length, getD}
 use lib.Dec.{eqb}
-use Rattle.lasso.specs.Lists.{upFrom}
+use Rattle.numbers.specs.Limits.{mostStates, mostEdges}
+use Rattle.lists.specs.Lists.{upFrom}
 use Rattle.format.specs.Bytes.{word, bitb}
 
 -- N, the number of states
@@ -17,16 +18,16 @@ abbrev pub edgeCount : List ℕ → ℕ
 edgeCount f = word f 2
 
 -- i, the initial state
-abbrev pub initial : List ℕ → ℕ
-initial f = word f 4
+abbrev pub startOf : List ℕ → ℕ
+startOf f = word f 4
 
 -- bytes 6–7
-abbrev pub reserved : List ℕ → ℕ
-reserved f = word f 6
+abbrev pub staysWord : List ℕ → ℕ
+staysWord f = word f 6
 
 -- a state without edges has an implied step to itself: bytes 6–7 are 1
 abbrev pub stays : List ℕ → Bool
-stays f = eqb (reserved f) 1
+stays f = eqb (staysWord f) 1
 
 -- the offset of the row table, which has N + 1 numbers of 16 bits
 abbrev pub rowsAt : ℕ
@@ -77,6 +78,6 @@ markBit f t s = bitb (getD f (tableAt (states f) (edgeCount f) t + s / 8) 0) (s 
 pub record HasTables (f : List ℕ) (n m : ℕ) : Type 0 where
   pub states-are : n ≡ states f
   pub edges-are : m ≡ edgeCount f
-  pub states-limit : n ≤ 4096
-  pub edges-limit : m ≤ 8192
+  pub states-limit : n ≤ mostStates
+  pub edges-limit : m ≤ mostEdges
   pub room : totalOf n m ≤ length f

@@ -4,3 +4,4 @@ pub mod Bytes
 pub mod Layout
 pub mod Rules
 pub mod Marks
+pub mod ExampleD

@@ -6,7 +6,8 @@ use mathlib.Core.Bool.{Bool, false}
 use mathlib.Core.List.{List, [], _∷_}
 use lib.ListN.{length}
 use lib.Dec.{eqb}
-use Rattle.lasso.specs.Lists.{pick}
+use Rattle.lists.specs.Lists.{pick}
+use Rattle.numbers.specs.Reasons as reason
 use Rattle.format.specs.Bytes.{long}
 use Rattle.format.specs.Layout.{states, edgeCount, rowsAt, edgesAt, marksAt, markBytes, totalOf, markBit}
 use Rattle.format.specs.Rules.{Reason, rules}
@@ -24,12 +25,12 @@ OneOrTwoTables f =
 
 -- Reason 6 allows the total with one mark table or with two, and no other; the offsets are those that N and M give.
 abbrev pub OneOrTwoTotals : Type 0
-OneOrTwoTotals = (f : List ℕ) → (holdsIn (rules f) 6 ≡ false) ↔
+OneOrTwoTotals = (f : List ℕ) → (holdsIn (rules f) reason.badOffsets ≡ false) ↔
     ((long f 8 ≡ rowsAt) × (long f 12 ≡ edgesAt (states f)) × (long f 16 ≡ marksAt (states f) (edgeCount f)) × OneOrTwoTables f)
 
 -- Reason 11 covers both tables: it fails to hold exactly if every spare bit of both is zero.
 abbrev pub SpareOfBothTables : Type 0
-SpareOfBothTables = (f : List ℕ) → (holdsIn (rules f) 11 ≡ false) ↔
+SpareOfBothTables = (f : List ℕ) → (holdsIn (rules f) reason.badSpare ≡ false) ↔
     ((t : ℕ) → t ≤ 1 → (s : ℕ) → states f ≤ s → s < 8 * markBytes (states f) → markBit f t s ≡ false)
 
 -- In a file with one table, table 1 holds no marks.

@@ -6,10 +6,11 @@ use mathlib.Core.List.{List, [], _∷_, _++_}
 use mathlib.Core.Option.{Option, none}
 use lib.ListN.{length}
 use lib.Dec.{eqb, ltb}
-use Rattle.lasso.specs.Lists.{anyb, upFrom, below, someIf}
-use Rattle.lasso.specs.Graph.{ascendingb}
+use Rattle.numbers.specs.Reasons as reason
+use Rattle.numbers.specs.Limits.{mostStates, mostEdges}
+use Rattle.lists.specs.Lists.{anyb, upFrom, below, someIf, ascendingb}
 use Rattle.format.specs.Bytes.{long}
-use Rattle.format.specs.Layout.{states, edgeCount, initial, reserved, rowsAt, edgesAt, marksAt, markBytes, totalOf, rowEntry, target, rowTargets, markBit}
+use Rattle.format.specs.Layout.{states, edgeCount, startOf, staysWord, rowsAt, edgesAt, marksAt, markBytes, totalOf, rowEntry, target, rowTargets, markBit}
 
 -- a reason to refuse: its number, and whether it holds
 pub record Reason : Type 0 where
@@ -27,19 +28,19 @@ shortFile f = ltb (length f) 24
 
 -- 2. N is 0 or above 4,096
 abbrev pub badStates : List ℕ → Bool
-badStates f = eqb (states f) 0 || ltb 4096 (states f)
+badStates f = eqb (states f) 0 || ltb mostStates (states f)
 
 -- 3. M is above 8,192
 abbrev pub badEdges : List ℕ → Bool
-badEdges f = ltb 8192 (edgeCount f)
+badEdges f = ltb mostEdges (edgeCount f)
 
 -- 4. the initial state is not below N
-abbrev pub badInitial : List ℕ → Bool
-badInitial f = not (ltb (initial f) (states f))
+abbrev pub badStart : List ℕ → Bool
+badStart f = not (ltb (startOf f) (states f))
 
 -- 5. bytes 6–7 are above 1
-abbrev pub badReserved : List ℕ → Bool
-badReserved f = ltb 1 (reserved f)
+abbrev pub badStays : List ℕ → Bool
+badStays f = ltb 1 (staysWord f)
 
 -- the total length is one that a kind of file may have: `total` with one mark table, and one table's size more with each
 -- further one, up to `tables`
@@ -84,22 +85,22 @@ badSpare tables f = anyb (spareSet f) (below tables)
 -- the reasons 1 to 5, about the header's first fields, which are the same for every kind of file
 abbrev pub headRules : List ℕ → List Reason
 headRules f =
-    record { number = 1; holds = shortFile f } ∷
-    record { number = 2; holds = badStates f } ∷
-    record { number = 3; holds = badEdges f } ∷
-    record { number = 4; holds = badInitial f } ∷
-    record { number = 5; holds = badReserved f } ∷ []
+    record { number = reason.shortFile; holds = shortFile f } ∷
+    record { number = reason.badStates; holds = badStates f } ∷
+    record { number = reason.badEdges; holds = badEdges f } ∷
+    record { number = reason.badStart; holds = badStart f } ∷
+    record { number = reason.badStays; holds = badStays f } ∷ []
 
 -- the table of reasons for a kind of file, by its total length with one mark table and the most mark tables that it may have
 abbrev pub rulesWith : (total tables : ℕ) → List ℕ → List Reason
 rulesWith total tables f =
     headRules f ++
-    record { number = 6; holds = badOffsets total tables f } ∷
-    record { number = 7; holds = badLength f } ∷
-    record { number = 8; holds = badRows f } ∷
-    record { number = 9; holds = badTargets f } ∷
-    record { number = 10; holds = badOrder f } ∷
-    record { number = 11; holds = badSpare tables f } ∷ []
+    record { number = reason.badOffsets; holds = badOffsets total tables f } ∷
+    record { number = reason.badLength; holds = badLength f } ∷
+    record { number = reason.badRows; holds = badRows f } ∷
+    record { number = reason.badTargets; holds = badTargets f } ∷
+    record { number = reason.badOrder; holds = badOrder f } ∷
+    record { number = reason.badSpare; holds = badSpare tables f } ∷ []
 
 -- the table of reasons that every call applies to its file: the total length is the one that N and M give with one mark
 -- table or with two

@@ -3,6 +3,7 @@
 ghost use mathlib.Core.Path.{_≡_};
 ghost use Prim.Native.Nat.{_+_, _*_, _≤_, _<_};
 ghost use lib.ListN.{length};
+ghost use Rattle.numbers.specs.Limits.{mostStates, mostEdges};
 ghost use Rattle.format.specs.Bytes.{words};
 ghost use Rattle.format.specs.Layout.{states, rowsAt, edgesAt, marksAt, markBytes, totalOf, tableAt, rowEntry, rowNumbers, rowTargets};
 use crate::bytes::entry_at;
@@ -12,7 +13,7 @@ const ROWS_AT: usize = 24;
 
 // The offset of the edge table.
 pub fn edges_at(n: usize) -> usize
-    requires { ⌜ n ≤ 4096 ⌝ }
+    requires { ⌜ n ≤ mostStates ⌝ }
     ensures { λ r. ⌜ r ≡ edgesAt n ⌝ }
 {
     ROWS_AT + 2 * (n + 1)
@@ -20,7 +21,7 @@ pub fn edges_at(n: usize) -> usize
 
 // The offset of the marks.
 pub fn marks_at(n: usize, m: usize) -> usize
-    requires { ⌜ (n ≤ 4096) × (m ≤ 8192) ⌝ }
+    requires { ⌜ (n ≤ mostStates) × (m ≤ mostEdges) ⌝ }
     ensures { λ r. ⌜ r ≡ marksAt n m ⌝ }
 {
     edges_at(n) + 2 * m
@@ -28,7 +29,7 @@ pub fn marks_at(n: usize, m: usize) -> usize
 
 // The number of bytes of a mark table.
 pub fn mark_bytes(n: usize) -> usize
-    requires { ⌜ n ≤ 4096 ⌝ }
+    requires { ⌜ n ≤ mostStates ⌝ }
     ensures { λ r. ⌜ r ≡ markBytes n ⌝ }
 {
     (n + 7) / 8
@@ -36,7 +37,7 @@ pub fn mark_bytes(n: usize) -> usize
 
 // The offset of mark table t.
 pub fn table_at(n: usize, m: usize, t: usize) -> usize
-    requires { ⌜ (n ≤ 4096) × (m ≤ 8192) × (t ≤ 1) ⌝ }
+    requires { ⌜ (n ≤ mostStates) × (m ≤ mostEdges) × (t ≤ 1) ⌝ }
     ensures { λ r. ⌜ r ≡ tableAt n m t ⌝ }
 {
     marks_at(n, m) + t * mark_bytes(n)
@@ -44,7 +45,7 @@ pub fn table_at(n: usize, m: usize, t: usize) -> usize
 
 // The total length of a model file with one mark table.
 pub fn total_of(n: usize, m: usize) -> usize
-    requires { ⌜ (n ≤ 4096) × (m ≤ 8192) ⌝ }
+    requires { ⌜ (n ≤ mostStates) × (m ≤ mostEdges) ⌝ }
     ensures { λ r. ⌜ r ≡ totalOf n m ⌝ }
 {
     marks_at(n, m) + mark_bytes(n)
@@ -74,7 +75,7 @@ pub fn edge_part(file: &[u8], base: usize, s: usize) -> &[u8]
 // The part of the file that holds the targets of row s, in a file of n states whose entries s and s + 1 are in order
 // and within the edge table.
 pub fn row(file: &[u8], n: usize, s: usize) -> &[u8]
-    requires { ⌜ (n ≡ states (now file)) × (n ≤ 4096) ⌝ }
+    requires { ⌜ (n ≡ states (now file)) × (n ≤ mostStates) ⌝ }
     requires { ⌜ s < n ⌝ }
     requires { ⌜ rowEntry (now file) s ≤ rowEntry (now file) (s + 1) ⌝ }
     requires { ⌜ edgesAt n + 2 * rowEntry (now file) (s + 1) ≤ length (now file) ⌝ }

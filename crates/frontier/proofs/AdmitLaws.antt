@@ -6,7 +6,7 @@ use mathlib.Core.List.{List}
 use mathlib.Core.Option.{some}
 use native.Mathlib.Omega.{arith}
 use native.Mathlib.Decide.{ℕ-discrete}
-use Rattle.lasso.proofs.Tests.{lt-or-ge}
+use Rattle.lists.proofs.Tests.{lt-or-ge}
 use Rattle.frontier.specs.Regions.{entry}
 use Rattle.frontier.specs.Buckets.{sources, Greatest}
 use Rattle.frontier.specs.Search.{start, ReachedBy, State, Reached}

@@ -9,13 +9,13 @@ use native.Mathlib.Omega.{arith}
 use native.Mathlib.Decide.{ℕ-discrete}
 use lib.ListN.{length, getD, set, length-set}
 use lib.Seq.{getD-set-same, getD-set-other}
-use Rattle.lasso.proofs.Tests.{lt-or-ge}
+use Rattle.lists.proofs.Tests.{lt-or-ge}
 use Rattle.table.specs.Changes.{SameOutside, Cleared}
 use Rattle.table.proofs.Laws.{sameOutside-widen, sameOutside-set}
 use Rattle.frontier.specs.Regions.{entry, valueOf}
-use Rattle.lasso.specs.Limit.{under}
+use Rattle.lists.specs.Limit.{under}
 use Rattle.frontier.specs.Buckets.{sources, Greatest, SourcesListed, withSource, Planned}
-use Rattle.lasso.proofs.UnderLaws.{under-some, under-lt}
+use Rattle.lists.proofs.UnderLaws.{under-some, under-lt}
 
 -- a start level is told by the entry and is below the limit
 pub source-entry : (limit e a : ℕ) → under limit (valueOf e) ≡ some a → (e ≡ suc a) × (a < limit)

@@ -7,8 +7,8 @@ use native.Mathlib.Omega.{arith}
 use native.Mathlib.Decide.{ℕ-discrete}
 use lib.ListN.{length, getD, set, take, drop, length-set, length-drop}
 use lib.Seq.{getD-set-same, getD-set-other, getD-take, getD-drop, length-take-le}
-use Rattle.lasso.proofs.Tests.{lt-or-ge, places-different}
-use Rattle.lasso.proofs.Different.{length-different-places}
+use Rattle.lists.proofs.Tests.{lt-or-ge, places-different}
+use Rattle.lists.proofs.Different.{length-different-places}
 use Rattle.table.specs.Changes.{SameOutside}
 use Rattle.table.proofs.Laws.{sameOutside-refl, sameOutside-widen, sameOutside-set, sameOutside-trans, set-sameOutside}
 use Rattle.frontier.specs.Regions.{entry}

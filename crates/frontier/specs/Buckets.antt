@@ -5,7 +5,7 @@ use mathlib.Core.List.{List}
 use mathlib.Core.Option.{Option, some}
 use lib.ListN.{set}
 use Rattle.table.specs.Changes.{SameOutside}
-use Rattle.lasso.specs.Limit.{under}
+use Rattle.lists.specs.Limit.{under}
 use Rattle.frontier.specs.Regions.{entry, valueOf}
 
 -- the start level of a source, which region 2 holds at entry; a source at or above the limit does not count

@@ -5,7 +5,7 @@ use mathlib.Core.List.{List}
 use mathlib.Core.Option.{Option, some}
 use lib.ListN.{length}
 use lib.Dec.{T}
-use Rattle.lasso.specs.Lists.{memb}
+use Rattle.lists.specs.Lists.{memb}
 use Rattle.table.specs.Changes.{SameOutside}
 use Rattle.frontier.specs.Regions.{entry}
 use Rattle.frontier.specs.Buckets.{sources, SourcesListed}

@@ -2,10 +2,11 @@
 // The working table is six regions of n entries, n the number of states, at the multiples of n:
 //   0 distances from the start   1 loop lengths   2 levels   3 queue   4 first source of a level   5 next source
 // An entry 0 stands for nothing; a level l stands as l + 1, a state s in a list of sources as s + 1. Between searches the
-// listing has other uses for some: the list in 0, the stems in 1, flags of ends in 4, the tables behind a loop start in 2 and 5.
+// listing has other uses for some: the list in 0, the stems in 1, flags of ends in 4, the tables after a loop start in 2 and 5.
 ghost use mathlib.Core.Path.{_≡_};
 ghost use Prim.Native.Nat.{_+_, _*_, _≤_, _<_};
 ghost use lib.ListN.{length};
+ghost use Rattle.numbers.specs.Limits.{mostStates};
 ghost use Rattle.table.specs.Changes.{SameOutside};
 ghost use Rattle.frontier.specs.Regions.{entry, queued};
 ghost use Rattle.frontier.specs.Buckets.{withSource, Planned};
@@ -16,7 +17,7 @@ use table::put;
 
 // Puts a source in front of the list of its level.
 pub fn list_source(work: &mut [u16], n: usize, level: usize, s: usize)
-    requires { ⌜ n ≤ 4096 ⌝ }
+    requires { ⌜ n ≤ mostStates ⌝ }
     requires { ⌜ level < n ⌝ }
     requires { ⌜ s < n ⌝ }
     requires { ⌜ 6 * n ≤ length (now work) ⌝ }
@@ -31,7 +32,7 @@ pub fn list_source(work: &mut [u16], n: usize, level: usize, s: usize)
 // the sources.
 fn level_of(start: usize) -> usize
     ensures level { λ r. ⌜ (1 ≤ start → r + 1 ≡ start) ⌝ }
-    ensures none { λ r. ⌜ (start ≡ 0 → 4096 ≤ r) ⌝ }
+    ensures none { λ r. ⌜ (start ≡ 0 → mostStates ≤ r) ⌝ }
 {
     if start == 0 {
         return usize::MAX;
@@ -41,7 +42,7 @@ fn level_of(start: usize) -> usize
 
 // Lists the sources of each level below the limit, from the start levels in region 2, which it clears.
 pub fn plan(work: &mut [u16], n: usize, limit: usize)
-    requires { ⌜ n ≤ 4096 ⌝ }
+    requires { ⌜ n ≤ mostStates ⌝ }
     requires { ⌜ limit ≤ n ⌝ }
     requires { ⌜ 6 * n ≤ length (now work) ⌝ }
     ensures { λ _. ⌜ Planned n limit (now (work .entry)) (now (work .exit)) ⌝ }
@@ -62,7 +63,7 @@ pub fn plan(work: &mut [u16], n: usize, limit: usize)
 // Marks a state with its level and puts it at the end of the queue, unless it was reached before. The end of the queue
 // is a place of the table; answers the end afterwards.
 pub fn reach(work: &mut [u16], n: usize, t: usize, level: usize, tail: usize) -> usize
-    requires { ⌜ n ≤ 4096 ⌝ }
+    requires { ⌜ n ≤ mostStates ⌝ }
     requires { ⌜ t < n ⌝ }
     requires { ⌜ level ≤ n ⌝ }
     requires { ⌜ 6 * n ≤ length (now work) ⌝ }
@@ -82,7 +83,7 @@ pub fn reach(work: &mut [u16], n: usize, t: usize, level: usize, tail: usize) ->
 
 // Reaches the sources of a level; answers the end of the queue afterwards.
 pub fn admit(work: &mut [u16], n: usize, level: usize, tail: usize) -> usize
-    requires { ⌜ n ≤ 4096 ⌝ }
+    requires { ⌜ n ≤ mostStates ⌝ }
     requires { ⌜ 3 * n ≤ tail ⌝ }
     requires { ⌜ LevelReady n level (queued n tail) (now work) ⌝ }
     ensures change { λ r. ⌜ Admitted n level (queued n tail) (now (work .entry)) (now (work .exit)) (queued n r) ⌝ }

@@ -1,5 +1,5 @@
--- The first reason that holds, in the table that every call applies with the call's own reasons behind it: what the gate
--- says, which reasons are left to decide behind it, and what becomes of the working table.
+-- The first reason that holds, in the table that every call applies with the call's own reasons after it: what the gate
+-- says, which reasons are left to decide after it, and what becomes of the working table.
 use Prim.Native.Nat.{ℕ, _*_, _≤_, _<_}
 use mathlib.Core.Path.{_≡_, refl, sym, _∙_, ap}
 use mathlib.Core.Bool.{Bool, true, false}
@@ -9,8 +9,8 @@ use mathlib.Core.Logic.{inl, inr}
 use native.Mathlib.Omega.{arith}
 use borrow.Author.Tests.{lt-ltb, le-ltb, le-leb}
 use lib.ListN.{length, replicate, length-replicate}
-use Rattle.lasso.proofs.Tests.{lt-or-ge}
-use Rattle.lasso.specs.Lists.{pick, someIf}
+use Rattle.lists.proofs.Tests.{lt-or-ge}
+use Rattle.lists.specs.Lists.{pick, someIf}
 use Rattle.format.specs.Layout.{states}
 use Rattle.format.specs.Rules.{Reason, firstBroken, rules, Accepted}
 use Rattle.model.specs.declared.Header.{Header}
@@ -21,51 +21,51 @@ use Rattle.format.proofs.Reasons.{clear-append, broken-append, append-clear, br
 use Rattle.model.proofs.Answers.{own-valid}
 use Rattle.model.specs.Model.{graphIn, graphOf}
 use Rattle.model.proofs.Laws.{valid-graph, valid-sizes}
-use Rattle.gate.specs.Gate.{smallTable, commonRules, noTable, namedRules, ceilingReason, gateOf, zeros, workEntered, workAfter, workOf, Zeroed, Passed, GateSays}
+use Rattle.gate.specs.Gate.{smallTable, commonRules, noTable, namedRules, ceilingReason, gateOf, zeros, workEntered, workAfter, workOf, Zeroed, GatePassed, GateSays}
 
--- the reason that the common table has behind those of the file
+-- the reason that the common table has after those of the file
 abbrev pub roomReason : List ℕ → ℕ → List Reason
-roomReason f work = record { number = 12; holds = smallTable f work } ∷ []
+roomReason f workRoom = record { number = 12; holds = smallTable f workRoom } ∷ []
 
 -- a refused file is refused with the number of its check, whatever the working table
-pub common-refused : (f : List ℕ) (work n : ℕ) → firstBroken (rules f) ≡ some n → firstBroken (commonRules f work) ≡ some n
-common-refused f work n e = broken-append (rules f) (roomReason f work) n e
+pub common-refused : (f : List ℕ) (workRoom n : ℕ) → firstBroken (rules f) ≡ some n → firstBroken (commonRules f workRoom) ≡ some n
+common-refused f workRoom n e = broken-append (rules f) (roomReason f workRoom) n e
 
 -- an accepted file is refused with 12 if the working table is too small
-pub common-small : (f : List ℕ) (work : ℕ) → Accepted f → work < 6 * states f → firstBroken (commonRules f work) ≡ some 12
-common-small f work a less =
-    clear-append (rules f) (roomReason f work) a ∙ ap (λ (b : Bool). someIf b 12 none) (lt-ltb work (6 * states f) less)
+pub common-small : (f : List ℕ) (workRoom : ℕ) → Accepted f → workRoom < 6 * states f → firstBroken (commonRules f workRoom) ≡ some 12
+common-small f workRoom a less =
+    clear-append (rules f) (roomReason f workRoom) a ∙ ap (λ (b : Bool). someIf b 12 none) (lt-ltb workRoom (6 * states f) less)
 
 -- an accepted file with room in the working table breaks none of 1 to 12
-pub common-clear : (f : List ℕ) (work : ℕ) → Accepted f → 6 * states f ≤ work → firstBroken (commonRules f work) ≡ none
-common-clear f work a room =
-    clear-append (rules f) (roomReason f work) a ∙ ap (λ (b : Bool). someIf b 12 none) (le-ltb work (6 * states f) room)
+pub common-clear : (f : List ℕ) (workRoom : ℕ) → Accepted f → 6 * states f ≤ workRoom → firstBroken (commonRules f workRoom) ≡ none
+common-clear f workRoom a room =
+    clear-append (rules f) (roomReason f workRoom) a ∙ ap (λ (b : Bool). someIf b 12 none) (le-ltb workRoom (6 * states f) room)
 
 -- a file that breaks none of 1 to 12 is accepted, and the working table has room
-pub clear-common : (f : List ℕ) (work : ℕ) → firstBroken (commonRules f work) ≡ none → Accepted f × (6 * states f ≤ work)
-clear-common f work e =
-    let a : Accepted f = append-clear (rules f) (roomReason f work) e in
-    let left : someIf {A = ℕ} (smallTable f work) 12 none ≡ none = sym (clear-append (rules f) (roomReason f work) a) ∙ e in (
+pub clear-common : (f : List ℕ) (workRoom : ℕ) → firstBroken (commonRules f workRoom) ≡ none → Accepted f × (6 * states f ≤ workRoom)
+clear-common f workRoom e =
+    let a : Accepted f = append-clear (rules f) (roomReason f workRoom) e in
+    let left : someIf {A = ℕ} (smallTable f workRoom) 12 none ≡ none = sym (clear-append (rules f) (roomReason f workRoom) a) ∙ e in (
       a,
-      elim (lt-or-ge work (6 * states f)) [
+      elim (lt-or-ge workRoom (6 * states f)) [
         | inl less ↦
-            let broken : _≡_ {A = Option ℕ} (some 12) none = sym (ap (λ (b : Bool). someIf b 12 none) (lt-ltb work (6 * states f) less)) ∙ left in
+            let broken : _≡_ {A = Option ℕ} (some 12) none = sym (ap (λ (b : Bool). someIf b 12 none) (lt-ltb workRoom (6 * states f) less)) ∙ left in
             let z : _≡_ {A = ℕ} 0 1 = cc in absurd (omega arith)
         | inr room ↦ room
       ],
     )
 
-module _ (f : List ℕ) (t work : ℕ) where
+module _ (f : List ℕ) (t workRoom : ℕ) where
   -- a call that names neither 0 nor 1 is refused with 22, whatever else holds
-  pub named-none : 1 < t → firstBroken (namedRules f t work) ≡ some 22
-  named-none l = ap (λ (b : Bool). someIf b 22 (firstBroken (commonRules f work))) (lt-ltb 1 t l)
+  pub named-none : 1 < t → firstBroken (namedRules f t workRoom) ≡ some 22
+  named-none l = ap (λ (b : Bool). someIf b 22 (firstBroken (commonRules f workRoom))) (lt-ltb 1 t l)
 
   -- a call that names 0 or 1 is left to 1 to 12
-  pub named-one : t ≤ 1 → firstBroken (namedRules f t work) ≡ firstBroken (commonRules f work)
-  named-one l = ap (λ (b : Bool). someIf b 22 (firstBroken (commonRules f work))) (le-ltb 1 t l)
+  pub named-one : t ≤ 1 → firstBroken (namedRules f t workRoom) ≡ firstBroken (commonRules f workRoom)
+  named-one l = ap (λ (b : Bool). someIf b 22 (firstBroken (commonRules f workRoom))) (le-ltb 1 t l)
 
   -- a call that none of 22 and 1 to 12 refuses names 0 or 1, and none of 1 to 12 holds
-  pub clear-named : firstBroken (namedRules f t work) ≡ none → (t ≤ 1) × (firstBroken (commonRules f work) ≡ none)
+  pub clear-named : firstBroken (namedRules f t workRoom) ≡ none → (t ≤ 1) × (firstBroken (commonRules f workRoom) ≡ none)
   clear-named e =
       elim (lt-or-ge 1 t) [
         | inl less ↦
@@ -83,26 +83,26 @@ pub valid-room : {f : List ℕ} {h : Header} → Valid f h → {n : ℕ} → 6 *
 valid-room v room = omega (arith, valid-sizes v .states-are)
 
 -- an accepted file is refused with 12 if the working table has less room than its header asks
-pub valid-small : {f : List ℕ} {h : Header} → Valid f h → (work : ℕ) → work < 6 * h .states → firstBroken (commonRules f work) ≡ some 12
-valid-small {f} v work less = common-small f work (v .accepted) (omega (arith, valid-sizes v .states-are))
+pub valid-small : {f : List ℕ} {h : Header} → Valid f h → (workRoom : ℕ) → workRoom < 6 * h .states → firstBroken (commonRules f workRoom) ≡ some 12
+valid-small {f} v workRoom less = common-small f workRoom (v .accepted) (omega (arith, valid-sizes v .states-are))
 
 -- it breaks none of 1 to 12 if the table has that room
-pub valid-common : {f : List ℕ} {h : Header} → Valid f h → (work : ℕ) → 6 * h .states ≤ work → firstBroken (commonRules f work) ≡ none
-valid-common {f} v work room = common-clear f work (v .accepted) (valid-room v room)
+pub valid-common : {f : List ℕ} {h : Header} → Valid f h → (workRoom : ℕ) → 6 * h .states ≤ workRoom → firstBroken (commonRules f workRoom) ≡ none
+valid-common {f} v workRoom room = common-clear f workRoom (v .accepted) (valid-room v room)
 
 -- nor does 22 hold for the mark table that the header names
-pub valid-clear : {f : List ℕ} {h : Header} → Valid f h → (work : ℕ) → 6 * h .states ≤ work
-    → firstBroken (namedRules f (h .table) work) ≡ none
-valid-clear {f} {h} v work room = named-one f (h .table) work (v .table-limit) ∙ valid-common v work room
+pub valid-clear : {f : List ℕ} {h : Header} → Valid f h → (workRoom : ℕ) → 6 * h .states ≤ workRoom
+    → firstBroken (namedRules f (h .table) workRoom) ≡ none
+valid-clear {f} {h} v workRoom room = named-one f (h .table) workRoom (v .table-limit) ∙ valid-common v workRoom room
 
--- where the reasons before it do not refuse a call, a ceiling above 4,096 does with 21, whatever comes behind it
+-- where the reasons before it do not refuse a call, a ceiling above 4,096 does with 21, whatever comes after it
 pub ceiling-high : (rs : List Reason) (ceiling : ℕ) (rest : List Reason) → firstBroken rs ≡ none → 4096 < ceiling
     → firstBroken (rs ++ ceilingReason ceiling ∷ rest) ≡ some 21
 ceiling-high rs ceiling rest e high =
     clear-append rs (ceilingReason ceiling ∷ rest) e
     ∙ ap (λ (b : Bool). someIf b 21 (firstBroken rest)) (lt-ltb 4096 ceiling high)
 
--- with a ceiling up to 4,096 the reasons behind it decide
+-- with a ceiling up to 4,096 the reasons after it decide
 pub ceiling-low : (rs : List Reason) (ceiling : ℕ) (rest : List Reason) → firstBroken rs ≡ none → ceiling ≤ 4096
     → firstBroken (rs ++ ceilingReason ceiling ∷ rest) ≡ firstBroken rest
 ceiling-low rs ceiling rest e low =
@@ -111,14 +111,14 @@ ceiling-low rs ceiling rest e low =
 
 -- what the gate answers is so: with a refusal its number is that of the first reason that holds, with a header the call
 -- may go on
-pub gate-says : (f : List ℕ) (t work : ℕ) (r : Checked) → r ≡ gateOf f t work → GateSays f t work r
-gate-says f t work r e = go (firstBroken (namedRules f t work)) refl r e
+pub gate-says : (f : List ℕ) (t workRoom : ℕ) (r : Checked) → r ≡ gateOf f t workRoom → GateSays f t workRoom r
+gate-says f t workRoom r e = go (firstBroken (namedRules f t workRoom)) refl r e
   where
-    go : (o : Option ℕ) → firstBroken (namedRules f t work) ≡ o → (r : Checked) → r ≡ answerOf o (headerOf f t) → GateSays f t work r
+    go : (o : Option ℕ) → firstBroken (namedRules f t workRoom) ≡ o → (r : Checked) → r ≡ answerOf o (headerOf f t) → GateSays f t workRoom r
     go none q (Refused n) e = let z : _≡_ {A = ℕ} 0 1 = cc in absurd (omega arith)
     go none q (Accept h) e =
-        let (one, clear) = clear-named f t work q in
-        let (accepted, room) = clear-common f work clear in
+        let (one, clear) = clear-named f t workRoom q in
+        let (accepted, room) = clear-common f workRoom clear in
         let own : h ≡ headerOf f t = cc in
         let v : Valid f h = own-valid accepted one own in
         record {
@@ -131,17 +131,17 @@ gate-says f t work r e = go (firstBroken (namedRules f t work)) refl r e
     go (some m) q (Accept h) e = let z : _≡_ {A = ℕ} 0 1 = cc in absurd (omega arith)
 
 -- the gate has refused: a reason of 22 and 1 to 12 holds
-pub gate-refused : (f : List ℕ) (t work : ℕ) {r : Checked} {n : ℕ} → r ≡ gateOf f t work → r ≡ Refused n
-    → firstBroken (namedRules f t work) ≡ some n
-gate-refused f t work e q = gate-says f t work (Refused _) (sym q ∙ e)
+pub gate-refused : (f : List ℕ) (t workRoom : ℕ) {r : Checked} {n : ℕ} → r ≡ gateOf f t workRoom → r ≡ Refused n
+    → firstBroken (namedRules f t workRoom) ≡ some n
+gate-refused f t workRoom e q = gate-says f t workRoom (Refused _) (sym q ∙ e)
 
 -- the gate has let the call pass
-pub gate-passed : (f : List ℕ) (t work : ℕ) {r : Checked} {h : Header} → r ≡ gateOf f t work → r ≡ Accept h → Passed f t work h
-gate-passed f t work e q = gate-says f t work (Accept _) (sym q ∙ e)
+pub gate-passed : (f : List ℕ) (t workRoom : ℕ) {r : Checked} {h : Header} → r ≡ gateOf f t workRoom → r ≡ Accept h → GatePassed f t workRoom h
+gate-passed f t workRoom e q = gate-says f t workRoom (Accept _) (sym q ∙ e)
 
 -- the number of a reason of 1 to 12 is one of them
-common-number : (f : List ℕ) (work n : ℕ) → firstBroken (commonRules f work) ≡ some n → n ≤ 12
-common-number f work n e = broken-number (λ m. m ≤ 12) (commonRules f work) (omega arith) n e
+common-number : (f : List ℕ) (workRoom n : ℕ) → firstBroken (commonRules f workRoom) ≡ some n → n ≤ 12
+common-number f workRoom n e = broken-number (λ m. m ≤ 12) (commonRules f workRoom) (omega arith) n e
 
 -- the gate leaves a working table that it cleared all zero, after 22
 pub entered-zero : (t : ℕ) {w w₁ : List ℕ} → 1 < t → Zeroed w w₁ → w₁ ≡ workEntered t w
@@ -151,7 +151,7 @@ entered-zero t {w} more left = left .all-zero ∙ sym (ap (λ (b : Bool). pick b
 pub entered-same : (t : ℕ) (w : List ℕ) → t ≤ 1 → w ≡ workEntered t w
 entered-same t w one = sym (ap (λ (b : Bool). pick b (zeros w) w) (le-ltb 1 t one))
 
--- behind the gate the working table has as many entries as before
+-- after the gate the working table has as many entries as before
 pub entered-length : (t : ℕ) (w : List ℕ) {w₁ : List ℕ} → w₁ ≡ workEntered t w → length w₁ ≡ length w
 entered-length t w e = ap length e ∙ go (noTable t)
   where

@@ -1,4 +1,4 @@
-// The gate of every call: reason 22, for the calls that name a mark table; the reasons 1 to 12, which concern the file and
+// The gate of every call but combine: reason 22, for the calls that name a mark table; the reasons 1 to 12, which concern the file and
 // the working table; reason 21, for the calls that take a ceiling; and the way out, by which every call that passed the
 // gate leaves the working table.
 ghost use mathlib.Core.Path.{_≡_};
@@ -7,6 +7,8 @@ ghost use Rattle.gate.specs.Gate.{gateOf, workEntered, highCeiling, Zero
 use checking::check;
 use lasso::Transitions;
 use model::Checked;
+use numbers::limit;
+use numbers::reason;
 use table::clear;
 
 // What a search names beside the file and the tables that it is lent: the mark table, the length that no list may exceed,
@@ -25,7 +27,7 @@ pub fn enter(file: &[u8], mark_table: u16, work: &mut [u16]) -> Checked
 {
     if 1 < mark_table {
         leave(work);
-        return Checked::Refused(22);
+        return Checked::Refused(reason::NO_TABLE);
     }
     let table = mark_table as usize;
     let checked = check(file);
@@ -33,18 +35,18 @@ pub fn enter(file: &[u8], mark_table: u16, work: &mut [u16]) -> Checked
         Checked::Refused(_) => checked,
         Checked::Accept(h) => {
             if work.len() < 6 * h.states {
-                return Checked::Refused(12);
+                return Checked::Refused(reason::SMALL_TABLE);
             }
             Checked::Accept(h.naming(table))
         }
     }
 }
 
-// The ceiling is above 4,096: reason 21, which is applied behind 12.
+// The ceiling is above 4,096: reason 21, which is applied after 12.
 pub fn ceiling_too_high(ceiling: Transitions) -> bool
     ensures { λ r. ⌜ r ≡ highCeiling (ceiling .0) ⌝ }
 {
-    4096 < ceiling.0
+    limit::HIGHEST_CEILING < ceiling.0
 }
 
 // Makes every entry of the working table zero, however long it is.

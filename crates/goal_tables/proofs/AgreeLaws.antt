@@ -1,4 +1,4 @@
--- Two lists that agree up to a place have the same tables behind a loop start there.
+-- Two lists that agree up to a place have the same tables after a loop start there.
 use Prim.Native.Nat.{ℕ, _+_, _≤_, _<_}
 use native.Mathlib.Omega.{arith}
 use mathlib.Core.Path.{_≡_, sym, _∙_, subst}

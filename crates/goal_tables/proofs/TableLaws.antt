@@ -1,4 +1,4 @@
--- The steps that make the tables behind a loop start, and that they leave what the tables say.
+-- The steps that make the tables after a loop start, and that they leave what the tables say.
 use Prim.Native.Nat.{ℕ, suc, _+_, _*_, _-_, _≤_, _<_}
 use native.Mathlib.Omega.{arith}
 use mathlib.Core.Path.{_≡_, refl, sym, _∙_, subst}
@@ -10,7 +10,7 @@ use lib.Dec.{T}
 use native.Mathlib.Decide.{ℕ-discrete}
 use Rattle.lasso.specs.Graph.{edgeb}
 use Rattle.lasso.proofs.RollLaws.{leastLength-range}
-use Rattle.lasso.proofs.Tests.{lt-or-ge}
+use Rattle.lists.proofs.Tests.{lt-or-ge}
 use Rattle.model.specs.declared.Header.{Header}
 use Rattle.model.specs.Model.{graphIn}
 use Rattle.model.proofs.Laws.{valid-sizes, valid-well-formed}

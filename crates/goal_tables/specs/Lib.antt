@@ -1,2 +1,2 @@
--- The two tables behind a loop start, as they are made.
+-- The two tables after a loop start, as they are made.
 pub mod Tables

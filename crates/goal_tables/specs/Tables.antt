@@ -1,4 +1,4 @@
--- What the tables behind a loop start are made from, and what is left.
+-- What the tables after a loop start are made from, and what is left.
 use Prim.Native.Nat.{ℕ, suc, _*_, _<_}
 use mathlib.Core.Path.{_≡_}
 use mathlib.Core.Logic.{_↔_}
@@ -29,7 +29,7 @@ pub record LevelsVia (g : Graph) (x limit : ℕ) (w w' : List ℕ) (count : ℕ)
   pub level : (t c : ℕ) → t < g .size → c < limit → (entry 2 (g .size) w' t ≡ suc c) ↔ (viaMark g x t ≡ some c)
   pub queue : Queue (g .size) count w'
 
--- region 5 holds the table for lists with a mark behind the loop start, and region 2 the same entries
+-- region 5 holds the table for lists with a mark after the loop start, and region 2 the same entries
 pub record LaterMade (g : Graph) (l : ℕ) (p : ℕ → ℕ) (b : ℕ) (w w' : List ℕ) : Type 0 where
   pub outside : SameOutside (2 * g .size) (6 * g .size) w w'
   pub table : LaterTable g l p b w'

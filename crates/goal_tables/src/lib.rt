@@ -1,4 +1,4 @@
-// Makes the two tables behind a loop start: which state may stand at which place behind it.
+// Makes the two tables after a loop start: which state may stand at which place after it.
 ghost use Prim.Native.Nat.{_*_, _≤_, _<_};
 ghost use lib.ListN.{length};
 ghost use Rattle.model.specs.Values.{Valid};
@@ -18,7 +18,7 @@ use model::is_marked;
 use table::copy;
 use table::get;
 use table::put;
-use walks::distances;
+use walks::distances_from;
 use walks::from_marks;
 use ways::keep_ways;
 
@@ -52,7 +52,7 @@ fn later_levels(file: &[u8], h: Header, work: &mut [u16], x: usize, limit: usize
     ensures { λ r. ⌜ LevelsVia (graphIn (now (file .entry)) h) x limit (now (work .entry)) (now (work .exit)) r ⌝ }
 {
     let n = h.states;
-    let count = distances(file, h, work, x, limit);
+    let count = distances_from(file, h, work, x, limit);
     if is_marked(file, h, x) {
         return count;
     }
@@ -63,7 +63,7 @@ fn later_levels(file: &[u8], h: Header, work: &mut [u16], x: usize, limit: usize
     }
 }
 
-// Makes the table for lists with a mark behind the loop start at place b.
+// Makes the table for lists with a mark after the loop start at place b.
 fn make_later(file: &[u8], h: Header, work: &mut [u16], transitions: Transitions, b: usize)
     requires { ⌜ Ground (now file) h (now work) (transitions .0) b ⌝ }
     ensures { λ _. ⌜ LaterMade (graphIn (now (file .entry)) h) (transitions .0) (stateAt h (now (work .entry))) b
@@ -78,7 +78,7 @@ fn make_later(file: &[u8], h: Header, work: &mut [u16], transitions: Transitions
     copy(work, 2 * n, 5 * n, n);
 }
 
-// Makes the table for lists with no mark behind the loop start at place b, from the one for lists with a mark.
+// Makes the table for lists with no mark after the loop start at place b, from the one for lists with a mark.
 fn make_sooner(
     file: &[u8],
     h: Header,
@@ -97,14 +97,14 @@ fn make_sooner(
     let x = list_at(h, work, b);
     let left = transitions.number() - b;
     let own = get(work, 5 * n + x);
-    let count = distances(file, h, work, x, left);
+    let count = distances_from(file, h, work, x, left);
     put(work, 5 * n + x, own);
     flag_closing(file, h, work, left - 1, mark);
     flag_marked(file, h, work);
     keep_ways(file, h, work, count);
 }
 
-// Makes both tables behind the loop start at place b; if it is marked itself, they are the same.
+// Makes both tables after the loop start at place b; if it is marked itself, they are the same.
 pub fn make_tables(file: &[u8], h: Header, work: &mut [u16], transitions: Transitions, b: usize)
     requires { ⌜ Ground (now file) h (now work) (transitions .0) b ⌝ }
     ensures { λ _. ⌜ Tables (graphIn (now (file .entry)) h) (transitions .0) (stateAt h (now (work .entry))) b

@@ -1,4 +1,4 @@
--- Which state may stand behind the last loop start of a list: the one that the tables say. If the list has a mark behind the
+-- Which state may stand after the last loop start of a list: the one that the tables say. If the list has a mark after the
 -- loop start, that is the table of ways through a mark, else the other; at the last place the state is a goal.
 use Prim.Native.Nat.{ℕ, suc, _+_, _-_, _≤_, _<_}
 use native.Mathlib.Omega.{arith}
@@ -11,8 +11,8 @@ use lib.Dec.{T}
 use Rattle.lasso.specs.Graph.{Graph, WellFormed}
 use Rattle.lasso.specs.Distance.{dist}
 use Rattle.lasso.specs.Extends.{Extends}
-use Rattle.lasso.proofs.Tests.{lt-or-ge}
-use Rattle.lasso.proofs.Least.{isLeast-le}
+use Rattle.lists.proofs.Tests.{lt-or-ge}
+use Rattle.lists.proofs.Least.{isLeast-le}
 use Rattle.lasso.proofs.Walk.{Walk, walk-here, walk-append, walk-length, walk-zero, walk-to}
 use Rattle.lasso.proofs.Distance.{dist-le}
 use Rattle.lasso.proofs.Extend.{Ahead, MarkAhead, BothPassed, completes-extends}
@@ -30,7 +30,7 @@ pub record Behind (g : Graph) (l place b : ℕ) (q : List ℕ) (t : ℕ) : Type 
   pub inside : b ≤ place
   pub last : (k : ℕ) → b < k → k ≤ place → LoopAt g l (λ k. getD q k 0) k → ⊥
 
--- a mark stands behind the loop start
+-- a mark stands after the loop start
 abbrev pub MarkBehind : Graph → List ℕ → ℕ → ℕ → Type 0
 MarkBehind g q b place = (r : ℕ) × (b < r) × (r ≤ place) × T (g .marked (getD q r 0))
 
@@ -47,7 +47,7 @@ module _ {g : Graph} {l place b : ℕ} {q : List ℕ} {t : ℕ} (o : Behind g l 
   places : length q ≡ suc place
   places = o .beginning .places
 
-  -- a loop start at its place is a goal: none stands behind the last one
+  -- a loop start at its place is a goal: none stands after the last one
   loop-goal : (k : ℕ) → k ≤ place → LoopAt g l at k → Goal g l at (b + 1) (at k)
   loop-goal k h x =
       elim (lt-or-ge b k) [
@@ -78,7 +78,7 @@ module _ {g : Graph} {l place b : ℕ} {q : List ℕ} {t : ℕ} (o : Behind g l 
         total = omega (arith, places);
       })))
 
-  -- where a mark stands behind the loop start
+  -- where a mark stands after the loop start
   module _ (marked : MarkBehind g q b place) where
     -- the least steps through a mark are those of the list, if a way of the rest is there
     via-here : (m : ℕ) → suc place + suc m ≡ l → WayTo g l at (b + 1) t (suc m) → viaMark g (at b) t ≡ some (suc place - b)

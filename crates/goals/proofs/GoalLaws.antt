@@ -7,7 +7,7 @@ use mathlib.Core.Option.{some}
 use lib.Dec.{T}
 use Rattle.lasso.specs.Graph.{Graph, edgeb}
 use Rattle.lasso.specs.Distance.{dist, reachb}
-use Rattle.lasso.proofs.Least.{isLeast-le, isLeast-has}
+use Rattle.lists.proofs.Least.{isLeast-le, isLeast-has}
 use Rattle.lasso.proofs.Walk.{Walk, walk-here, walk-edge, walk-cons, walk-uncons, walk-append, walk-zero, walk-length, walk-from, walk-to, reach-walk, walk-reach}
 use Rattle.lasso.proofs.Distance.{dist-walk, dist-le}
 use Rattle.walks.specs.Through.{viaMark}

@@ -7,7 +7,7 @@ use mathlib.Core.List.{List}
 use mathlib.Core.Option.{some}
 use lib.Dec.{T}
 use Rattle.lasso.specs.Graph.{Graph, edgeb}
-use Rattle.lasso.proofs.Tests.{eq→eqb}
+use Rattle.lists.proofs.Tests.{eq→eqb}
 use Rattle.lasso.specs.Distance.{dist}
 use Rattle.lasso.proofs.Distance.{dist-step}
 use Rattle.frontier.specs.Regions.{entry}
@@ -17,7 +17,7 @@ use Rattle.ways.proofs.WayLaws.{Tight, tight-kept}
 use Rattle.goals.specs.Goals.{LastMark, Base, WayTo, WayThrough, StepTo, Later, Sooner, LaterReady, SoonerReady}
 use Rattle.goals.proofs.GoalLaws.{base-state, base-before, later-least, below-least, through-least, step-way, cons-to, cons-through, peel-to, peel-through, via-step, via-marked}
 
--- the ways and ends of the table for lists with a mark behind the loop start
+-- the ways and ends of the table for lists with a mark after the loop start
 abbrev LaterWay : Graph → ℕ → (ℕ → ℕ) → ℕ → ℕ → ℕ → Type 0
 LaterWay g l p b s k = WayTo g l p (b + 1) s k
 
@@ -32,7 +32,7 @@ abbrev SoonerEnd : Graph → ℕ → (ℕ → ℕ) → ℕ → ℕ → ℕ → �
 SoonerEnd g l p b mark s k = ((k ≡ 1) × StepTo g l p mark s) ⊎ (T (g .marked s) × WayTo g l p (b + 1) s k)
 
 module _ {g : Graph} {l : ℕ} {p : ℕ → ℕ} {b : ℕ} (o : Base g l p b) where
-  -- the ways through a mark behind the loop start are tight
+  -- the ways through a mark after the loop start are tight
   later-tight : {w : List ℕ} → LaterReady g l p b w → Tight g (g .size) (l - b) (viaMark g (p b)) (LaterWay g l p b) (LaterEnd g l p b) w
   later-tight ready =
       record {
@@ -48,7 +48,7 @@ module _ {g : Graph} {l : ℕ} {p : ℕ → ℕ} {b : ℕ} (o : Base g l p b) wh
         flags = λ s c m h at total e. ready .ends s h .1 (omega (arith, e .0, base-before o), e .1);
       }
 
-  -- the pass leaves the table for lists with a mark behind the loop start
+  -- the pass leaves the table for lists with a mark after the loop start
   pub later-made : {w w' : List ℕ} → LaterReady g l p b w → KeptBack g (g .size) w w' → (t c : ℕ) → t < g .size → (entry 2 (g .size) w' t ≡ suc c) ↔ Later g l p b t c
   later-made ready kept t c h =
       let both = tight-kept (o .well-formed) (later-tight ready) kept t c h in (
@@ -115,7 +115,7 @@ module _ {g : Graph} {l : ℕ} {p : ℕ → ℕ} {b : ℕ} (o : Base g l p b) wh
             let there : entry 5 (g .size) w s ≡ suc c = ready .table .later s c h .1 (via-marked o s c marked near, (m, omega arith, way)) in
             ready .ends s h .1 (inr (marked, omega arith, there ∙ sym at))
 
-    -- the pass leaves the table for lists with no mark behind the loop start
+    -- the pass leaves the table for lists with no mark after the loop start
     pub sooner-made : {w w' : List ℕ} → SoonerReady g l p b mark w → KeptBack g (g .size) w w' → (t c : ℕ) → t < g .size → (entry 2 (g .size) w' t ≡ suc c) ↔ Sooner g l p b mark t c
     sooner-made ready kept t c h =
         let both = tight-kept (o .well-formed) (sooner-tight ready) kept t c h in (

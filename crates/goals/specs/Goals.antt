@@ -1,5 +1,5 @@
--- The states at which a list can close, the ways to them, and what the two tables behind a loop start hold: `Later` for lists
--- that have met a mark behind the loop start, `Sooner` for lists that have not. The list is given by the state p k at each
+-- The states at which a list can close, the ways to them, and what the two tables after a loop start hold: `Later` for lists
+-- that have met a mark after the loop start, `Sooner` for lists that have not. The list is given by the state p k at each
 -- place k; b is the place of its last loop start, l the least length. A goal below m, a place plus 1, stands before place m.
 use Prim.Native.Nat.{ℕ, suc, _+_, _≤_, _<_}
 use mathlib.Core.Path.{_≡_}
@@ -58,24 +58,24 @@ WayThrough g l p m s k =
 abbrev pub StepTo : Graph → ℕ → (ℕ → ℕ) → ℕ → ℕ → Type 0
 StepTo g l p m s = (y : ℕ) × Goal g l p m y × T (edgeb g s y)
 
--- t may stand c places behind the loop start if a mark stands between: c is the least number of steps through a mark, and
+-- t may stand c places after the loop start if a mark stands between: c is the least number of steps through a mark, and
 -- what is left of the least length leads to a goal
 abbrev pub Later : Graph → ℕ → (ℕ → ℕ) → ℕ → ℕ → ℕ → Type 0
 Later g l p b t c =
     (viaMark g (p b) t ≡ some c) × ((m : ℕ) × (b + c + suc m ≡ l) × WayTo g l p (b + 1) t (suc m))
 
--- t may stand c places behind the loop start if no mark stands between: c is the distance, and what is left of the least
+-- t may stand c places after the loop start if no mark stands between: c is the distance, and what is left of the least
 -- length leads to a goal at or before the last mark, or through a mark to any goal
 abbrev pub Sooner : Graph → ℕ → (ℕ → ℕ) → ℕ → ℕ → ℕ → ℕ → Type 0
 Sooner g l p b mark t c =
     (dist g (p b) t ≡ some c)
     × ((m : ℕ) × (b + c + suc m ≡ l) × (WayTo g l p mark t (suc m) ⊎ WayThrough g l p (b + 1) t (suc m)))
 
--- region 5 is the table for lists with a mark behind the last loop start
+-- region 5 is the table for lists with a mark after the last loop start
 pub record LaterTable (g : Graph) (l : ℕ) (p : ℕ → ℕ) (b : ℕ) (w : List ℕ) : Type 0 where
   pub later : (t c : ℕ) → t < g .size → (entry 5 (g .size) w t ≡ suc c) ↔ Later g l p b t c
 
--- region 2 is the table for lists with no mark behind the last loop start
+-- region 2 is the table for lists with no mark after the last loop start
 pub record SoonerTable (g : Graph) (l : ℕ) (p : ℕ → ℕ) (b mark : ℕ) (w : List ℕ) : Type 0 where
   pub sooner : (t c : ℕ) → t < g .size → (entry 2 (g .size) w t ≡ suc c) ↔ Sooner g l p b mark t c
 

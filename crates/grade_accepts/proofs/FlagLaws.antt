@@ -8,9 +8,9 @@ use native.Mathlib.Omega.{arith}
 use lib.ListN.{length, getD, set, take, length-set}
 use lib.Seq.{getD-set-same, getD-set-other, getD-take, length-take-le}
 use lib.Dec.{T, not-T}
-use Rattle.lasso.specs.Lists.{differentb}
+use Rattle.lists.specs.Lists.{differentb}
 use Rattle.lasso.specs.Graph.{edges}
-use Rattle.lasso.proofs.Tests.{T-true, T-false, lt-or-ge, eq-or-apart, different-places, places-different}
+use Rattle.lists.proofs.Tests.{T-true, T-false, lt-or-ge, eq-or-apart, different-places, places-different}
 use Rattle.paths.specs.Breaks.{AllBelow}
 
 -- Up to place j the entries are all different, and the entry s of the table is not zero exactly if s stood at one of those
@@ -24,8 +24,8 @@ pub record Flags (n : ℕ) (xs w : List ℕ) (j : ℕ) : Type 0 where
   pub unflagged : (s : ℕ) → s < n → getD w s 0 ≡ 0 → (i : ℕ) → i < j → getD xs i 0 ≡ s → ⊥
 
 -- on a cleared table no place was seen
-pub flags-start : (n : ℕ) (xs w : List ℕ) → AllBelow n xs → n ≤ length w → ((s : ℕ) → s < n → getD w s 0 ≡ 0) → Flags n xs w 0
-flags-start n xs w low room zeros = record {
+pub no-flags : (n : ℕ) (xs w : List ℕ) → AllBelow n xs → n ≤ length w → ((s : ℕ) → s < n → getD w s 0 ≡ 0) → Flags n xs w 0
+no-flags n xs w low room zeros = record {
   below = low;
   room = room;
   within = omega arith;

@@ -3,7 +3,7 @@ ghost use mathlib.Core.Path.{_≡_};
 ghost use mathlib.Core.Option.{none};
 ghost use Prim.Native.Nat.{_*_, _≤_};
 ghost use lib.ListN.{length, take};
-ghost use Rattle.lasso.specs.Lists.{differentb};
+ghost use Rattle.lists.specs.Lists.{differentb};
 ghost use Rattle.lasso.specs.Graph.{edges};
 ghost use Rattle.model.specs.Model.{graphIn};
 ghost use Rattle.model.specs.Values.{Valid};
@@ -12,7 +12,7 @@ ghost use Rattle.grade_verdicts.specs.Verdict.{acceptsAt};
 use lasso::Entries;
 use lasso::Transitions;
 use model::Header;
-use paths::closes_at;
+use paths::loops_at;
 use table::clear;
 use table::get;
 use table::put;
@@ -40,7 +40,7 @@ fn all_different(list: &[u16], n: usize, work: &mut [u16]) -> bool
     true
 }
 
-// A list that breaks nowhere is an accepting path with that k. A list with no entry behind place k is none: k is not below its
+// A list that breaks nowhere is an accepting path with that k. A list with no entry after place k is none: k is not below its
 // length.
 pub fn accepts(file: &[u8], h: Header, list: &[u16], k: u16, work: &mut [u16]) -> bool
     requires { ⌜ Valid (now file) h ⌝ }
@@ -62,5 +62,5 @@ pub fn accepts(file: &[u8], h: Header, list: &[u16], k: u16, work: &mut [u16]) -
         return false;
     }
     let place = k as usize;
-    closes_at(file, h, list, place)
+    loops_at(file, h, list, place)
 }

@@ -4,6 +4,8 @@ ghost use Prim.Native.Nat.{_≤_};
 ghost use lib.ListN.{length};
 use case_text::byte_at;
 use case_text::find;
+use case_text::line_after;
+use case_text::line_at;
 use case_text::make;
 use case_text::make_entries;
 use case_text::next_number;
@@ -95,7 +97,7 @@ fn show(tried: Tried) {
     );
 }
 
-// Runs a case whose name ends at a place; its file is described behind a slash, its list behind a bar.
+// Runs a case whose name ends at a place; its file is described after a slash, its list after a bar.
 fn run_case(line: &[u8], colon: usize, before: Judged) -> Judged
     requires { ⌜ colon ≤ length (now line) ⌝ }
 {
@@ -132,9 +134,8 @@ fn run(script: &[u8]) -> Judged {
     };
     let mut at = 0;
     while at < script.len() {
-        let end = find(script, at, b'\n');
-        so_far = run_line(part(script, at, end), so_far);
-        at = end + 1;
+        so_far = run_line(line_at(script, at), so_far);
+        at = line_after(script, at);
     }
     so_far
 }

@@ -1,7 +1,7 @@
 // The calls of the library, each with tables of its own.
 ghost use Prim.Native.Nat.{_≤_};
-use grade_apart::Claim;
-use grade_apart::entry;
+use grade_independent::Claim;
+use grade_independent::entry;
 use grade_trials::Tried;
 use harness::first;
 use harness::second_of;
@@ -51,7 +51,7 @@ pub fn search(file: &[u8], mark_table: u16, table: &mut Table, room: usize) -> u
     requires { ⌜ room ≤ 48 ⌝ }
 {
     let mut work = [0u16; 48];
-    trials::search(file, mark_table, 4096, 65535, table, 8, &mut work, room)
+    finder_trials::search(file, mark_table, 4096, 65535, table, 8, &mut work, room)
 }
 
 // Next after the list in the table, which an answer brought.
@@ -69,7 +69,7 @@ pub fn next(file: &[u8], mark_table: u16, before: u64, table: &mut Table, room: 
         table[7],
     ];
     let mut work = [0u16; 48];
-    trials::next(
+    finder_trials::next(
         file,
         mark_table,
         first(&earlier, written(before)),

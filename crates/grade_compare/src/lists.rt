@@ -2,7 +2,7 @@
 // each with every k.
 use exhaustive::and;
 use exhaustive::digit;
-use grade_apart::Claim;
+use grade_independent::Claim;
 
 // A list with so many entries, and which k is claimed for it: 0 up to the number of entries, which is one more than the
 // transitions, and then 65,535. Or, if `back` holds, only the way back to that list from the longer ones that begin with it.

@@ -1,4 +1,4 @@
-// Compares the grader with a grade written apart: all lists of up to two entries more than there are states, with every k,
+// Compares a grade with an independent one: all lists of up to two entries more than there are states, with every k,
 // on all models of one and two states, on models of three with every edge set, and on pseudo-random ones of four, without
 // implied steps and with them, in files with one mark table and with two, either of them named. Every list that a search
 // and next bring is graded too.
@@ -50,7 +50,7 @@ fn compare_turn(
     }
     let claim = claim_of(turn);
     let seen = calls::grade(file, mark_table, claim, room(m.states, turn.which));
-    with_grade(t, m, claim, seen, grade_apart::grade(m, least, claim))
+    with_grade(t, m, claim, seen, grade_independent::grade(m, least, claim))
 }
 
 // Compares the grades of all lists with every k, on a model whose steps are all edges. There are far more turns than

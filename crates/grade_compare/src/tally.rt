@@ -1,8 +1,8 @@
 // The counts that are printed, and the comparison that counts differences.
 use exhaustive::Model;
 use exhaustive::Placed;
-use grade_apart::Claim;
-use grade_apart::Graded;
+use grade_independent::Claim;
+use grade_independent::Graded;
 use grade_trials::ACCEPTING;
 use grade_trials::FALSE;
 use grade_trials::SHORTEST;
@@ -139,7 +139,7 @@ fn show(m: Model, c: Claim, seen: Tried, right: Graded) {
         0,
         &[
             m.states as u64,
-            m.initial as u64,
+            m.start as u64,
             m.edges,
             m.marks,
             c.list,

@@ -7,12 +7,9 @@ ghost use Rattle.lasso.specs.Roll.{leastLength};
 ghost use Rattle.model.specs.Model.{graphIn};
 ghost use Rattle.model.specs.Values.{Valid};
 ghost use Rattle.grade_verdicts.specs.Verdict.{leastb};
-use begun::ALL_ROUNDS;
-use begun::Begun;
-use begun::FULL_CEILING;
-use begun::begin;
+use begun::AllRounds;
+use begun::all_rounds;
 use lasso::Entries;
-use lasso::Transitions;
 use model::Header;
 
 // The list has the least length of an accepting path: all rounds are done.
@@ -23,11 +20,10 @@ pub fn is_least(file: &[u8], h: Header, list: &[u16], work: &mut [u16]) -> bool
     ensures tells { λ r. ⌜ r ≡ leastb (leastLength (graphIn (now (file .entry)) h)) (edges (now (list .entry))) ⌝ }
     ensures kept { λ _. ⌜ length (now (work .exit)) ≡ length (now (work .entry)) ⌝ }
 {
-    let begun = begin(file, h, Transitions(FULL_CEILING), ALL_ROUNDS, work);
-    match begun {
-        Begun::Stopped(_) => false,
-        Begun::NoneWithin(_) => false,
-        Begun::Length(transitions, _) => {
+    let completed = all_rounds(file, h, work);
+    match completed {
+        AllRounds::None(_) => false,
+        AllRounds::Length(transitions, _) => {
             let entries = transitions.entries();
             let given = Entries(list.len());
             if given.0 != entries.0 {

@@ -2,8 +2,8 @@
 use Prim.Native.Nat.{ℕ}
 use mathlib.Core.Path.{_≡_, sym, _∙_, ap}
 use mathlib.Core.List.{List}
-use Rattle.grader.specs.declared.GradeAnswer.{GradeAnswer}
-use Rattle.grader.specs.Grade.{gradeOutcomeOf}
+use Rattle.grade.specs.declared.GradeAnswer.{GradeAnswer}
+use Rattle.grade.specs.Grade.{gradeOutcomeOf}
 use Rattle.grade_report.specs.Grades.{placeIn}
 
 -- the table of the place after a grade that is known

@@ -4,7 +4,7 @@ use mathlib.Core.List.{List, [], _∷_}
 use mathlib.Core.Option.{Option, some, none}
 use Rattle.outcomes.specs.Outcome.{Outcome, refused, answered}
 use Rattle.outcomes.specs.Tables.{written}
-use Rattle.grader.specs.Grade.{Grade}
+use Rattle.grade.specs.Grade.{Grade}
 use Rattle.grade_verdicts.specs.Verdict.{Said, accepting, shortest}
 use Rattle.figures.specs.Kinds.{Report, isThere, refusal}
 

@@ -2,14 +2,14 @@
 ghost use mathlib.Core.Path.{_≡_};
 ghost use Prim.Native.Nat.{_≤_};
 ghost use lib.ListN.{length};
-ghost use Rattle.grader.specs.Grade.{verdictOf, gradeOutcomeOf};
+ghost use Rattle.grade.specs.Grade.{verdictOf, gradeOutcomeOf};
 ghost use Rattle.figures.specs.Kinds.{figuresIn};
 ghost use Rattle.grade_report.specs.Grades.{verdictKind, gradeReport, placeIn};
 use figures::ACCEPTING;
 use figures::FALSE;
 use figures::SHORTEST;
-use grader::GradeAnswer;
-use grader::Verdict;
+use grade::GradeAnswer;
+use grade::Verdict;
 use paths::FirstBreak;
 
 // The kind of a verdict.

@@ -1,8 +1,8 @@
 // A grade on trial: the working table is filled before the call and looked at after it, and the answer is a few numbers.
 ghost use Prim.Native.Nat.{_≤_};
 ghost use lib.ListN.{length};
-use grader::GradeAnswer;
-use grader::Verdict;
+use grade::GradeAnswer;
+use grade::Verdict;
 use harness::VARIED;
 use harness::fill;
 use harness::wrong_work;
@@ -74,7 +74,7 @@ fn answered(given: GradeAnswer) -> Tried {
 // A grade with the whole of a working table.
 fn grade_on(file: &[u8], mark_table: u16, list: &[u16], k: u16, work: &mut [u16]) -> Tried {
     fill(work, VARIED);
-    let given = answered(grader::grade(file, mark_table, list, k, work));
+    let given = answered(grade::grade(file, mark_table, list, k, work));
     Tried {
         said: given.said,
         refusal: given.refusal,

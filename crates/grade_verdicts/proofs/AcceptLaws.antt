@@ -8,10 +8,10 @@ use native.Mathlib.Omega.{arith}
 use borrow.Author.Tests.{eq-eqb, ne-eqb}
 use lib.ListN.{length, getD, take}
 use lib.Dec.{T, eqb, leb, ltb, eqb→eq, leb→le, le→leb, ltb→lt, lt→ltb, not-T}
-use Rattle.lasso.specs.Lists.{pick, differentb}
+use Rattle.lists.specs.Lists.{pick, differentb}
 use Rattle.lasso.specs.Graph.{Graph, edges, pathb, loopsb}
 use Rattle.lasso.specs.Roll.{leastLength}
-use Rattle.lasso.proofs.Tests.{parts, join, same-tests, T-false, eq→eqb}
+use Rattle.lists.proofs.Tests.{parts, join, same-tests, T-false, eq→eqb}
 use Rattle.grade_verdicts.specs.Verdict.{acceptsAt, leastb, Said, accepting, shortest, verdict}
 
 -- without an accepting path no length is the least

@@ -8,12 +8,12 @@ use mathlib.Core.Option.{Option, some, none}
 use native.Mathlib.Omega.{arith}
 use lib.ListN.{length, getD, take}
 use lib.Dec.{T, eqb, leb, ltb, eqb→eq, le→leb, ltb→lt, lt→ltb, T-not, not-T}
-use Rattle.lasso.specs.Lists.{pick, anyb, below, differentb}
+use Rattle.lists.specs.Lists.{pick, anyb, below, differentb}
 use Rattle.lasso.specs.Graph.{Graph, WellFormed, edges, pathb, loopsb, lassob, acceptingb, loopStart}
 use Rattle.lasso.specs.Roll.{leastLength}
 use Rattle.lasso.specs.Shown.{HasLength, OfLeastLength}
-use Rattle.lasso.proofs.Tests.{parts, join, eq→eqb, some-anyb, lt-below}
-use Rattle.lasso.proofs.Least.{IsLeast}
+use Rattle.lists.proofs.Tests.{parts, join, eq→eqb, some-anyb, lt-below}
+use Rattle.lists.proofs.Least.{IsLeast}
 use Rattle.lasso.proofs.Lasso.{loop-start}
 use Rattle.lasso.proofs.ShownLaws.{to-be-shown}
 use Rattle.lasso.proofs.RollLaws.{Shortest, accepting-lasso, lasso-edges, leastLength-least, in-roll}

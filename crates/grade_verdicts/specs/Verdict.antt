@@ -6,7 +6,7 @@ use mathlib.Core.List.{List}
 use mathlib.Core.Option.{Option, some, none}
 use lib.ListN.{length, getD, take}
 use lib.Dec.{eqb, leb, ltb}
-use Rattle.lasso.specs.Lists.{pick, differentb}
+use Rattle.lists.specs.Lists.{pick, differentb}
 use Rattle.lasso.specs.Graph.{Graph, edges, pathb, loopsb}
 use Rattle.lasso.specs.Roll.{leastLength}
 

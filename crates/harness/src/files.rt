@@ -25,14 +25,14 @@ pub fn put16(file: &mut [u8], at: usize, value: usize)
 }
 
 // The 16-bit number at a place of the header, counted in such numbers, of a file with so many states and edges.
-pub fn header_word(place: usize, states: usize, edges: usize, initial: usize) -> usize
+pub fn header_word(place: usize, states: usize, edges: usize, start: usize) -> usize
     requires { ⌜ states ≤ 4097 ⌝ }
     requires { ⌜ edges ≤ 8194 ⌝ }
 {
     match place {
         0 => states,
         1 => edges,
-        2 => initial,
+        2 => start,
         4 => 24,
         6 => 26 + 2 * states,
         8 => 26 + 2 * states + 2 * edges,

@@ -19,7 +19,7 @@ fn number(value: u64) {
     }
 }
 
-// The number at a place, none behind the end.
+// The number at a place, none after the end.
 fn number_at(numbers: &[u64], place: usize) -> u64 {
     if place < numbers.len() {
         return numbers[place];

@@ -68,7 +68,7 @@ pub fn wrong_work(work: &[u16], refusal: usize) -> u64
     unlike(work, 0, left_after(refusal))
 }
 
-// The entry at a place, 0 behind the end.
+// The entry at a place, 0 after the end.
 pub fn entry(table: &[u16], at: usize) -> usize
     ensures { λ r. ⌜ r < 65536 ⌝ }
 {

@@ -1,22 +1,21 @@
 -- Laws of hits: what hitLevel and hitLength find is the least over walks from sources; a single source gives distances;
 -- sources at or above the limit do not matter below it.
 use Prim.Native.Nat.{ℕ, suc, _+_, _≤_, _<_}
-use mathlib.Core.Path.{_≡_, refl, sym, _∙_, ap}
-use mathlib.Core.List.{List, [], _∷_, List·Memᴰ, List·Memᴰ·head, List·Memᴰ·tail}
+use mathlib.Core.Path.{_≡_, sym, _∙_, ap}
 use mathlib.Core.Option.{Option, some, none}
 use native.Mathlib.Omega.{arith}
 use native.Mathlib.Decide.{ℕ-discrete}
-use Rattle.lasso.specs.Lists.{below}
+use Rattle.lists.specs.Lists.{below}
 use Rattle.lasso.specs.Graph.{Graph, WellFormed}
 use Rattle.lasso.specs.Distance.{dist, distPlus}
-use Rattle.lasso.specs.Rounds.{sum, leastOf}
-use Rattle.lasso.proofs.Tests.{below-lt, lt-below}
-use Rattle.lasso.proofs.Least.{IsLeast, Sums, OfEntry, isLeast-unique, isLeast-iff, isLeast-own, sum-least, leastOf-least}
+use Rattle.lists.specs.Least.{sum, leastOf}
+use Rattle.lists.proofs.Tests.{below-lt, lt-below}
+use Rattle.lists.proofs.Least.{IsLeast, Sums, OfEntry, isLeast-unique, isLeast-iff, isLeast-own, sum-least, leastOf-least, leastOf-cong}
 use Rattle.lasso.proofs.Walk.{Walk}
 use Rattle.lasso.proofs.Distance.{dist-least, distPlus-least, distPlus-range}
-use Rattle.lasso.specs.Limit.{under}
+use Rattle.lists.specs.Limit.{under}
 use Rattle.hits.specs.Hit.{hitLevel, hitLength}
-use Rattle.lasso.proofs.UnderLaws.{under-least, under-some, some-under}
+use Rattle.lists.proofs.UnderLaws.{under-least, under-some, some-under}
 
 -- k is the start level a of a source s below n, and m more that P allows from s
 abbrev pub Timed : ℕ → (ℕ → Option ℕ) → (ℕ → ℕ → Type 0) → ℕ → Type 0
@@ -40,12 +39,6 @@ hitLevel-least {g} wf source t =
 pub hitLength-least : {g : Graph} → WellFormed g → (source : ℕ → Option ℕ) (t : ℕ) → IsLeast (Timed (g .size) source (λ s m. (1 ≤ m) × Walk g s t m)) (hitLength g source t)
 hitLength-least {g} wf source t =
     timed-least (g .size) source (λ s m. (1 ≤ m) × Walk g s t m) (λ s. distPlus g s t) (λ s l. distPlus-least wf s t)
-
--- the least over a list depends only on the values that its entries are given
-pub leastOf-cong : (f f' : ℕ → Option ℕ) (xs : List ℕ) → ((x : ℕ) → List·Memᴰ x xs → f x ≡ f' x) → leastOf f xs ≡ leastOf f' xs
-leastOf-cong f f' [] same = refl
-leastOf-cong f f' (x ∷ xs) same =
-    rw (same x (List·Memᴰ·head refl), leastOf-cong f f' xs (λ y m. same y (List·Memᴰ·tail m)))
 
 -- the hit level depends on the states' start levels only
 pub hitLevel-cong : (g : Graph) (source source' : ℕ → Option ℕ) (t : ℕ) → ((s : ℕ) → s < g .size → source s ≡ source' s) → hitLevel g source t ≡ hitLevel g source' t

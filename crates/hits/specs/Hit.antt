@@ -1,10 +1,10 @@
 -- Sources with start levels of their own, the level at which a state is first hit, and the length into a target.
 use Prim.Native.Nat.{ℕ}
 use mathlib.Core.Option.{Option}
-use Rattle.lasso.specs.Lists.{below}
+use Rattle.lists.specs.Lists.{below}
 use Rattle.lasso.specs.Graph.{Graph}
 use Rattle.lasso.specs.Distance.{dist, distPlus}
-use Rattle.lasso.specs.Rounds.{sum, leastOf}
+use Rattle.lists.specs.Least.{sum, leastOf}
 
 -- the least level at which a walk from a source hits t: a source's walk starts at the source's level
 abbrev pub hitLevel : Graph → (ℕ → Option ℕ) → ℕ → Option ℕ

@@ -10,13 +10,14 @@ use borrow.Author.Tests.{le-ltb}
 use lib.ListN.{length, getD, take, drop}
 use lib.Seq.{getD-take, length-take-le}
 use lib.Dec.{eqb, ltb}
-use Rattle.lasso.specs.Lists.{anyb, below, someIf}
+use Rattle.lists.specs.Lists.{anyb, below, someIf}
+use Rattle.numbers.specs.Limits.{fileBytes}
 use Rattle.format.specs.Bytes.{word, long}
-use Rattle.format.specs.Layout.{states, edgeCount, initial, rowsAt, edgesAt, marksAt, markBytes, totalOf}
-use Rattle.format.specs.Rules.{Reason, rules, firstBroken, shortFile, badStates, badEdges, badInitial, badReserved, badOffsets, badLength}
-use Rattle.format.proofs.Reasons.{none-clear, clear-append, broken-append, false-not}
-use Rattle.input_sizes.specs.Sizes.{fileBytes}
-use Rattle.input_sizes.proofs.LongestLaws.{kept-length}
+use Rattle.format.specs.Layout.{states, edgeCount, startOf, rowsAt, edgesAt, marksAt, markBytes, totalOf}
+use Rattle.format.specs.Rules.{Reason, rules, firstBroken, shortFile, badStates, badEdges, badStart, badStays, badOffsets, badLength}
+use Rattle.lists.proofs.Fails.{false-not}
+use Rattle.format.proofs.Reasons.{none-clear, clear-append, broken-append}
+use Rattle.input_sizes.proofs.LongestLaws.{kept-within}
 
 -- 7, as a reason that holds
 abbrev seven : List Reason
@@ -37,7 +38,7 @@ longer f more e =
     elim (badLength f) as (λ b. badLength f ≡ b → b ≡ true) [
       | true ↦ λ q. refl
       | false ↦ λ q.
-          let within = kept-length f (from2 .0) (from2 .1 .0) (from2 .1 .1 .1 .1 .0) (false-not (badLength f) q) in
+          let within = kept-within f (from2 .0) (from2 .1 .0) (from2 .1 .1 .1 .1 .0) (false-not (badLength f) q) in
           absurd (omega (arith, within))
     ] refl
 
@@ -97,9 +98,9 @@ module _ (k : ℕ) (f : List ℕ) where
       le-ltb (length (take k f)) 24 (omega (arith, length-take-le k f fits)) ∙ sym (le-ltb (length f) 24 (omega arith)) in
       let b2 : badStates (take k f) ≡ badStates f = ap (λ (x : ℕ). eqb x 0 || ltb 4096 x) n in
       let b3 : badEdges (take k f) ≡ badEdges f = ap (λ (x : ℕ). ltb 8192 x) m in
-      let b4 : badInitial (take k f) ≡ badInitial f =
-      ap (λ (x : ℕ). not (ltb x (states (take k f)))) (word-take 4 (omega arith)) ∙ ap (λ (x : ℕ). not (ltb (initial f) x)) n in
-      let b5 : badReserved (take k f) ≡ badReserved f = ap (λ (x : ℕ). ltb 1 x) (word-take 6 (omega arith)) in
+      let b4 : badStart (take k f) ≡ badStart f =
+      ap (λ (x : ℕ). not (ltb x (states (take k f)))) (word-take 4 (omega arith)) ∙ ap (λ (x : ℕ). not (ltb (startOf f) x)) n in
+      let b5 : badStays (take k f) ≡ badStays f = ap (λ (x : ℕ). ltb 1 x) (word-take 6 (omega arith)) in
       let b6 : badOwn (take k f) ≡ badOwn f =
       ap (λ (x : ℕ). offsetsBad x (edgeCount (take k f)) (long (take k f) 8) (long (take k f) 12) (long (take k f) 16) (long (take k f) 20)) n
       ∙ ap (λ (x : ℕ). offsetsBad (states f) x (long (take k f) 8) (long (take k f) 12) (long (take k f) 16) (long (take k f) 20)) m
@@ -107,16 +108,16 @@ module _ (k : ℕ) (f : List ℕ) where
       ∙ ap (λ (x : ℕ). offsetsBad (states f) (edgeCount f) (long f 8) x (long (take k f) 16) (long (take k f) 20)) edges
       ∙ ap (λ (x : ℕ). offsetsBad (states f) (edgeCount f) (long f 8) (long f 12) x (long (take k f) 20)) marks
       ∙ ap (λ (x : ℕ). offsetsBad (states f) (edgeCount f) (long f 8) (long f 12) (long f 16) x) total in
-      ap (λ (b : Bool). six b (badStates (take k f)) (badEdges (take k f)) (badInitial (take k f)) (badReserved (take k f)) (badOwn (take k f))) short
-      ∙ ap (λ (b : Bool). six (shortFile f) b (badEdges (take k f)) (badInitial (take k f)) (badReserved (take k f)) (badOwn (take k f))) b2
-      ∙ ap (λ (b : Bool). six (shortFile f) (badStates f) b (badInitial (take k f)) (badReserved (take k f)) (badOwn (take k f))) b3
-      ∙ ap (λ (b : Bool). six (shortFile f) (badStates f) (badEdges f) b (badReserved (take k f)) (badOwn (take k f))) b4
-      ∙ ap (λ (b : Bool). six (shortFile f) (badStates f) (badEdges f) (badInitial f) b (badOwn (take k f))) b5
-      ∙ ap (λ (b : Bool). six (shortFile f) (badStates f) (badEdges f) (badInitial f) (badReserved f) b) b6
+      ap (λ (b : Bool). six b (badStates (take k f)) (badEdges (take k f)) (badStart (take k f)) (badStays (take k f)) (badOwn (take k f))) short
+      ∙ ap (λ (b : Bool). six (shortFile f) b (badEdges (take k f)) (badStart (take k f)) (badStays (take k f)) (badOwn (take k f))) b2
+      ∙ ap (λ (b : Bool). six (shortFile f) (badStates f) b (badStart (take k f)) (badStays (take k f)) (badOwn (take k f))) b3
+      ∙ ap (λ (b : Bool). six (shortFile f) (badStates f) (badEdges f) b (badStays (take k f)) (badOwn (take k f))) b4
+      ∙ ap (λ (b : Bool). six (shortFile f) (badStates f) (badEdges f) (badStart f) b (badOwn (take k f))) b5
+      ∙ ap (λ (b : Bool). six (shortFile f) (badStates f) (badEdges f) (badStart f) (badStays f) b) b6
 
 -- the number that refuses a file longer than every file
 long-number : (f : List ℕ) → (n : ℕ) × (firstBroken (firstSix f ++ seven) ≡ some n)
-long-number f = six-some (shortFile f) (badStates f) (badEdges f) (badInitial f) (badReserved f) (badOwn f)
+long-number f = six-some (shortFile f) (badStates f) (badEdges f) (badStart f) (badStays f) (badOwn f)
 
 -- a file of k bytes or more is refused with the same number as its first k bytes, if k is more than the longest file has
 pub cut-refused : (k : ℕ) (f : List ℕ) → fileBytes ≤ k → k ≤ length f

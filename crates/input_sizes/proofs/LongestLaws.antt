@@ -9,22 +9,23 @@ use native.Mathlib.Omega.{arith}
 use borrow.Author.Tests.{lt-ltb, le-ltb, eq-eqb, ne-eqb}
 use lib.ListN.{length, getD}
 use lib.Dec.{T, eqb, ltb, nltb→le}
-use Rattle.lasso.specs.Lists.{pick, anyb, upFrom, below}
-use Rattle.lasso.specs.Graph.{ascendingb}
-use Rattle.lasso.proofs.BelowLaws.{map-below-length, map-below-at}
+use Rattle.lists.specs.Lists.{pick, anyb, upFrom, below, ascendingb}
+use Rattle.lists.proofs.BelowLaws.{map-below-length, map-below-at}
+use Rattle.numbers.specs.Limits.{longestFile}
 use Rattle.format.specs.Bytes.{word, long}
-use Rattle.format.specs.Layout.{states, edgeCount, initial, reserved, edgesAt, markBytes, totalOf, rowEntry, target, rowTargets}
-use Rattle.format.specs.Rules.{rules, Accepted, shortFile, badStates, badEdges, badInitial, badReserved, badOffsets, badLength, badRows, badTargets, badOrder, badSpare}
-use Rattle.format.proofs.Reasons.{none-clear, false-not}
+use Rattle.format.specs.Layout.{states, edgeCount, startOf, staysWord, edgesAt, markBytes, totalOf, rowEntry, target, rowTargets}
+use Rattle.format.specs.Rules.{rules, Accepted, shortFile, badStates, badEdges, badStart, badStays, badOffsets, badLength, badRows, badTargets, badOrder, badSpare}
+use Rattle.lists.proofs.Fails.{false-not, neither, passes, same-passes, le-fails, lt-passes, none-below-passes}
+use Rattle.format.proofs.Reasons.{none-clear}
 use Rattle.format.proofs.Kept.{states-kept, length-kept}
 use Rattle.format.proofs.Marks.{one-table, one-or-two-totals, spare-of-both-tables}
-use Rattle.writer.proofs.RuleLaws.{clear-unbroken, neither, passes, same-passes, le-fails, lt-passes, none-below-passes}
-use Rattle.input_sizes.specs.Sizes.{longestFile, LongestFile}
+use Rattle.writer.proofs.RuleLaws.{clear-unbroken}
+use Rattle.input_sizes.specs.Sizes.{LongestFile}
 
 -- a file that keeps 2, 3, 6 and 7 is not longer
-pub kept-length : (f : List ℕ) → T (not (badStates f)) → T (not (badEdges f)) → T (not (badOffsets (totalOf (states f) (edgeCount f)) 2 f))
+pub kept-within : (f : List ℕ) → T (not (badStates f)) → T (not (badEdges f)) → T (not (badOffsets (totalOf (states f) (edgeCount f)) 2 f))
     → T (not (badLength f)) → length f ≤ longestFile
-kept-length f rule2 rule3 rule6 rule7 =
+kept-within f rule2 rule3 rule6 rule7 =
     let n = states-kept f rule2 in
     let m = nltb→le 8192 (edgeCount f) rule3 in
     let (t, few, long) = length-kept (totalOf (states f) (edgeCount f)) 2 f rule6 rule7 in
@@ -35,13 +36,13 @@ at-most : (f : List ℕ) → Accepted f → length f ≤ longestFile
 at-most f accepted =
     let from2 = none-clear (rules f) accepted .1 in
     let from6 = from2 .1 .1 .1 .1 in
-    kept-length f (from2 .0) (from2 .1 .0) (from6 .0) (from6 .1 .0)
+    kept-within f (from2 .0) (from2 .1 .0) (from6 .0) (from6 .1 .0)
 
 -- the byte at a place of a file, by its 16-bit numbers
 abbrev byteOf : (ℕ → ℕ) → ℕ → ℕ
 byteOf number i = pick (eqb (i % 2) 0) (number (i / 2) % 256) (number (i / 2) / 256)
 
--- the bytes of a number stand at twice its place and behind it
+-- the bytes of a number stand at twice its place and after it
 low-byte : (number : ℕ → ℕ) (k : ℕ) → byteOf number (2 * k) ≡ number k % 256
 low-byte number k =
     ap (λ (b : Bool). pick b (number (2 * k / 2) % 256) (number (2 * k / 2) / 256)) (eq-eqb (2 * k % 2) 0 (omega arith))
@@ -116,8 +117,8 @@ module _ (f : List ℕ) (length-is : length f ≡ longestFile) (number : (k : �
       let rule1 : T (not (shortFile f)) = le-fails (length f) 24 (omega arith) in
       let rule2 : T (not (badStates f)) = rw states-are tt in
       let rule3 : T (not (badEdges f)) = le-fails 8192 (edgeCount f) (omega (arith, edges-are)) in
-      let rule4 : T (not (badInitial f)) = lt-passes (initial f) (states f) (omega (arith, states-are, number 2 (omega arith))) in
-      let rule5 : T (not (badReserved f)) = le-fails 1 (reserved f) (omega (arith, number 3 (omega arith))) in
+      let rule4 : T (not (badStart f)) = lt-passes (startOf f) (states f) (omega (arith, states-are, number 2 (omega arith))) in
+      let rule5 : T (not (badStays f)) = le-fails 1 (staysWord f) (omega (arith, number 3 (omega arith))) in
       let total : long f 20 ≡ 25626 = offset 10 25626 (omega arith) refl refl in
       let rule6 : T (not (badOffsets (totalOf (states f) (edgeCount f)) 2 f)) =
       false-not (badOffsets (totalOf (states f) (edgeCount f)) 2 f) (one-or-two-totals f .1 (
@@ -153,6 +154,6 @@ unfolding longest
 longest-file =
     let size : length longest ≡ longestFile = map-below-length (byteOf numberOf) longestFile in
     record {
-      at-most = at-most;
-      reached = (longest, accepted longest size (λ k inside. number-at numberOf longestFile k (omega arith)), size);
+      at-most = λ f accepted. omega (arith, at-most f accepted);
+      reached = (longest, accepted longest size (λ k inside. number-at numberOf longestFile k (omega arith)), omega (arith, size));
     }

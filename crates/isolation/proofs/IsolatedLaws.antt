@@ -18,39 +18,39 @@ use Rattle.gate.specs.Gate.{asking, noTable, namedRules, ceilingReason, workAft
 use Rattle.step.specs.Step.{stepped}
 use Rattle.search.specs.Search.{searched, firstDue}
 use Rattle.next.specs.Next.{followed, dueReasons}
-use Rattle.grader.specs.Grade.{gradeOf}
+use Rattle.grade.specs.Grade.{gradeOf}
 use Rattle.isolation.specs.SameBut.{SameBut}
 use Rattle.isolation.specs.Isolated.{Isolation}
 use Rattle.isolation.proofs.TreatedAlike.{RefusalTellsNothing, answered-alike}
 
 module _ {t : ℕ} (limit : t ≤ 1) {f f' : List ℕ} (same : SameBut (1 - t) f f') where
   -- what a call answers that applies 22, then 1 to 12, then reasons that look at the model; 12 looks at its size
-  named-alike : {A : Type 0} (work : ℕ) (later : Graph → List Reason) (answer : Option ℕ → Graph → A) → RefusalTellsNothing answer
-      → answer (firstBroken (namedRules f t work ++ later (graphOf f t))) (graphOf f t)
-      ≡ answer (firstBroken (namedRules f' t work ++ later (graphOf f' t))) (graphOf f' t)
-  named-alike work later answer silent =
+  named-alike : {A : Type 0} (workRoom : ℕ) (later : Graph → List Reason) (answer : Option ℕ → Graph → A) → RefusalTellsNothing answer
+      → answer (firstBroken (namedRules f t workRoom ++ later (graphOf f t))) (graphOf f t)
+      ≡ answer (firstBroken (namedRules f' t workRoom ++ later (graphOf f' t))) (graphOf f' t)
+  named-alike workRoom later answer silent =
       answered-alike limit same (record { number = 22; holds = noTable t })
-      (λ g. record { number = 12; holds = ltb work (6 * g .size) } ∷ later g) answer silent
+      (λ g. record { number = 12; holds = ltb workRoom (6 * g .size) } ∷ later g) answer silent
 
 pub isolation : Isolation
 isolation t limit f f' same =
     record {
-      step-alike = λ ceiling rec work.
-          named-alike limit same work (λ g. ceilingReason ceiling ∷ []) (λ o g. outcome o (stepped g ceiling rec)) (λ n g g'. refl);
-      search-alike = λ ceiling allowance answer work.
+      step-alike = λ ceiling rec workRoom.
+          named-alike limit same workRoom (λ g. ceilingReason ceiling ∷ []) (λ o g. outcome o (stepped g ceiling rec)) (λ n g g'. refl);
+      search-alike = λ ceiling allowance answerRoom workRoom.
           let ask : Ask = asking t ceiling allowance in
-          named-alike limit same work (λ g. ceilingReason ceiling ∷ listReasons g (firstDue g ask) answer)
+          named-alike limit same workRoom (λ g. ceilingReason ceiling ∷ listReasons g (firstDue g ask) answerRoom)
           (λ o g. outcome o (searched g ask)) (λ n g g'. refl);
-      search-writes-alike = λ ceiling allowance a work.
+      search-writes-alike = λ ceiling allowance a workRoom.
           let ask : Ask = asking t ceiling allowance in
-          named-alike limit same work (λ g. ceilingReason ceiling ∷ listReasons g (firstDue g ask) (length a))
+          named-alike limit same workRoom (λ g. ceilingReason ceiling ∷ listReasons g (firstDue g ask) (length a))
           (λ o g. written (unlessRefused o (firstDue g ask)) a) (λ n g g'. refl);
-      next-alike = λ earlier answer work.
-          named-alike limit same work (λ g. dueReasons g earlier (following earlier (roll g)) answer)
+      next-alike = λ earlier answerRoom workRoom.
+          named-alike limit same workRoom (λ g. dueReasons g earlier (following earlier (roll g)) answerRoom)
           (λ o g. outcome o (followed (following earlier (roll g)))) (λ n g g'. refl);
-      next-writes-alike = λ earlier a work.
-          named-alike limit same work (λ g. dueReasons g earlier (following earlier (roll g)) (length a))
+      next-writes-alike = λ earlier a workRoom.
+          named-alike limit same workRoom (λ g. dueReasons g earlier (following earlier (roll g)) (length a))
           (λ o g. written (unlessRefused o (following earlier (roll g))) a) (λ n g g'. refl);
-      grade-alike = λ xs k work. named-alike limit same work (λ g. []) (λ o g. outcome o (gradeOf g xs k)) (λ n g g'. refl);
+      grade-alike = λ xs k workRoom. named-alike limit same workRoom (λ g. []) (λ o g. outcome o (gradeOf g xs k)) (λ n g g'. refl);
       work-alike = λ w. named-alike limit same (length w) (λ g. []) (λ o g. workAfter o w) (λ n g g'. refl);
     }

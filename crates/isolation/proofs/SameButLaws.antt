@@ -10,10 +10,10 @@ use lib.ListN.{length, getD, length-append, List·getD-append}
 use lib.Seq.{getD-append-add}
 use lib.Dec.{eqb, ltb}
 use borrow.Author.Tests.{le-ltb}
-use Rattle.lasso.specs.Lists.{anyb, upFrom}
-use Rattle.lasso.proofs.Tests.{lt-or-ge, T-false}
+use Rattle.lists.specs.Lists.{anyb, upFrom}
+use Rattle.lists.proofs.Tests.{lt-or-ge, T-false}
 use Rattle.format.specs.Bytes.{word, bitb}
-use Rattle.format.specs.Layout.{states, edgeCount, reserved, rowsAt, edgesAt, marksAt, markBytes, tableAt, totalOf, rowTargets, markBit}
+use Rattle.format.specs.Layout.{states, edgeCount, staysWord, rowsAt, edgesAt, marksAt, markBytes, tableAt, totalOf, rowTargets, markBit}
 use Rattle.format.specs.Rules.{badRows, spareSet, badSpare, rules}
 use Rattle.format.proofs.Reasons.{none-clear}
 use Rattle.model.specs.Model.{listIf, withImplied}
@@ -38,8 +38,8 @@ module _ {other : ℕ} {f f' : List ℕ} (same : SameBut other f f') where
   same-edges = same-word 2 (omega arith)
 
   -- bytes 6–7 are the same
-  same-reserved : reserved f ≡ reserved f'
-  same-reserved = same-word 6 (omega arith)
+  same-stays : staysWord f ≡ staysWord f'
+  same-stays = same-word 6 (omega arith)
 
   -- all that the rules read before the marks is the same
   read-alike : ReadAlike f f'
@@ -48,7 +48,7 @@ module _ {other : ℕ} {f f' : List ℕ} (same : SameBut other f f') where
         same-length = same .same-length;
         same-states = same-states;
         same-edges = same-edges;
-        same-initial = same-word 4 (omega arith);
+        same-start = same-word 4 (omega arith);
         same-offset = λ at a b i. same-word at (omega arith) i + 65536 * same-word (at + 2) (omega arith) i;
         same-entry = λ s l. same-word (rowsAt + 2 * s) (omega arith);
         same-target = λ e l.
@@ -110,15 +110,15 @@ eleven-alike (suc (suc t)) limit same = absurd (omega arith)
 
 pub same-refusal : SameRefusal
 same-refusal t limit f f' same =
-    first-alike (read-alike same) totalOf 2 (λ i. ltb 1 (same-reserved same i)) (eleven-alike t limit same)
+    first-alike (read-alike same) totalOf 2 (λ i. ltb 1 (same-stays same i)) (eleven-alike t limit same)
 
 pub same-graph : SameGraph
 same-graph t limit f f' same accepted =
     let kept : badRows f ≡ false = T-false (badRows f) (none-clear (rules f) accepted .1 .1 .1 .1 .1 .1 .1 .0) in
     λ i. record {
       size = same-states same i;
-      start = read-alike same .same-initial i;
-      succs = λ s. withImplied (eqb (same-reserved same i) 1 && ltb s (same-states same i)) s (same-row same kept s i);
+      start = read-alike same .same-start i;
+      succs = λ s. withImplied (eqb (same-stays same i) 1 && ltb s (same-states same i)) s (same-row same kept s i);
       marked = λ s. same-marked limit same s i;
     }
 

@@ -5,7 +5,7 @@ use mathlib.Core.Path.{_≡_, refl, sym, ap, _∙_}
 use mathlib.Core.Bool.{Bool, true, false}
 use mathlib.Core.List.{List, _∷_, _++_}
 use mathlib.Core.Option.{Option, some, none}
-use Rattle.lasso.specs.Lists.{someIf}
+use Rattle.lists.specs.Lists.{someIf}
 use Rattle.lasso.specs.Graph.{Graph}
 use Rattle.format.specs.Rules.{Reason, firstBroken, rules}
 use Rattle.format.proofs.Reasons.{clear-append, broken-append}
@@ -18,7 +18,7 @@ abbrev pub RefusalTellsNothing : {A : Type 0} → (Option ℕ → Graph → A) �
 RefusalTellsNothing answer = (n : ℕ) (g g' : Graph) → answer (some n) g ≡ answer (some n) g'
 
 module _ {t : ℕ} (limit : t ≤ 1) {f f' : List ℕ} (same : SameBut (1 - t) f f') where
-  -- behind the rules 1 to 11 come reasons that look at the model
+  -- after the rules 1 to 11 come reasons that look at the model
   pub treated-alike : {A : Type 0} (later : Graph → List Reason) (answer : Option ℕ → Graph → A) → RefusalTellsNothing answer
       → answer (firstBroken (rules f ++ later (graphOf f t))) (graphOf f t)
       ≡ answer (firstBroken (rules f' ++ later (graphOf f' t))) (graphOf f' t)

@@ -6,16 +6,16 @@ use mathlib.Core.List.{List, [], _∷_, List·Memᴰ, List·Memᴰ·head, List·
 use mathlib.Core.Option.{Option, some, none}
 use native.Mathlib.Omega.{arith}
 use lib.Dec.{T}
-use Rattle.lasso.specs.Lists.{memb}
-use Rattle.lasso.specs.Limit.{under}
+use Rattle.lists.specs.Lists.{memb}
+use Rattle.lists.specs.Limit.{under}
 use Rattle.lasso.specs.Graph.{Graph, WellFormed, edges, acceptingb}
 use Rattle.lasso.specs.Roll.{leastLength, ofLeast, roll, rollWithin}
 use Rattle.lasso.specs.Rounds.{candidates, roundLength, roundWithin}
 use Rattle.lasso.specs.Shown.{OfLeastLength}
 use Rattle.lasso.specs.Ceiling.{PathWithin, LengthWithin, AllLonger, RollAbove, CeilingSays, CeilingShown}
-use Rattle.lasso.proofs.Tests.{lt-or-ge}
-use Rattle.lasso.proofs.Least.{IsLeast, isLeast-iff}
-use Rattle.lasso.proofs.UnderLaws.{under-lt, under-ge, under-least, under-all}
+use Rattle.lists.proofs.Tests.{lt-or-ge}
+use Rattle.lists.proofs.Least.{IsLeast, isLeast-iff}
+use Rattle.lists.proofs.UnderLaws.{under-lt, under-ge, under-least, under-all}
 use Rattle.lasso.proofs.Lasso.{AcceptingLength}
 use Rattle.lasso.proofs.RollLaws.{leastLength-least, leastLength-range, roll-empty, roll-length, in-roll}
 use Rattle.lasso.proofs.RoundLaws.{ThroughLength, round-least, roundLength-le, best-kept}

@@ -10,9 +10,9 @@ use native.Mathlib.Nat.{le-refl}
 use lib.ListN.{length, getD, take}
 use lib.Seq.{getD-take, length-take-le}
 use lib.Dec.{T}
-use Rattle.lasso.specs.Lists.{differentb}
+use Rattle.lists.specs.Lists.{differentb}
 use Rattle.lasso.specs.Graph.{Graph, edges, acceptingb, lassob}
-use Rattle.lasso.proofs.Tests.{decide, lt-or-ge, Repeat, not-different-repeats}
+use Rattle.lists.proofs.Tests.{decide, lt-or-ge, Repeat, not-different-repeats}
 use Rattle.lasso.proofs.Walk.{Walk, walk-append, path-segment}
 use Rattle.lasso.proofs.Lasso.{Lasso, Knot, AcceptingThrough, walk-ends, knot→lasso, lassob→lasso, accepting-iff}
 

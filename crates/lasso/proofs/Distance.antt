@@ -8,12 +8,12 @@ use mathlib.Core.Option.{some}
 use native.Mathlib.Omega.{arith}
 use lib.ListN.{length, getD}
 use lib.Dec.{T}
-use Rattle.lasso.specs.Lists.{differentb, seek}
+use Rattle.lists.specs.Lists.{differentb, seek}
 use Rattle.lasso.specs.Graph.{Graph, WellFormed, edgeb, pathb}
 use Rattle.lasso.specs.Distance.{reachb, dist, distPlus}
-use Rattle.lasso.proofs.Tests.{decide, Repeat, not-different-repeats}
-use Rattle.lasso.proofs.Least.{IsLeast, Passes, isLeast-by, isLeast-le, isLeast-has, seek-least}
-use Rattle.lasso.proofs.Different.{length-different}
+use Rattle.lists.proofs.Tests.{decide, Repeat, not-different-repeats}
+use Rattle.lists.proofs.Least.{IsLeast, Passes, isLeast-by, isLeast-le, isLeast-has, seek-least}
+use Rattle.lists.proofs.Different.{length-different}
 use Rattle.lasso.proofs.Walk.{Run, Walk, walk-append, walk-to, walk-cons, walk-uncons, walk-here, walk-edge, run-path, run-last, run-states, path-segment, reach-walk, walk-reach}
 
 -- a walk that passes a state twice can be cut

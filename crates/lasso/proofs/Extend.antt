@@ -7,12 +7,13 @@ use mathlib.Core.Path.{_≡_, refl, sym, _∙_, ap, subst}
 use mathlib.Core.Logic.{_⊎_, inl, inr, _↔_}
 use mathlib.Core.Option.{some}
 use mathlib.Core.List.{List, [], _∷_, _++_, append-assoc}
-use lib.ListN.{length, getD, length-append, List·getD-append}
+use lib.ListN.{length, getD, length-append}
 use lib.Seq.{append-snoc, getD-append-seam, getD-append-add}
 use lib.Dec.{T}
+use Rattle.lists.proofs.Places.{joined-start, joined-passed}
 use Rattle.lasso.specs.Graph.{Graph, WellFormed, edgeb, pathb, edges, lassob}
 use Rattle.lasso.specs.Roll.{leastLength}
-use Rattle.lasso.proofs.Tests.{lt-or-ge, parts, join}
+use Rattle.lists.proofs.Tests.{lt-or-ge, parts, join}
 use Rattle.lasso.proofs.Walk.{Run, Walk, run-append, run-path, run-last, path-segment}
 use Rattle.lasso.proofs.Lasso.{Lasso, lassob→lasso, lasso→lassob, walk-ends, run-end}
 use Rattle.lasso.proofs.RollLaws.{leastLength-le}
@@ -87,15 +88,6 @@ joined-path {g} {t} {us = us} (x ∷ y ∷ q) h r =
     let e : T (edgeb g x y) = search parts in
     let p : T (pathb g (y ∷ (q ++ t ∷ us))) = joined-path (y ∷ q) (search parts) r in
     search join
-
--- what follows does not change the first state
-pub joined-start : (q : List ℕ) (t : ℕ) (us : List ℕ) → getD (q ++ t ∷ us) 0 0 ≡ getD (q ++ t ∷ []) 0 0
-joined-start [] t us = refl
-joined-start (x ∷ q) t us = refl
-
--- what follows does not change the states passed
-pub joined-passed : (q : List ℕ) (t : ℕ) (us : List ℕ) (j : ℕ) → j < length q → getD (q ++ t ∷ us) j 0 ≡ getD q j 0
-joined-passed q t us j h = List·getD-append q (t ∷ us) 0 j h
 
 -- A path from the initial state that closes a loop at k is a lasso if a state from k to the end is marked: if it is the
 -- last one, then so is the one at k.

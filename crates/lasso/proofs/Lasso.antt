@@ -1,6 +1,6 @@
 -- Lassos by places and by walks: a path from the initial state that closes a loop through a given state q. With it what
 -- the tests of a lasso and of an accepting path say, how long an accepting path is and where its loop starts.
-use Prim.Native.Nat.{ℕ, zero, suc, _+_, _-_, _≤_, _<_}
+use Prim.Native.Nat.{ℕ, _+_, _-_, _≤_, _<_}
 use mathlib.Core.Path.{_≡_, refl, sym, _∙_}
 use mathlib.Core.Logic.{_↔_, inl, inr}
 use mathlib.Core.List.{List, [], _∷_, _++_, List·Memᴰ, append-assoc, append-nil}
@@ -9,10 +9,11 @@ use native.Mathlib.Decide.{decLt}
 use lib.ListN.{length, getD, take, length-append}
 use lib.Seq.{getD-take, length-take-le}
 use lib.Dec.{T, eqb, leb, eqb→eq, le→leb}
-use Rattle.lasso.specs.Lists.{anyb, differentb, placeOf, upFrom, below}
+use Rattle.lists.proofs.Places.{placeOf-first}
+use Rattle.lists.specs.Lists.{anyb, differentb, placeOf, upFrom, below}
 use Rattle.lasso.specs.Graph.{Graph, WellFormed, pathb, edges, loopsb, lassob, acceptingb, loopStart}
-use Rattle.lasso.proofs.Tests.{parts, join, decide, T-true, T-false, eq→eqb, eq-or-apart, anyb-some, some-anyb, upFrom-range, range-upFrom, below-lt, lt-below, different-places}
-use Rattle.lasso.proofs.Different.{length-different-places}
+use Rattle.lists.proofs.Tests.{parts, join, eq→eqb, eq-or-apart, anyb-some, some-anyb, upFrom-range, range-upFrom, below-lt, lt-below, different-places}
+use Rattle.lists.proofs.Different.{length-different-places}
 use Rattle.lasso.proofs.Walk.{Run, done, next, Walk, run-append, walk-from, walk-to, run-path, path-segment, path-states}
 
 -- A lasso whose loop holds the state q: a path from the initial state whose last state is the one at the earlier place k,
@@ -183,18 +184,6 @@ through-length {g} {q} {xs} wf (l, different) =
 -- an accepting path has at most as many edges as the graph has states
 pub accepting-length : (g : Graph) (xs : List ℕ) → WellFormed g → T (acceptingb g xs) → edges xs ≤ g .size
 accepting-length g xs wf h = through-length wf (accepting-iff g xs .0 h .2)
-
--- the first place of an entry: it holds the entry and is no later than any place that does
-pub placeOf-first : (x : ℕ) (xs : List ℕ) (m : ℕ) → m < length xs → getD xs m 0 ≡ x
-    → (placeOf x xs ≤ m) × (getD xs (placeOf x xs) 0 ≡ x)
-placeOf-first x [] m h e = absurd (omega arith)
-placeOf-first x (y ∷ ys) zero h e = rw (T-true (eqb x y) (eq→eqb x y (sym e))) (omega arith, e)
-placeOf-first x (y ∷ ys) (suc m) h e =
-    let (low, holds) = placeOf-first x ys m (omega arith) e in
-    elim (decide (eqb x y)) [
-      | inl t ↦ rw (T-true (eqb x y) t) (omega arith, sym (eqb→eq x y t))
-      | inr n ↦ rw (T-false (eqb x y) n) (omega arith, holds)
-    ]
 
 -- among entries that are all different, equal ones are at the same place
 same-place : (n : ℕ) (xs : List ℕ) → n ≤ length xs → T (differentb (take n xs))

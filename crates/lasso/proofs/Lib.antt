@@ -1,16 +1,8 @@
--- The laws of paths, lassos, distances and rounds, from tests and lists up.
-pub mod Tests
-pub mod Range
-pub mod BelowLaws
-pub mod Ascending
-pub mod Least
-pub mod UnderLaws
-pub mod Different
+-- The laws of paths, lassos, distances and rounds.
 pub mod Walk
 pub mod Distance
 pub mod Lasso
 pub mod Cut
-pub mod Sorted
 pub mod OrderLaws
 pub mod RollLaws
 pub mod PlaceByPlace

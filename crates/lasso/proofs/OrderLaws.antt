@@ -7,14 +7,15 @@ use mathlib.Core.Path.{_≡_, refl, sym, ap, subst}
 use mathlib.Core.Logic.{_⊎_, inl, inr, _↔_}
 use mathlib.Core.Bool.{Bool, true, false, _&&_}
 use mathlib.Core.Option.{some, none}
-use mathlib.Core.List.{List, [], _∷_, map, head?, List·Memᴰ, List·Memᴰ·head, List·Memᴰ·tail, List·Memᴰ·not-nil, List·Memᴰ·append-cases, Memᴰ·append-left, Memᴰ·append-right, Memᴰ·map, Memᴰ·of-map}
+use mathlib.Core.List.{List, [], _∷_, map, head?, List·Memᴰ, List·Memᴰ·head, List·Memᴰ·tail, List·Memᴰ·not-nil, Memᴰ·map, Memᴰ·of-map}
 use lib.ListN.{length, getD, getElem?}
 use lib.Dec.{T, eqb, ltb, eqb→eq, eqb-refl, ltb→lt, lt→ltb, not-T}
-use Rattle.lasso.specs.Lists.{pick, collect, below}
-use Rattle.lasso.specs.Order.{beforeb, lists}
+use Rattle.lists.specs.Lists.{pick, below}
+use Rattle.lasso.specs.Order.{beforeb, allLists}
 use Rattle.lasso.specs.Following.{sameb, following}
-use Rattle.lasso.proofs.Tests.{fst, snd, both, either, or-l, or-r, T-true, T-false, eq→eqb, eq-or-apart, head-mem, below-lt, lt-below}
-use Rattle.lasso.proofs.Sorted.{All, Sorted, all-mem, all-every, all-map, sorted-map, sorted-collect, upFrom-ascends}
+use Rattle.lists.proofs.Tests.{fst, snd, both, either, or-l, or-r, T-true, T-false, eq→eqb, eq-or-apart, head-mem, getD-mem, head-at, below-lt, lt-below}
+use Rattle.lists.proofs.CollectLaws.{mem-collect, collect-mem}
+use Rattle.lists.proofs.Sorted.{All, Sorted, all-mem, all-every, all-map, sorted-map, sorted-collect, upFrom-ascends}
 
 -- the first list stands before the second in dictionary order
 abbrev pub Before : List ℕ → List ℕ → Type 0
@@ -78,54 +79,39 @@ before-total (x ∷ xs) (y ∷ ys) e =
     ]
 
 -- all lists of a length ascend in dictionary order
-pub lists-sorted : (n len : ℕ) → Sorted Before (lists n len)
+pub lists-sorted : (n len : ℕ) → Sorted Before (allLists n len)
 lists-sorted n zero = (tt, tt)
 lists-sorted n (suc len) =
-    sorted-collect (λ (x y : ℕ). x < y) Before (λ x. map (λ xs. x ∷ xs) (lists n len)) (below n)
-    (λ x. sorted-map Before Before (λ xs. x ∷ xs) (lists n len) (λ xs ys h. before-tail x x xs ys refl h) (lists-sorted n len))
-    (λ x y h. all-map (λ u. All (Before u) (map (λ ys. y ∷ ys) (lists n len))) (λ xs. x ∷ xs) (lists n len)
-    (all-every (λ xs. All (Before (x ∷ xs)) (map (λ ys. y ∷ ys) (lists n len))) (lists n len)
-    (λ xs. all-map (Before (x ∷ xs)) (λ ys. y ∷ ys) (lists n len)
-    (all-every (λ ys. Before (x ∷ xs) (y ∷ ys)) (lists n len) (λ ys. before-head x y xs ys h)))))
+    sorted-collect (λ (x y : ℕ). x < y) Before (λ x. map (λ xs. x ∷ xs) (allLists n len)) (below n)
+    (λ x. sorted-map Before Before (λ xs. x ∷ xs) (allLists n len) (λ xs ys h. before-tail x x xs ys refl h) (lists-sorted n len))
+    (λ x y h. all-map (λ u. All (Before u) (map (λ ys. y ∷ ys) (allLists n len))) (λ xs. x ∷ xs) (allLists n len)
+    (all-every (λ xs. All (Before (x ∷ xs)) (map (λ ys. y ∷ ys) (allLists n len))) (allLists n len)
+    (λ xs. all-map (Before (x ∷ xs)) (λ ys. y ∷ ys) (allLists n len)
+    (all-every (λ ys. Before (x ∷ xs) (y ∷ ys)) (allLists n len) (λ ys. before-head x y xs ys h)))))
     (upFrom-ascends 0 n)
 
-module _ {A B : Type 0} where
-  -- what is collected comes from the part of some entry
-  pub mem-collect : (f : A → List B) (xs : List A) (u : B) → List·Memᴰ u (collect f xs) → (x : A) × List·Memᴰ x xs × List·Memᴰ u (f x)
-  mem-collect f [] u m = absurd (List·Memᴰ·not-nil m)
-  mem-collect f (x ∷ xs) u m =
-      elim (List·Memᴰ·append-cases (f x) m) [
-        | inl h ↦ (x, List·Memᴰ·head refl, h)
-        | inr h ↦ let r : (y : A) × List·Memᴰ y xs × List·Memᴰ u (f y) = mem-collect f xs u h in (r .0, List·Memᴰ·tail (r .1), r .2)
-      ]
-
-  -- the part of each entry is collected
-  pub collect-mem : (f : A → List B) (xs : List A) (x : A) (u : B) → List·Memᴰ x xs → List·Memᴰ u (f x) → List·Memᴰ u (collect f xs)
-  collect-mem f (y ∷ ys) x u (List·Memᴰ·head e) h = Memᴰ·append-left (collect f ys) (subst (λ z. List·Memᴰ u (f z)) e h)
-  collect-mem f (y ∷ ys) x u (List·Memᴰ·tail m) h = Memᴰ·append-right (f y) (collect-mem f ys x u m h)
-
 -- every list of a length is of that length, with entries below n
-pub lists-entries : (n len : ℕ) (xs : List ℕ) → List·Memᴰ xs (lists n len) → (length xs ≡ len) × All (λ x. x < n) xs
+pub lists-entries : (n len : ℕ) (xs : List ℕ) → List·Memᴰ xs (allLists n len) → (length xs ≡ len) × All (λ x. x < n) xs
 lists-entries n zero [] m = (refl, tt)
 lists-entries n zero (x ∷ xs) (List·Memᴰ·head e) = absurd (omega (arith, ap length e))
 lists-entries n zero (x ∷ xs) (List·Memᴰ·tail m) = absurd (List·Memᴰ·not-nil m)
 lists-entries n (suc len) xs m =
-    let r : (x : ℕ) × List·Memᴰ x (below n) × List·Memᴰ xs (map (λ ys. x ∷ ys) (lists n len)) = mem-collect (λ x. map (λ ys. x ∷ ys) (lists n len)) (below n) xs m in
+    let r : (x : ℕ) × List·Memᴰ x (below n) × List·Memᴰ xs (map (λ ys. x ∷ ys) (allLists n len)) = mem-collect (λ x. map (λ ys. x ∷ ys) (allLists n len)) (below n) xs m in
     let x : ℕ = r .0 in
-    let s : (ys : List ℕ) × List·Memᴰ ys (lists n len) × (x ∷ ys ≡ xs) = Memᴰ·of-map (λ ys. x ∷ ys) (lists n len) (r .2) in
+    let s : (ys : List ℕ) × List·Memᴰ ys (allLists n len) × (x ∷ ys ≡ xs) = Memᴰ·of-map (λ ys. x ∷ ys) (allLists n len) (r .2) in
     let k : (length (s .0) ≡ len) × All (λ x. x < n) (s .0) = lists-entries n len (s .0) (s .1) in
     subst (λ (zs : List ℕ). (length zs ≡ suc len) × All (λ x. x < n) zs) (s .2) (ap suc (k .0), (below-lt n (r .1), k .1))
 
 -- each list with entries below n is among the lists of its length
-pub in-lists-of-entries : (n : ℕ) (xs : List ℕ) → All (λ x. x < n) xs → List·Memᴰ xs (lists n (length xs))
+pub in-lists-of-entries : (n : ℕ) (xs : List ℕ) → All (λ x. x < n) xs → List·Memᴰ xs (allLists n (length xs))
 in-lists-of-entries n [] h = List·Memᴰ·head refl
 in-lists-of-entries n (x ∷ xs) h =
-    collect-mem (λ x. map (λ ys. x ∷ ys) (lists n (length xs))) (below n) x (x ∷ xs) (lt-below n x (h .0))
+    collect-mem (λ x. map (λ ys. x ∷ ys) (allLists n (length xs))) (below n) x (x ∷ xs) (lt-below n x (h .0))
     (Memᴰ·map (λ ys. x ∷ ys) (in-lists-of-entries n xs (h .1)))
 
 -- a list is among the lists of a length exactly if it has that length and its entries are below n
-pub in-lists : (n len : ℕ) (xs : List ℕ) → List·Memᴰ xs (lists n len) ↔ ((length xs ≡ len) × All (λ x. x < n) xs)
-in-lists n len xs = (lists-entries n len xs, λ h. subst (λ (l : ℕ). List·Memᴰ xs (lists n l)) (h .0) (in-lists-of-entries n xs (h .1)))
+pub in-lists : (n len : ℕ) (xs : List ℕ) → List·Memᴰ xs (allLists n len) ↔ ((length xs ≡ len) × All (λ x. x < n) xs)
+in-lists n len xs = (lists-entries n len xs, λ h. subst (λ (l : ℕ). List·Memᴰ xs (allLists n l)) (h .0) (in-lists-of-entries n xs (h .1)))
 
 -- lists that pass the test of sameness are the same
 pub sameb→eq : (xs ys : List ℕ) → T (sameb xs ys) → xs ≡ ys
@@ -188,17 +174,6 @@ following-none (r ∷ []) xs s (List·Memᴰ·head e) h = following-here xs r []
 following-none (r ∷ q ∷ rs) xs s (List·Memᴰ·head e) h = absurd (h q (List·Memᴰ·tail (List·Memᴰ·head refl)) (subst (λ (z : List ℕ). Before z q) (sym e) (s .0 .0)))
 following-none (r ∷ rs) xs s (List·Memᴰ·tail m) h =
     rw (following-later xs r rs (later-apart r xs rs (s .0) m)) (following-none rs xs (s .1) m (λ zs k. h zs (List·Memᴰ·tail k)))
-
--- the entry at a place is an entry
-pub getD-mem : {A : Type 0} (xs : List A) (i : ℕ) (d : A) → i < length xs → List·Memᴰ (getD xs i d) xs
-getD-mem [] i d h = absurd (omega arith)
-getD-mem (x ∷ xs) zero d h = List·Memᴰ·head refl
-getD-mem (x ∷ xs) (suc i) d h = List·Memᴰ·tail (getD-mem xs i d (omega arith))
-
--- the first entry is the one at place 0
-pub head-at : {A : Type 0} (xs : List A) → head? xs ≡ getElem? xs 0
-head-at [] = refl
-head-at (x ∷ xs) = refl
 
 -- after the list at a place follows the one at the next place
 pub following-at : (rs : List (List ℕ)) (i : ℕ) → Sorted Before rs → i < length rs → following (getD rs i []) rs ≡ getElem? rs (suc i)

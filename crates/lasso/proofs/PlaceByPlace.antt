@@ -8,14 +8,15 @@ use mathlib.Core.Logic.{_⊎_, inl, inr}
 use mathlib.Core.Option.{some, none}
 use mathlib.Core.List.{List, [], _∷_, _++_, head?, List·Memᴰ}
 use lib.ListN.{length, getD, take, drop}
-use lib.Seq.{getD-take, split-at, append-snoc}
+use lib.Seq.{split-at, append-snoc}
 use lib.Dec.{T}
+use Rattle.lists.proofs.Places.{take-same}
 use Rattle.lasso.specs.Graph.{Graph, WellFormed, edges, lassob}
 use Rattle.lasso.specs.Roll.{leastLength, roll}
 use Rattle.lasso.specs.Following.{following}
 use Rattle.lasso.specs.Extends.{Extends}
 use Rattle.lasso.specs.Shown.{Differ, OrderShown}
-use Rattle.lasso.proofs.Tests.{eq-or-apart, lt-or-ge}
+use Rattle.lists.proofs.Tests.{eq-or-apart, lt-or-ge}
 use Rattle.lasso.proofs.OrderLaws.{Before, before-head, before-tail, before-cases, before-total, head-least, following-least, following-none}
 use Rattle.lasso.proofs.RollLaws.{roll-strict, roll-length, roll-lasso, lasso-in-roll, lasso-length}
 
@@ -47,11 +48,7 @@ order-shown xs ys = record {
   total = before-total xs ys;
 }
 
--- lists with the same first j entries have the same entry at each place below j
-pub take-same : (xs ys : List ℕ) (j i : ℕ) → take j xs ≡ take j ys → i < j → getD xs i 0 ≡ getD ys i 0
-take-same xs ys j i e h = sym (getD-take j xs i 0 h) ∙ ap (λ (zs : List ℕ). getD zs i 0) e ∙ getD-take j ys i 0 h
-
--- a list between two lists that agree up to place j differs from one of them behind j, or from both at j
+-- a list between two lists that agree up to place j differs from one of them after j, or from both at j
 pub between-places : (xs ys zs : List ℕ) (j : ℕ) → take j ys ≡ take j xs → (a : Differ xs zs) (d : Differ zs ys)
     → (j < a .place) ⊎ ((j < d .place) ⊎ ((a .place ≡ j) × (d .place ≡ j)))
 between-places xs ys zs j same a d =

@@ -5,19 +5,19 @@ use native.Mathlib.Omega.{arith}
 use mathlib.Core.Path.{_≡_, refl, ap, subst}
 use mathlib.Core.Logic.{_↔_}
 use mathlib.Core.Option.{Option, some, none}
-use mathlib.Core.List.{List, [], _∷_, List·Memᴰ, List·Memᴰ·head, List·Memᴰ·not-nil}
+use mathlib.Core.List.{List, [], List·Memᴰ, List·Memᴰ·not-nil}
 use lib.ListN.{length, getD}
 use lib.Dec.{T, eqb, leb, eqb→eq, leb→le}
-use Rattle.lasso.specs.Lists.{nonEmptyb}
+use Rattle.lists.proofs.Tests.{nonEmpty-some, some-nonEmpty, parts, keep-mem, mem-keep}
+use Rattle.lists.specs.Lists.{nonEmptyb}
 use Rattle.lasso.specs.Graph.{Graph, WellFormed, pathb, edges, lassob, acceptingb}
-use Rattle.lasso.specs.Order.{lists}
+use Rattle.lasso.specs.Order.{allLists}
 use Rattle.lasso.specs.Roll.{ofLength, leastLength, ofLeast, roll}
-use Rattle.lasso.proofs.Tests.{parts, keep-mem, mem-keep}
-use Rattle.lasso.proofs.Least.{IsLeast, isLeast-iff, isLeast-has, Passes, seek-least}
+use Rattle.lists.proofs.Least.{IsLeast, isLeast-iff, isLeast-has, Passes, seek-least}
 use Rattle.lasso.proofs.Walk.{path-states}
 use Rattle.lasso.proofs.Lasso.{AcceptingLength, accepting-length}
 use Rattle.lasso.proofs.Cut.{lasso-accepting, least-lasso-accepting}
-use Rattle.lasso.proofs.Sorted.{All, all-places, Sorted, sorted-keep}
+use Rattle.lists.proofs.Sorted.{All, all-places, Sorted, sorted-keep}
 use Rattle.lasso.proofs.OrderLaws.{Before, lists-sorted, in-lists}
 
 -- an accepting path is a lasso
@@ -41,27 +41,17 @@ lasso-states g w xs h =
 
 -- a list of `ofLength` has one entry more than its edges
 pub ofLength-length : (g : Graph) (l : ℕ) (xs : List ℕ) → List·Memᴰ xs (ofLength g l) → length xs ≡ suc l
-ofLength-length g l xs m = in-lists (g .size) (suc l) xs .0 (keep-mem (acceptingb g) (lists (g .size) (suc l)) m .0) .0
+ofLength-length g l xs m = in-lists (g .size) (suc l) xs .0 (keep-mem (acceptingb g) (allLists (g .size) (suc l)) m .0) .0
 
 -- a list of `ofLength` is an accepting path
 pub ofLength-accepting : (g : Graph) (l : ℕ) (xs : List ℕ) → List·Memᴰ xs (ofLength g l) → T (acceptingb g xs)
-ofLength-accepting g l xs m = keep-mem (acceptingb g) (lists (g .size) (suc l)) m .1
+ofLength-accepting g l xs m = keep-mem (acceptingb g) (allLists (g .size) (suc l)) m .1
 
 -- each accepting path of l edges is in `ofLength`
 pub in-ofLength : (g : Graph) → WellFormed g → (l : ℕ) (xs : List ℕ) → T (acceptingb g xs) → edges xs ≡ l → List·Memᴰ xs (ofLength g l)
 in-ofLength g w l xs h e =
     let a : T (lassob g xs) = accepting-lasso g xs h in
     mem-keep (acceptingb g) (in-lists (g .size) (suc l) xs .1 (lasso-length g l xs a e, lasso-states g w xs a)) h
-
--- a list that is not empty has an entry
-pub nonEmpty-some : {A : Type 0} (xs : List A) → T (nonEmptyb xs) → (x : A) × List·Memᴰ x xs
-nonEmpty-some [] h = absurd h
-nonEmpty-some (x ∷ xs) h = (x, List·Memᴰ·head refl)
-
--- a list that has an entry is not empty
-pub some-nonEmpty : {A : Type 0} {x : A} (xs : List A) → List·Memᴰ x xs → T (nonEmptyb xs)
-some-nonEmpty [] m = List·Memᴰ·not-nil m
-some-nonEmpty (x ∷ xs) m = tt
 
 -- a length from 1 to the number of states of which there is a list
 abbrev pub Occurs : Graph → ℕ → Type 0
@@ -102,7 +92,7 @@ roll-strict g = go (leastLength g)
   where
     go : (a : Option ℕ) → Sorted Before (ofLeast g a)
     go none = tt
-    go (some l) = sorted-keep Before (acceptingb g) (lists (g .size) (suc l)) (lists-sorted (g .size) (suc l))
+    go (some l) = sorted-keep Before (acceptingb g) (allLists (g .size) (suc l)) (lists-sorted (g .size) (suc l))
 
 -- the roll is empty exactly if there is no least length
 pub roll-empty : (g : Graph) → (roll g ≡ []) ↔ (leastLength g ≡ none)

@@ -10,20 +10,21 @@ use native.Mathlib.Omega.{arith}
 use lib.ListN.{length, getD, take, length-take, length-drop}
 use lib.Seq.{getD-take, getD-drop, take-suc, take-length}
 use lib.Dec.{T}
-use Rattle.lasso.specs.Lists.{memb, keep, consIf, upFrom, below, isSome}
+use Rattle.lists.specs.Lists.{memb, keep, consIf, upFrom, below, isSome}
 use Rattle.lasso.specs.Graph.{Graph, WellFormed, edges, acceptingb, loopStart, loop}
-use Rattle.lasso.specs.Limit.{under}
+use Rattle.lists.specs.Limit.{under}
 use Rattle.lasso.specs.Distance.{dist, distPlus}
 use Rattle.lasso.specs.Roll.{leastLength}
-use Rattle.lasso.specs.Rounds.{candidateb, candidates, sum, lesser, leastOf, roundLength, roundWithin, Record, bestLength, afterRound, afterRounds}
-use Rattle.lasso.proofs.Tests.{join, fst, memb-at, at-memb, memb-mem, mem-memb, keep-mem, mem-keep, below-lt, lt-below, lt-or-ge}
-use Rattle.lasso.proofs.Least.{IsLeast, isLeast-le, isLeast-has, isLeast-unique, Sums, OfEntry, isLeast-bounds, isLeast-iff, sum-least, leastOf-least, leastOf-append, lesser-none}
+use Rattle.lists.specs.Least.{sum, lesser, leastOf}
+use Rattle.lasso.specs.Rounds.{candidateb, candidates, roundLength, roundWithin, Record, bestLength, afterRound, afterRounds}
+use Rattle.lists.proofs.Tests.{join, fst, memb-at, at-memb, memb-mem, mem-memb, keep-mem, mem-keep, below-lt, lt-below, lt-or-ge}
+use Rattle.lists.proofs.Least.{IsLeast, isLeast-le, isLeast-has, isLeast-unique, Sums, OfEntry, isLeast-bounds, isLeast-iff, sum-least, leastOf-least, leastOf-append, lesser-none}
 use Rattle.lasso.proofs.Walk.{Walk, walk-here, walk-append, walk-end-state, walk-zero, walk-length, walk-to}
 use Rattle.lasso.proofs.Distance.{dist-least, distPlus-least, dist-le}
 use Rattle.lasso.proofs.Lasso.{Lasso, Knot, AcceptingLength, walk-ends, lasso→knot, knot→lasso, through-length, accepting-iff, loop-start}
 use Rattle.lasso.proofs.Cut.{lasso-accepting-through}
 use Rattle.lasso.proofs.RollLaws.{leastLength-least}
-use Rattle.lasso.proofs.UnderLaws.{leastOf-under}
+use Rattle.lists.proofs.UnderLaws.{leastOf-under}
 
 -- the lengths of walks from the initial state to s and from r to s, put together
 abbrev Ways : Graph → ℕ → ℕ → ℕ → Type 0

@@ -7,18 +7,18 @@ use mathlib.Core.Option.{Option}
 use native.Mathlib.Omega.{arith}
 use lib.ListN.{length, getD}
 use lib.Dec.{T, eqb}
-use Rattle.lasso.specs.Lists.{memb, anyb, upFrom}
+use Rattle.lists.specs.Lists.{memb, anyb, upFrom}
 use Rattle.lasso.specs.Graph.{Graph, edgeb, pathb, edges, loopsb, lassob, acceptingb, loopStart}
 use Rattle.lasso.specs.Distance.{dist, distPlus}
 use Rattle.lasso.specs.Roll.{leastLength, roll}
 use Rattle.lasso.specs.Shown.{HasLength, OfLeastLength, ToBeShown, RollShown, NoEdgeOut, PathLength, DistanceShown, DistancePlusShown}
-use Rattle.lasso.proofs.Tests.{parts, join, memb-at, eq→eqb, eq-or-apart, range-upFrom, some-anyb}
-use Rattle.lasso.proofs.Least.{IsLeast, isLeast-by, isLeast-bounds, isLeast-iff}
+use Rattle.lists.proofs.Tests.{parts, join, memb-at, eq→eqb, eq-or-apart, range-upFrom, some-anyb}
+use Rattle.lists.proofs.Least.{IsLeast, isLeast-by, isLeast-bounds, isLeast-iff}
 use Rattle.lasso.proofs.Walk.{Walk, walk-from, walk-to, walk-length, walk-uncons, run-path, run-last, path-segment}
 use Rattle.lasso.proofs.Distance.{dist-least, distPlus-least}
 use Rattle.lasso.proofs.Lasso.{Lasso, accepting-iff, accepting-length, loop-start}
 use Rattle.lasso.proofs.Cut.{lasso-accepting, least-lasso-accepting}
-use Rattle.lasso.proofs.Sorted.{sorted-at}
+use Rattle.lists.proofs.Sorted.{sorted-at}
 use Rattle.lasso.proofs.OrderLaws.{Before, before-irrefl}
 use Rattle.lasso.proofs.RollLaws.{accepting-lasso, leastLength-least, roll-strict, in-roll}
 use Rattle.lasso.proofs.RoundLaws.{loop-lasso}

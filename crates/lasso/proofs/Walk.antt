@@ -9,7 +9,7 @@ use lib.ListN.{length, getD, length-append}
 use lib.Dec.{T, eqb→eq}
 use Rattle.lasso.specs.Graph.{Graph, WellFormed, edgeb, pathb}
 use Rattle.lasso.specs.Distance.{reachb}
-use Rattle.lasso.proofs.Tests.{fst, snd, both, eq→eqb, anyb-some, some-anyb, memb-mem, mem-memb}
+use Rattle.lists.proofs.Tests.{fst, snd, both, eq→eqb, anyb-some, some-anyb, memb-mem, mem-memb}
 
 -- the edges from s through the states us, of which t is the last (t is s if there are none)
 pub data Run (g : Graph) : ℕ → List ℕ → ℕ → Type 0 where

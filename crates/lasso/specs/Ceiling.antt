@@ -5,11 +5,11 @@ use mathlib.Core.Logic.{_↔_, _⊎_}
 use mathlib.Core.List.{List, [], List·Memᴰ}
 use lib.ListN.{getD}
 use lib.Dec.{T}
-use Rattle.lasso.specs.Lists.{memb}
-use Rattle.lasso.specs.Least.{IsLeast}
+use Rattle.lists.specs.Lists.{memb}
+use Rattle.lists.specs.Least.{IsLeast, lesser}
 use Rattle.lasso.specs.Graph.{Graph, WellFormed, edges, acceptingb, loop}
 use Rattle.lasso.specs.Roll.{roll, rollWithin}
-use Rattle.lasso.specs.Rounds.{candidates, lesser, roundWithin, Record, bestLength, afterRound}
+use Rattle.lasso.specs.Rounds.{candidates, roundWithin, Record, bestLength, afterRound}
 use Rattle.lasso.specs.Shown.{OfLeastLength}
 
 -- an accepting path exists that is not longer than the ceiling

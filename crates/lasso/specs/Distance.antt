@@ -3,7 +3,7 @@ use Prim.Native.Nat.{ℕ, zero, suc}
 use mathlib.Core.Bool.{Bool}
 use mathlib.Core.Option.{Option}
 use lib.Dec.{eqb}
-use Rattle.lasso.specs.Lists.{anyb, seek}
+use Rattle.lists.specs.Lists.{anyb, seek}
 use Rattle.lasso.specs.Graph.{Graph}
 
 -- some path with exactly m edges leads from s to t

@@ -4,7 +4,7 @@ use mathlib.Core.Bool.{Bool, true, false, _&&_}
 use mathlib.Core.List.{List, [], _∷_, head?}
 use mathlib.Core.Option.{Option, none}
 use lib.Dec.{eqb}
-use Rattle.lasso.specs.Lists.{pick}
+use Rattle.lists.specs.Lists.{pick}
 
 -- the two lists are the same, entry by entry
 abbrev pub sameb : List ℕ → List ℕ → Bool

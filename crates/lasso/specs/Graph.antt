@@ -3,8 +3,8 @@ use Prim.Native.Nat.{ℕ, _-_, _<_}
 use mathlib.Core.Bool.{Bool, true, _&&_}
 use mathlib.Core.List.{List, [], _∷_}
 use lib.ListN.{length, getD, take, drop}
-use lib.Dec.{T, eqb, leb, ltb}
-use Rattle.lasso.specs.Lists.{memb, differentb, anyb, upFrom, below, placeOf}
+use lib.Dec.{T, eqb, leb}
+use Rattle.lists.specs.Lists.{memb, differentb, ascendingb, anyb, upFrom, below, placeOf}
 
 -- A model: states 0 to size − 1, the initial state, the edges as each state's list of successors, the marked states.
 pub record Graph : Type 0 where
@@ -16,12 +16,6 @@ pub record Graph : Type 0 where
 -- there is an edge from s to t
 abbrev pub edgeb : Graph → ℕ → ℕ → Bool
 edgeb g s t = memb t (g .succs s)
-
--- each entry is less than the next
-abbrev pub ascendingb : List ℕ → Bool
-ascendingb [] = true
-ascendingb (x ∷ []) = true
-ascendingb (x ∷ y ∷ ys) = ltb x y && ascendingb (y ∷ ys)
 
 -- What a file's graph always is: the initial state is a state, edges are pairs of states, at most one from a state to a
 -- given state (each list of successors ascends).

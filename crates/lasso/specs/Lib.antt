@@ -1,9 +1,4 @@
--- What a reader has to believe about paths and rounds, in the order of the contract: plain functions on lists and numbers,
--- first those that know no graph.
-pub mod Lists
-pub mod Decides
-pub mod Least
-pub mod Limit
+-- What a reader has to believe about paths and rounds, in the order of the contract: plain functions on lists and numbers.
 pub mod Graph
 pub mod Order
 pub mod Roll

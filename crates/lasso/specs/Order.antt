@@ -3,7 +3,7 @@ use Prim.Native.Nat.{ℕ, zero, suc}
 use mathlib.Core.Bool.{Bool, false, _&&_, _||_}
 use mathlib.Core.List.{List, [], _∷_, map}
 use lib.Dec.{eqb, ltb}
-use Rattle.lasso.specs.Lists.{collect, below}
+use Rattle.lists.specs.Lists.{collect, below}
 
 -- dictionary order: at the first place where they differ the first list has the smaller state
 abbrev pub beforeb : List ℕ → List ℕ → Bool
@@ -12,6 +12,6 @@ beforeb (x ∷ xs) [] = false
 beforeb (x ∷ xs) (y ∷ ys) = ltb x y || (eqb x y && beforeb xs ys)
 
 -- all lists of len entries below n, in dictionary order
-abbrev pub lists : ℕ → ℕ → List (List ℕ)
-lists n zero = [] ∷ []
-lists n (suc len) = collect (λ x. map (λ xs. x ∷ xs) (lists n len)) (below n)
+abbrev pub allLists : ℕ → ℕ → List (List ℕ)
+allLists n zero = [] ∷ []
+allLists n (suc len) = collect (λ x. map (λ xs. x ∷ xs) (allLists n len)) (below n)

@@ -2,14 +2,14 @@
 use Prim.Native.Nat.{ℕ, suc}
 use mathlib.Core.List.{List, []}
 use mathlib.Core.Option.{Option, some, none}
-use Rattle.lasso.specs.Lists.{keep, seek, nonEmptyb}
-use Rattle.lasso.specs.Limit.{under}
+use Rattle.lists.specs.Lists.{keep, seek, nonEmptyb}
+use Rattle.lists.specs.Limit.{under}
 use Rattle.lasso.specs.Graph.{Graph, acceptingb}
-use Rattle.lasso.specs.Order.{lists}
+use Rattle.lasso.specs.Order.{allLists}
 
 -- the accepting paths with l transitions, in dictionary order
 abbrev pub ofLength : Graph → ℕ → List (List ℕ)
-ofLength g l = keep (acceptingb g) (lists (g .size) (suc l))
+ofLength g l = keep (acceptingb g) (allLists (g .size) (suc l))
 
 -- the least length of an accepting path, if there is one
 abbrev pub leastLength : Graph → Option ℕ

@@ -1,12 +1,13 @@
 -- Candidates, a round, and the round record.
 use Prim.Native.Nat.{ℕ, zero, suc, _+_, min}
 use mathlib.Core.Bool.{Bool, _&&_}
-use mathlib.Core.List.{List, [], _∷_}
-use mathlib.Core.Option.{Option, some, none}
+use mathlib.Core.List.{List}
+use mathlib.Core.Option.{Option, none}
 use lib.ListN.{length, getD}
 use lib.Dec.{leb}
-use Rattle.lasso.specs.Lists.{keep, below, isSome}
-use Rattle.lasso.specs.Limit.{under}
+use Rattle.lists.specs.Lists.{keep, below, isSome}
+use Rattle.lists.specs.Least.{lesser, sum, leastOf}
+use Rattle.lists.specs.Limit.{under}
 use Rattle.lasso.specs.Graph.{Graph}
 use Rattle.lasso.specs.Distance.{dist, distPlus}
 
@@ -17,23 +18,6 @@ candidateb g s = g .marked s && isSome (dist g (g .start) s)
 -- the candidates, in ascending number
 abbrev pub candidates : Graph → List ℕ
 candidates g = keep (candidateb g) (below (g .size))
-
--- the lesser of two lengths; none counts as more than every length
-abbrev pub lesser : Option ℕ → Option ℕ → Option ℕ
-lesser none b = b
-lesser (some a) none = some a
-lesser (some a) (some b) = some (min a b)
-
--- the sum of two lengths; none if one of them is none
-abbrev pub sum : Option ℕ → Option ℕ → Option ℕ
-sum none b = none
-sum (some a) none = none
-sum (some a) (some b) = some (a + b)
-
--- the least of the lengths that f gives for the entries
-abbrev pub leastOf : (ℕ → Option ℕ) → List ℕ → Option ℕ
-leastOf f [] = none
-leastOf f (s ∷ ss) = lesser (f s) (leastOf f ss)
 
 -- a round's length for candidate r: the minimum, over states s, of d(i, s) + d(r, s) plus the least length of a path with
 -- at least one edge from s to r

@@ -8,8 +8,8 @@ use mathlib.Core.List.{List, [], List·Memᴰ}
 use mathlib.Core.Option.{Option}
 use lib.ListN.{length, getD, take}
 use lib.Dec.{T}
-use Rattle.lasso.specs.Lists.{memb, differentb}
-use Rattle.lasso.specs.Least.{IsLeast}
+use Rattle.lists.specs.Lists.{memb, differentb}
+use Rattle.lists.specs.Least.{IsLeast}
 use Rattle.lasso.specs.Graph.{Graph, WellFormed, pathb, edges, loopsb, lassob, acceptingb, loopStart, loop}
 use Rattle.lasso.specs.Order.{beforeb}
 use Rattle.lasso.specs.Roll.{leastLength, roll}

@@ -2,6 +2,7 @@
 // hand to each other. What they stand for is in specs/.
 ghost use mathlib.Core.Path.{_≡_};
 ghost use Prim.Native.Nat.{_+_, _<_};
+ghost use Rattle.lists.specs.Least;
 ghost use Rattle.lasso.specs.Rounds.{withRound};
 ghost use Rattle.lasso.specs.Values.{recordOf, bestOf, foundOf};
 
@@ -47,7 +48,7 @@ pub struct RoundRecord {
 
 // The lesser of the best so far and the length that a round found, where none counts as more than every length.
 pub fn lesser(best: Best, found: LengthFound) -> Best
-    ensures { λ r. ⌜ bestOf r ≡ Rattle.lasso.specs.Rounds.lesser (bestOf best) (foundOf found) ⌝ }
+    ensures { λ r. ⌜ bestOf r ≡ Least.lesser (bestOf best) (foundOf found) ⌝ }
 {
     match found {
         LengthFound::None => best,

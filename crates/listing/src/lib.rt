@@ -3,7 +3,8 @@
 ghost use mathlib.Core.List.{List·Memᴰ};
 ghost use Rattle.lasso.specs.Roll.{roll};
 ghost use Rattle.model.specs.Model.{graphIn};
-ghost use Rattle.follow.specs.Follow.{upTo, Prepared};
+ghost use Rattle.current.specs.Current.{listIn};
+ghost use Rattle.follow.specs.Follow.{Prepared};
 ghost use Rattle.follow.specs.Places.{Kept, Replaced};
 use completion::complete;
 pub use completion::first;
@@ -18,7 +19,7 @@ use table::get;
 // Puts the path after the one in region 0 there, and answers true; or answers false if that one is the last.
 pub fn advance(file: &[u8], h: Header, work: &mut [u16], transitions: Transitions) -> bool
     requires { ⌜ Prepared (now file) h (now work) (transitions .0) ⌝ }
-    requires { ⌜ List·Memᴰ (upTo (graphIn (now file) h) (now work) (transitions .0)) (roll (graphIn (now file) h)) ⌝ }
+    requires { ⌜ List·Memᴰ (listIn (h .start) (now work) (transitions .0)) (roll (graphIn (now file) h)) ⌝ }
     ensures { λ r. ⌜ Replaced (graphIn (now (file .entry)) h) (transitions .0) (now (work .entry)) (now (work .exit)) r ⌝ }
     ensures kept { λ _. ⌜ Kept (h .states) (now (work .entry)) (now (work .exit)) ⌝ }
 {

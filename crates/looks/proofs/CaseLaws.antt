@@ -3,7 +3,7 @@ use Prim.Native.Nat.{ℕ, _≤_, _<_}
 use native.Mathlib.Omega.{arith}
 use mathlib.Core.Logic.{_⊎_, inl, inr}
 use mathlib.Core.Bool.{Bool, true, false}
-use Rattle.lasso.specs.Decides.{Decides}
+use Rattle.lists.specs.Decides.{Decides}
 
 -- an answer for the first of two cases, where it is the first
 pub pick-first : (X Y : Type 0) (s mark : ℕ) → s < mark → (r : Bool) → Decides X r → Decides (((s < mark) × X) ⊎ ((mark ≤ s) × Y)) r

@@ -1,2 +1,2 @@
--- A look behind a loop start.
+-- A look after a loop start.
 pub mod Looks

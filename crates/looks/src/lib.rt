@@ -1,8 +1,9 @@
-// Looks behind the last loop start of a list: whether a state is a goal, so that the list can close there; at a place before
+// Looks after the last loop start of a list: whether a state is a goal, so that the list can close there; at a place before
 // the last whether a table has the state there; and whether a step leads from a state of a level to a goal.
 ghost use Prim.Native.Nat.{_*_, _≤_, _<_};
 ghost use lib.ListN.{length};
-ghost use Rattle.lasso.specs.Decides.{Decides};
+ghost use Rattle.numbers.specs.Limits.{mostStates};
+ghost use Rattle.lists.specs.Decides.{Decides};
 ghost use Rattle.model.specs.Values.{Valid};
 ghost use Rattle.model.specs.Model.{graphIn};
 ghost use Rattle.looks.specs.Looks.{GoalAt, LastSays, PlaceSays, Closes, FlagFor};
@@ -16,7 +17,7 @@ use table::get;
 // State y is a goal: it can start the loop, and stands on the list at the place of its distance, which is below the bound.
 fn is_goal(h: Header, work: &[u16], bound: usize, y: usize) -> bool
     requires { ⌜ 2 * h .states ≤ length (now work) ⌝ }
-    requires { ⌜ h .states ≤ 4096 ⌝ }
+    requires { ⌜ h .states ≤ mostStates ⌝ }
     requires { ⌜ bound ≤ h .states ⌝ }
     requires { ⌜ y < h .states ⌝ }
     ensures { λ r. ⌜ Decides (GoalAt (h .states) (h .start) (now (work .entry)) bound y) r ⌝ }
@@ -39,11 +40,11 @@ fn is_goal(h: Header, work: &[u16], bound: usize, y: usize) -> bool
     true
 }
 
-// At the last place: t is a goal, at or before the last mark if no mark stands behind the loop start. Both places are one
+// At the last place: t is a goal, at or before the last mark if no mark stands after the loop start. Both places are one
 // more.
 pub fn at_last(h: Header, work: &[u16], start: usize, mark: usize, t: usize) -> bool
     requires { ⌜ 2 * h .states ≤ length (now work) ⌝ }
-    requires { ⌜ h .states ≤ 4096 ⌝ }
+    requires { ⌜ h .states ≤ mostStates ⌝ }
     requires { ⌜ start ≤ h .states ⌝ }
     requires { ⌜ t < h .states ⌝ }
     ensures { λ r. ⌜ Decides (LastSays (h .states) (h .start) (now (work .entry)) start mark t) r ⌝ }
@@ -57,7 +58,7 @@ pub fn at_last(h: Header, work: &[u16], start: usize, mark: usize, t: usize) -> 
 // At a place before the last: the table says that t may stand there.
 pub fn before_last(n: usize, work: &[u16], b: usize, mark: usize, place: usize, t: usize) -> bool
     requires { ⌜ 6 * n ≤ length (now work) ⌝ }
-    requires { ⌜ n ≤ 4096 ⌝ }
+    requires { ⌜ n ≤ mostStates ⌝ }
     requires { ⌜ b ≤ place ⌝ }
     requires { ⌜ place < n ⌝ }
     requires { ⌜ t < n ⌝ }

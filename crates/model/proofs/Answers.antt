@@ -5,7 +5,7 @@ use mathlib.Core.Bool.{Bool, true}
 use mathlib.Core.List.{List}
 use mathlib.Core.Option.{Option, some, none}
 use native.Mathlib.Omega.{arith}
-use Rattle.lasso.specs.Lists.{someIf}
+use Rattle.lists.specs.Lists.{someIf}
 use Rattle.format.specs.Rules.{Reason, firstBroken, rules, Accepted}
 use Rattle.model.specs.declared.Header.{Header}
 use Rattle.model.specs.declared.Checked.the-variants.{Refused, Accept}

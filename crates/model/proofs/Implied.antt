@@ -7,9 +7,9 @@ use mathlib.Core.Logic.{_⊎_, inl, inr}
 use native.Mathlib.Omega.{arith}
 use lib.ListN.{length, getD, drop}
 use lib.Dec.{T, eqb, ltb, ltb→lt, eqb→eq, eqb-refl}
-use Rattle.lasso.specs.Lists.{memb}
-use Rattle.lasso.specs.Graph.{Graph, WellFormed, ascendingb}
-use Rattle.lasso.proofs.Tests.{either, or-l, snd}
+use Rattle.lists.specs.Lists.{memb, ascendingb}
+use Rattle.lasso.specs.Graph.{Graph, WellFormed}
+use Rattle.lists.proofs.Tests.{either, or-l, snd}
 use Rattle.model.specs.Model.{listIf, withImplied, staying}
 
 -- a state with edges has no implied step
@@ -28,7 +28,7 @@ implied-or-itself true s [] = inr refl
 implied-or-itself false s [] = inl refl
 implied-or-itself b s (t ∷ ts) = inl refl
 
--- behind the first successor there are only edges
+-- after the first successor there are only edges
 pub implied-behind-first : (b : Bool) (s : ℕ) (ts : List ℕ) → 0 < length (withImplied b s ts)
     → withImplied b s ts ≡ getD (withImplied b s ts) 0 0 ∷ drop 1 ts
 implied-behind-first true s [] l = refl

@@ -10,18 +10,19 @@ use native.Mathlib.Nat.{le-refl}
 use lib.ListN.{length, getD, length-map}
 use borrow.Author.Tests.{lt-ltb, le-ltb, ltb-true}
 use lib.Dec.{T, ltb, ltb→lt, nltb→le}
-use Rattle.lasso.specs.Lists.{memb, upFrom}
-use Rattle.lasso.specs.Graph.{Graph, WellFormed, edgeb, ascendingb}
-use Rattle.lasso.proofs.Tests.{and-true, and-false, lt-or-ge, at-memb, memb-mem, NoneOf, noneOf-all, upFrom-range}
-use Rattle.lasso.proofs.BelowLaws.{upFrom-length}
+use Rattle.lists.specs.Lists.{memb, upFrom, ascendingb}
+use Rattle.lasso.specs.Graph.{Graph, WellFormed, edgeb}
+use Rattle.lists.proofs.Tests.{and-true, and-false, lt-or-ge, at-memb, memb-mem, NoneOf, noneOf-all, upFrom-range}
+use Rattle.lists.proofs.BelowLaws.{upFrom-length}
 use Rattle.format.specs.Bytes.{words}
-use Rattle.format.specs.Layout.{states, edgeCount, initial, stays, marksAt, markBytes, totalOf, tableAt, rowEntry, target, rowTargets, markBit}
+use Rattle.format.specs.Layout.{states, edgeCount, startOf, stays, marksAt, markBytes, totalOf, tableAt, rowEntry, target, rowTargets, markBit}
 use Rattle.format.specs.Rules.{firstBroken, rulesWith, Accepted}
 use Rattle.model.specs.Model.{rowGraph, withImplied, graphIn, graphOf, stepsOf, listIf}
 use Rattle.model.specs.declared.Header.{Header}
 use Rattle.model.specs.Values.{Valid, headerOf}
 use Rattle.model.specs.Shown.{FilesWellFormed}
-use Rattle.format.proofs.Reasons.{none-clear, not-not}
+use Rattle.lists.proofs.Fails.{not-not}
+use Rattle.format.proofs.Reasons.{none-clear}
 use Rattle.format.proofs.Kept.{states-kept, length-kept, row-first-kept, rows-ascend-kept, row-last-kept, targets-kept, order-kept, spare-kept, row-end-within}
 use Rattle.model.proofs.Implied.{implied-length, staying-well-formed}
 
@@ -29,7 +30,7 @@ use Rattle.model.proofs.Implied.{implied-length, staying-well-formed}
 pub record Facts (f : List ℕ) : Type 0 where
   pub states-range : (1 ≤ states f) × (states f ≤ 4096)
   pub edges-range : edgeCount f ≤ 8192
-  pub initial-below : initial f < states f
+  pub start-below : startOf f < states f
   pub file-length : totalOf (states f) (edgeCount f) ≤ length f
   pub row-first : rowEntry f 0 ≡ 0
   pub rows-ascend : (s : ℕ) → s < states f → rowEntry f s ≤ rowEntry f (s + 1)
@@ -48,7 +49,7 @@ kept-facts total tables f le some a =
     record {
       states-range = states-kept f (from2 .0);
       edges-range = nltb→le 8192 (edgeCount f) (from2 .1 .0);
-      initial-below = ltb→lt (initial f) (states f) (not-not (ltb (initial f) (states f)) (from2 .1 .1 .0));
+      start-below = ltb→lt (startOf f) (states f) (not-not (ltb (startOf f) (states f)) (from2 .1 .1 .0));
       file-length = omega (arith, length-kept total tables f (from6 .0) (from6 .1 .0));
       row-first = row-first-kept f (from8 .0);
       rows-ascend = rows-ascend-kept f (from8 .0);
@@ -69,7 +70,7 @@ kept-length total tables f a =
 pub accepted-facts : (f : List ℕ) → Accepted f → Facts f
 accepted-facts f a = kept-facts (totalOf (states f) (edgeCount f)) 2 f (le-refl _) (omega arith) a
 
--- a file with u tables behind the first ends where table t starts, if it ends before the end of table t
+-- a file with u tables after the first ends where table t starts, if it ends before the end of table t
 short-of-table : (base size t u : ℕ) → t ≤ 1 → base + size + u * size < base + t * size + size → base + size + u * size ≤ base + t * size
 short-of-table base size zero u l m = omega arith
 short-of-table base size (suc zero) zero l m = omega arith
@@ -137,7 +138,7 @@ succs-ascend {f} F t s =
 pub facts-well-formed : {f : List ℕ} → Facts f → (table : ℕ) → WellFormed (rowGraph f (headerOf f table))
 facts-well-formed {f} F table =
     record {
-      start-state = F .initial-below;
+      start-state = F .start-below;
       edge-states = λ s t h.
           let e : (s < states f) × T (memb t (rowTargets f s)) = edge-from-state f (headerOf f table) s t h in
           (e .0, row-targets-below F s t (e .0) (e .1));
@@ -156,13 +157,13 @@ valid-graph {f} v = ap (graphIn f) (v .header)
 pub record Sizes (f : List ℕ) (h : Header) : Type 0 where
   pub states-are : h .states ≡ states f
   pub edges-are : h .edges ≡ edgeCount f
-  pub start-is : h .start ≡ initial f
+  pub start-is : h .start ≡ startOf f
   pub states-range : (1 ≤ h .states) × (h .states ≤ 4096)
   pub edges-range : h .edges ≤ 8192
   pub start-below : h .start < h .states
 
 -- a file's own header has its numbers
-pub header-numbers : (f : List ℕ) {t : ℕ} {h : Header} → h ≡ headerOf f t → (h .states ≡ states f) × (h .edges ≡ edgeCount f) × (h .start ≡ initial f)
+pub header-numbers : (f : List ℕ) {t : ℕ} {h : Header} → h ≡ headerOf f t → (h .states ≡ states f) × (h .edges ≡ edgeCount f) × (h .start ≡ startOf f)
 header-numbers f e = (ap (λ (x : Header). x .states) e, ap (λ (x : Header). x .edges) e, ap (λ (x : Header). x .start) e)
 
 -- a valid header has its file's numbers

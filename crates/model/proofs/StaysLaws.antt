@@ -8,12 +8,12 @@ use native.Mathlib.Omega.{arith}
 use lib.ListN.{length}
 use lib.Dec.{T, eqb, eqb→eq, nltb→le, eqb-refl}
 use borrow.Author.Tests.{lt-ltb, le-ltb, eqb-false, ne-eqb}
-use Rattle.lasso.specs.Lists.{memb}
+use Rattle.lists.specs.Lists.{memb}
 use Rattle.lasso.specs.Graph.{Graph, edgeb}
 use Rattle.lasso.specs.Shown.{EndsRun}
-use Rattle.lasso.proofs.Tests.{both, eq→eqb, or-l, lt-or-ge}
+use Rattle.lists.proofs.Tests.{both, eq→eqb, or-l, lt-or-ge}
 use Rattle.lasso.proofs.ShownLaws.{no-edge-out}
-use Rattle.format.specs.Layout.{states, reserved, stays, rowTargets}
+use Rattle.format.specs.Layout.{states, staysWord, stays, rowTargets}
 use Rattle.format.specs.Rules.{rules}
 use Rattle.format.proofs.Reasons.{none-clear}
 use Rattle.model.specs.Model.{listIf, rowGraph, withImplied, staying, graphOf}
@@ -64,17 +64,17 @@ steps-are-implied f table =
           let step : List ℕ → Type 0 = λ ts. T (memb s ts) in (
             λ e. elim (implied-memb (stays f) s s (rowTargets f s) (subst step (succs-are f table s l) e)) [
               | inl edge ↦ inl edge
-              | inr (on, same, none) ↦ inr (eqb→eq (reserved f) 1 on, none)
+              | inr (on, same, none) ↦ inr (eqb→eq (staysWord f) 1 on, none)
             ],
             λ e. subst step (sym (succs-are f table s l)) (elim e [
               | inl edge ↦ edge-implied (stays f) s s (rowTargets f s) edge
-              | inr (one, none) ↦ stays-implied (stays f) s (rowTargets f s) (eq→eqb (reserved f) 1 one) none
+              | inr (one, none) ↦ stays-implied (stays f) s (rowTargets f s) (eq→eqb (staysWord f) 1 one) none
             ]),
           );
       to-another = λ s t l d.
           ap (λ (ts : List ℕ). memb t ts) (succs-are f table s l) ∙ other-edge (stays f) s t (rowTargets f s) d;
       zero-rows-alone = λ e.
-          ap (λ (b : Bool). staying b (rowGraph f (headerOf f table))) (ne-eqb (reserved f) 1 (omega arith))
+          ap (λ (b : Bool). staying b (rowGraph f (headerOf f table))) (ne-eqb (staysWord f) 1 (omega arith))
           ∙ staying-not (rowGraph f (headerOf f table));
       full-rows-alone = λ full. rows-alone f table (λ s. elim (lt-or-ge s (states f)) [
         | inl l ↦
@@ -89,8 +89,8 @@ run-ends-exactly f table a s l = (
   λ ends.
       let none : withImplied (stays f) s (rowTargets f s) ≡ [] = sym (succs-are f table s l) ∙ ends-none (graphOf f table) s ends _ refl in
       let row = implied-empty (stays f) s (rowTargets f s) none in
-      let most : reserved f ≤ 1 = nltb→le 1 (reserved f) (none-clear (rules f) a .1 .1 .1 .1 .0) in
-      let other : reserved f ≡ 1 → ⊥ = eqb-false (reserved f) 1 (row .1) in
+      let most : staysWord f ≤ 1 = nltb→le 1 (staysWord f) (none-clear (rules f) a .1 .1 .1 .1 .0) in
+      let other : staysWord f ≡ 1 → ⊥ = eqb-false (staysWord f) 1 (row .1) in
       (row .0, omega arith),
   λ (none, zero). no-edge-out (graphOf f table) s
       (ap (λ (g : Graph). g .succs s) (steps-are-implied f table .zero-rows-alone zero)

@@ -28,7 +28,7 @@ module _ (h : Header) (s : ℕ) (part : List ℕ) where
   unfolding stepsOf
   steps-or-itself = implied-or-itself (h .stays) s (words part)
 
-  -- behind the first successor there are only edges
+  -- after the first successor there are only edges
   pub steps-behind-first : 0 < length (stepsOf h s part) → stepsOf h s part ≡ getD (stepsOf h s part) 0 0 ∷ drop 1 (words part)
   unfolding stepsOf
   steps-behind-first l = implied-behind-first (h .stays) s (words part) l

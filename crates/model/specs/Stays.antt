@@ -4,10 +4,10 @@ use mathlib.Core.Path.{_≡_}
 use mathlib.Core.List.{List, []}
 use mathlib.Core.Logic.{_↔_, _⊎_}
 use lib.Dec.{T}
-use Rattle.lasso.specs.Lists.{memb}
+use Rattle.lists.specs.Lists.{memb}
 use Rattle.lasso.specs.Graph.{edgeb}
 use Rattle.lasso.specs.Shown.{EndsRun}
-use Rattle.format.specs.Layout.{states, reserved, rowTargets}
+use Rattle.format.specs.Layout.{states, staysWord, rowTargets}
 use Rattle.format.specs.Rules.{Accepted}
 use Rattle.model.specs.Model.{rowGraph, graphOf}
 use Rattle.model.specs.Values.{headerOf}
@@ -16,11 +16,11 @@ use Rattle.model.specs.Values.{headerOf}
 pub record ImpliedSteps (f : List ℕ) (table : ℕ) : Type 0 where
   -- s has an edge to itself exactly if the file says so, or bytes 6–7 are 1 and its row is empty
   pub to-itself : (s : ℕ) → s < states f
-      → T (edgeb (graphOf f table) s s) ↔ (T (memb s (rowTargets f s)) ⊎ ((reserved f ≡ 1) × (rowTargets f s ≡ [])))
+      → T (edgeb (graphOf f table) s s) ↔ (T (memb s (rowTargets f s)) ⊎ ((staysWord f ≡ 1) × (rowTargets f s ≡ [])))
   -- every other edge is one of the file's
   pub to-another : (s t : ℕ) → s < states f → (s ≡ t → ⊥) → edgeb (graphOf f table) s t ≡ memb t (rowTargets f s)
   -- with 0 the model is the graph of the rows and marks
-  pub zero-rows-alone : reserved f ≡ 0 → graphOf f table ≡ rowGraph f (headerOf f table)
+  pub zero-rows-alone : staysWord f ≡ 0 → graphOf f table ≡ rowGraph f (headerOf f table)
   -- so it is whatever bytes 6–7 are, if no row is empty
   pub full-rows-alone : ((s : ℕ) → s < states f → rowTargets f s ≡ [] → ⊥) → graphOf f table ≡ rowGraph f (headerOf f table)
 
@@ -32,4 +32,4 @@ StepsAreImplied = (f : List ℕ) (table : ℕ) → ImpliedSteps f table
 -- accepted file ends the run exactly if its row is empty and bytes 6–7 are 0.
 abbrev pub RunEndsExactly : Type 0
 RunEndsExactly = (f : List ℕ) (table : ℕ) → Accepted f → (s : ℕ) → s < states f
-    → EndsRun (graphOf f table) s ↔ ((rowTargets f s ≡ []) × (reserved f ≡ 0))
+    → EndsRun (graphOf f table) s ↔ ((rowTargets f s ≡ []) × (staysWord f ≡ 0))

@@ -6,12 +6,12 @@ use mathlib.Core.Option.{Option, some, none}
 use Rattle.model.specs.declared.Header.{Header}
 use Rattle.model.specs.declared.Checked.{Checked}
 use Rattle.model.specs.declared.Checked.the-variants.{Refused, Accept}
-use Rattle.format.specs.Layout.{states, edgeCount, initial, stays}
+use Rattle.format.specs.Layout.{states, edgeCount, startOf, stays}
 use Rattle.format.specs.Rules.{firstBroken, headRules, rulesWith, rules, Accepted}
 
 -- the header fields that the code keeps, and the mark table that is named
 abbrev pub headerOf : List ℕ → (t : ℕ) → Header
-headerOf f t = record { states = states f; edges = edgeCount f; start = initial f; stays = stays f; table = t }
+headerOf f t = record { states = states f; edges = edgeCount f; start = startOf f; stays = stays f; table = t }
 
 -- the same header, but for the mark table that it names
 abbrev pub naming : Header → (t : ℕ) → Header

@@ -7,10 +7,9 @@ use mathlib.Core.List.{List}
 use native.Mathlib.Omega.{arith}
 use lib.ListN.{length, getD}
 use lib.Dec.{T, not-T}
-use Rattle.lasso.specs.Lists.{memb}
-use Rattle.lasso.specs.Graph.{ascendingb}
-use Rattle.lasso.proofs.Tests.{T-true, T-false, lt-or-ge, memb-at, at-memb}
-use Rattle.lasso.proofs.Ascending.{ascending-le, ascending-ge-place}
+use Rattle.lists.specs.Lists.{memb, ascendingb}
+use Rattle.lists.proofs.Tests.{T-true, T-false, lt-or-ge, memb-at, at-memb}
+use Rattle.lists.proofs.Ascending.{ascending-le, ascending-ge-place}
 
 -- The list ascends, and every place that holds t is one from low to before high.
 pub record Between (t : ℕ) (ws : List ℕ) (low high : ℕ) : Type 0 where

@@ -13,7 +13,7 @@ abbrev pub LoopEntry : ℕ → ℕ → List ℕ → ℕ → Type 0
 LoopEntry n start w k =
     (entry 1 n w (getD (start ∷ w) k 0) % 2 ≡ 1) × (entry 1 n w (getD (start ∷ w) k 0) / 2 ≡ k + 1)
 
--- state t was put behind the list up to a place, and what is known of the longer list is so
+-- state t was put after the list up to a place, and what is known of the longer list is so
 pub record Appended (f : List ℕ) (h : Header) (w w' : List ℕ) (l place t : ℕ) (r : Passed) : Type 0 where
   pub stored : w' ≡ set w place t
   pub passed : PassedAt f h w' l (place + 1) r

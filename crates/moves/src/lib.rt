@@ -1,8 +1,9 @@
 // The list as it grows by a state and shrinks by places, and what is known of it then: its last loop start, its last mark,
-// and whether the tables behind that loop start are there.
+// and whether the tables after that loop start are there.
 ghost use Prim.Native.Nat.{_+_, _*_, _≤_, _<_};
 ghost use lib.ListN.{length};
-ghost use Rattle.lasso.specs.Decides.{Decides};
+ghost use Rattle.numbers.specs.Limits.{mostStates};
+ghost use Rattle.lists.specs.Decides.{Decides};
 ghost use Rattle.model.specs.Values.{Valid};
 ghost use Rattle.model.specs.Model.{graphIn};
 ghost use Rattle.current.specs.Current.{stateAt};
@@ -23,7 +24,7 @@ use table::put;
 // The state at place k can start the loop, and stands at its distance.
 fn starts_at(h: Header, work: &[u16], k: usize) -> bool
     requires { ⌜ 2 * h .states ≤ length (now work) ⌝ }
-    requires { ⌜ h .states ≤ 4096 ⌝ }
+    requires { ⌜ h .states ≤ mostStates ⌝ }
     requires { ⌜ k ≤ h .states ⌝ }
     requires { ⌜ stateAt h (now work) k < h .states ⌝ }
     ensures { λ r. ⌜ Decides (LoopEntry (h .states) (h .start) (now (work .entry)) k) r ⌝ }
@@ -43,7 +44,7 @@ fn starts_at(h: Header, work: &[u16], k: usize) -> bool
 // The last place of the list up to a given one with such a state, plus 1; or 0.
 fn last_start(h: Header, work: &[u16], place: usize) -> usize
     requires { ⌜ 2 * h .states ≤ length (now work) ⌝ }
-    requires { ⌜ h .states ≤ 4096 ⌝ }
+    requires { ⌜ h .states ≤ mostStates ⌝ }
     requires { ⌜ place ≤ h .states ⌝ }
     requires { ⌜ StatesTo h (now work) place ⌝ }
     ensures { λ r. ⌜ LastOf (LoopEntry (h .states) (h .start) (now (work .entry))) place r ⌝ }
@@ -58,10 +59,10 @@ fn last_start(h: Header, work: &[u16], place: usize) -> usize
     0
 }
 
-// The last loop start up to a place, where `start` is it unless it stands behind.
+// The last loop start up to a place, where `start` is it unless it stands after.
 fn start_back(h: Header, work: &[u16], place: usize, start: usize) -> usize
     requires { ⌜ 2 * h .states ≤ length (now work) ⌝ }
-    requires { ⌜ h .states ≤ 4096 ⌝ }
+    requires { ⌜ h .states ≤ mostStates ⌝ }
     requires { ⌜ place ≤ h .states ⌝ }
     requires { ⌜ StatesTo h (now work) place ⌝ }
     requires { ⌜ (start ≤ place + 1 → LastOf (LoopEntry (h .states) (h .start) (now work)) place start) ⌝ }
@@ -73,7 +74,7 @@ fn start_back(h: Header, work: &[u16], place: usize, start: usize) -> usize
     last_start(h, work, place)
 }
 
-// The last mark up to a place, where `mark` is it unless it stands behind.
+// The last mark up to a place, where `mark` is it unless it stands after.
 fn mark_back(file: &[u8], h: Header, work: &[u16], place: usize, mark: usize) -> usize
     requires { ⌜ Valid (now file) h ⌝ }
     requires { ⌜ 2 * h .states ≤ length (now work) ⌝ }
@@ -111,7 +112,7 @@ pub fn retreat(
 // The last loop start up to the place after the given one.
 fn start_after(h: Header, work: &[u16], place: usize, start: usize) -> usize
     requires { ⌜ 2 * h .states ≤ length (now work) ⌝ }
-    requires { ⌜ h .states ≤ 4096 ⌝ }
+    requires { ⌜ h .states ≤ mostStates ⌝ }
     requires { ⌜ place < h .states ⌝ }
     requires { ⌜ StatesTo h (now work) (place + 1) ⌝ }
     requires { ⌜ LastOf (LoopEntry (h .states) (h .start) (now work)) place start ⌝ }

@@ -9,11 +9,11 @@ use borrow.Author.Tests.{lt-ltb, le-ltb}
 use lib.ListN.{length, take, drop}
 use lib.Seq.{length-take-le}
 use lib.Dec.{T, eqb, eqb→eq, not-T}
-use Rattle.lasso.specs.Lists.{anyb, someIf}
+use Rattle.lists.specs.Lists.{anyb, someIf}
 use Rattle.lasso.specs.Graph.{Graph, WellFormed, edges, lassob, loopStart}
 use Rattle.lasso.specs.Roll.{leastLength, roll}
 use Rattle.lasso.specs.Following.{sameb, following}
-use Rattle.lasso.proofs.Tests.{parts, join, T-true, T-false, eq→eqb, anyb-some, some-anyb}
+use Rattle.lists.proofs.Tests.{parts, join, T-true, T-false, eq→eqb, anyb-some, some-anyb}
 use Rattle.lasso.proofs.OrderLaws.{sameb→eq, sameb-refl}
 use Rattle.lasso.proofs.RollLaws.{roll-empty, roll-lasso, lasso-in-roll}
 use Rattle.model.specs.Model.{graphOf}
@@ -68,96 +68,96 @@ module _ (g : Graph) (wf : WellFormed g) (l : ℕ) (least : leastLength g ≡ so
           let h : T (lassoOf g xs l) = search join in
           rw e at h
 
--- 13 decides: if the earlier list is no shortest accepting path, the reasons behind it do not count
-pub thirteen-decides : (g : Graph) (earlier : List ℕ) → T (notShortest g earlier) → (due : Option (List ℕ)) (answer : ℕ)
-    → firstBroken (dueReasons g earlier due answer) ≡ some 13
-thirteen-decides g earlier holds due answer =
-    ap (λ (b : Bool). someIf b 13 (firstBroken (listReasons g due answer))) (T-true (notShortest g earlier) holds)
+-- 13 decides: if the earlier list is no shortest accepting path, the reasons after it do not count
+pub thirteen-decides : (g : Graph) (earlier : List ℕ) → T (notShortest g earlier) → (due : Option (List ℕ)) (answerRoom : ℕ)
+    → firstBroken (dueReasons g earlier due answerRoom) ≡ some 13
+thirteen-decides g earlier holds due answerRoom =
+    ap (λ (b : Bool). someIf b 13 (firstBroken (listReasons g due answerRoom))) (T-true (notShortest g earlier) holds)
 
 -- the outcome of "next", and the list that it writes
 abbrev pub NextIs : List ℕ → (t : ℕ) → List ℕ → ℕ → ℕ → Outcome Followed → Option (List ℕ) → Type 0
-NextIs f t earlier answer work o due =
-    CallIs (nextReasons f t earlier answer work) (followed (following earlier (roll (graphOf f t)))) (following earlier (roll (graphOf f t))) o due
+NextIs f t earlier answerRoom workRoom o due =
+    CallIs (nextReasons f t earlier answerRoom workRoom) (followed (following earlier (roll (graphOf f t)))) (following earlier (roll (graphOf f t))) o due
 
 -- a reason holds: refused with the first, and nothing is written
-next-broken : (f : List ℕ) (t : ℕ) (earlier : List ℕ) (answer work n : ℕ) → firstBroken (nextReasons f t earlier answer work) ≡ some n
-    → NextIs f t earlier answer work (refused n) none
-next-broken f t earlier answer work n e =
+next-broken : (f : List ℕ) (t : ℕ) (earlier : List ℕ) (answerRoom workRoom n : ℕ) → firstBroken (nextReasons f t earlier answerRoom workRoom) ≡ some n
+    → NextIs f t earlier answerRoom workRoom (refused n) none
+next-broken f t earlier answerRoom workRoom n e =
     let due : Option (List ℕ) = following earlier (roll (graphOf f t)) in
-    call-broken (nextReasons f t earlier answer work) (followed due) due n e
+    call-broken (nextReasons f t earlier answerRoom workRoom) (followed due) due n e
 
 -- no reason holds: the list that follows decides
-next-kept : (f : List ℕ) (t : ℕ) (earlier : List ℕ) (answer work : ℕ) (due : Option (List ℕ))
-    → firstBroken (nextReasons f t earlier answer work) ≡ none → following earlier (roll (graphOf f t)) ≡ due
-    → NextIs f t earlier answer work (answered (followed due)) due
-next-kept f t earlier answer work due e q =
+next-kept : (f : List ℕ) (t : ℕ) (earlier : List ℕ) (answerRoom workRoom : ℕ) (due : Option (List ℕ))
+    → firstBroken (nextReasons f t earlier answerRoom workRoom) ≡ none → following earlier (roll (graphOf f t)) ≡ due
+    → NextIs f t earlier answerRoom workRoom (answered (followed due)) due
+next-kept f t earlier answerRoom workRoom due e q =
     let follows : Option (List ℕ) = following earlier (roll (graphOf f t)) in
-    call-kept (nextReasons f t earlier answer work) (followed follows) (followed due) follows due e (ap followed q) q
+    call-kept (nextReasons f t earlier answerRoom workRoom) (followed follows) (followed due) follows due e (ap followed q) q
 
 -- refused with a reason of 22 and 1 to 12
-pub next-refused : (f : List ℕ) (t : ℕ) (earlier : List ℕ) (answer work n : ℕ) → firstBroken (namedRules f t work) ≡ some n
-    → NextIs f t earlier answer work (refused n) none
-next-refused f t earlier answer work n e =
-    next-broken f t earlier answer work n (broken-append (namedRules f t work) (dueReasons (graphOf f t) earlier (following earlier (roll (graphOf f t))) answer) n e)
+pub next-refused : (f : List ℕ) (t : ℕ) (earlier : List ℕ) (answerRoom workRoom n : ℕ) → firstBroken (namedRules f t workRoom) ≡ some n
+    → NextIs f t earlier answerRoom workRoom (refused n) none
+next-refused f t earlier answerRoom workRoom n e =
+    next-broken f t earlier answerRoom workRoom n (broken-append (namedRules f t workRoom) (dueReasons (graphOf f t) earlier (following earlier (roll (graphOf f t))) answerRoom) n e)
 
-module _ (f : List ℕ) (t : ℕ) (accepted : Accepted f) (one : t ≤ 1) (earlier : List ℕ) (answer work : ℕ) (room : 6 * states f ≤ work) where
+module _ (f : List ℕ) (t : ℕ) (accepted : Accepted f) (one : t ≤ 1) (earlier : List ℕ) (answerRoom workRoom : ℕ) (room : 6 * states f ≤ workRoom) where
   -- the graph of the file
   abbrev g : Graph
   g = graphOf f t
 
   -- the reasons 13 and 15 are left to decide
-  next-reasons : firstBroken (nextReasons f t earlier answer work)
-      ≡ someIf (notShortest g earlier) 13 (someIf (noRoom (lengthDue (following earlier (roll g))) answer) 15 none)
+  next-reasons : firstBroken (nextReasons f t earlier answerRoom workRoom)
+      ≡ someIf (notShortest g earlier) 13 (someIf (noRoom (lengthDue (following earlier (roll g))) answerRoom) 15 none)
   next-reasons =
-      clear-append (namedRules f t work) (dueReasons (graphOf f t) earlier (following earlier (roll g)) answer) (named-one f t work one ∙ common-clear f work accepted room)
-      ∙ ap (λ (b : Bool). someIf (notShortest g earlier) 13 (someIf b 14 (someIf (noRoom (lengthDue (following earlier (roll g))) answer) 15 none))) (never-too-long f t accepted)
+      clear-append (namedRules f t workRoom) (dueReasons (graphOf f t) earlier (following earlier (roll g)) answerRoom) (named-one f t workRoom one ∙ common-clear f workRoom accepted room)
+      ∙ ap (λ (b : Bool). someIf (notShortest g earlier) 13 (someIf b 14 (someIf (noRoom (lengthDue (following earlier (roll g))) answerRoom) 15 none))) (never-too-long f t accepted)
 
   -- the earlier list is no shortest accepting path: refused with 13
-  pub next-not-shortest : notShortest g earlier ≡ true → NextIs f t earlier answer work (refused 13) none
+  pub next-not-shortest : notShortest g earlier ≡ true → NextIs f t earlier answerRoom workRoom (refused 13) none
   next-not-shortest e =
-      next-broken f t earlier answer work 13
-      (next-reasons ∙ ap (λ (b : Bool). someIf b 13 (someIf (noRoom (lengthDue (following earlier (roll g))) answer) 15 none)) e)
+      next-broken f t earlier answerRoom workRoom 13
+      (next-reasons ∙ ap (λ (b : Bool). someIf b 13 (someIf (noRoom (lengthDue (following earlier (roll g))) answerRoom) 15 none)) e)
 
   -- the earlier list is in the roll: the list due has room or not
   next-due : List·Memᴰ earlier (roll g) → (due : Option (List ℕ)) (b : Bool) → following earlier (roll g) ≡ due
-      → noRoom (lengthDue due) answer ≡ b → firstBroken (nextReasons f t earlier answer work) ≡ someIf b 15 none
+      → noRoom (lengthDue due) answerRoom ≡ b → firstBroken (nextReasons f t earlier answerRoom workRoom) ≡ someIf b 15 none
   next-due m due b q e =
       next-reasons
-      ∙ ap (λ (x : Bool). someIf x 13 (someIf (noRoom (lengthDue (following earlier (roll g))) answer) 15 none)) (shortest-mem g earlier m)
-      ∙ ap (λ (d : Option (List ℕ)). someIf (noRoom (lengthDue d) answer) 15 none) q
+      ∙ ap (λ (x : Bool). someIf x 13 (someIf (noRoom (lengthDue (following earlier (roll g))) answerRoom) 15 none)) (shortest-mem g earlier m)
+      ∙ ap (λ (d : Option (List ℕ)). someIf (noRoom (lengthDue d) answerRoom) 15 none) q
       ∙ ap (λ (x : Bool). someIf x 15 none) e
 
   module _ (m : List·Memᴰ earlier (roll g)) where
     -- it is the last of the roll: no more
-    pub next-no-more : following earlier (roll g) ≡ none → NextIs f t earlier answer work (answered noMore) none
-    next-no-more last = next-kept f t earlier answer work none (next-due m none false last refl) last
+    pub next-no-more : following earlier (roll g) ≡ none → NextIs f t earlier answerRoom workRoom (answered noMore) none
+    next-no-more last = next-kept f t earlier answerRoom workRoom none (next-due m none false last refl) last
 
     -- another follows and has no room: refused with 15
-    pub next-no-room : (xs : List ℕ) → following earlier (roll g) ≡ some xs → answer < edges xs + 1
-        → NextIs f t earlier answer work (refused 15) none
+    pub next-no-room : (xs : List ℕ) → following earlier (roll g) ≡ some xs → answerRoom < edges xs + 1
+        → NextIs f t earlier answerRoom workRoom (refused 15) none
     next-no-room xs follows less =
-        next-broken f t earlier answer work 15 (next-due m (some xs) true follows (lt-ltb answer (edges xs + 1) less))
+        next-broken f t earlier answerRoom workRoom 15 (next-due m (some xs) true follows (lt-ltb answerRoom (edges xs + 1) less))
 
     -- it has room: found, with its figures
-    pub next-found : (xs : List ℕ) → following earlier (roll g) ≡ some xs → edges xs + 1 ≤ answer
-        → NextIs f t earlier answer work (answered (Followed.found (edges xs) (loopStart xs))) (some xs)
+    pub next-found : (xs : List ℕ) → following earlier (roll g) ≡ some xs → edges xs + 1 ≤ answerRoom
+        → NextIs f t earlier answerRoom workRoom (answered (Followed.found (edges xs) (loopStart xs))) (some xs)
     next-found xs follows fits =
-        next-kept f t earlier answer work (some xs) (next-due m (some xs) false follows (le-ltb answer (edges xs + 1) fits)) follows
+        next-kept f t earlier answerRoom workRoom (some xs) (next-due m (some xs) false follows (le-ltb answerRoom (edges xs + 1) fits)) follows
 
--- the list that follows, which stands in region 0 behind the start, was written to the answer table: what "next" answers
+-- the list that follows, which stands in region 0 after the start, was written to the answer table: what "next" answers
 -- and writes
-pub following-written : (f : List ℕ) (t : ℕ) → Accepted f → t ≤ 1 → (work : ℕ) → 6 * states f ≤ work → (earlier a a' w : List ℕ) (s l k : ℕ)
+pub following-written : (f : List ℕ) (t : ℕ) → Accepted f → t ≤ 1 → (workRoom : ℕ) → 6 * states f ≤ workRoom → (earlier a a' w : List ℕ) (s l k : ℕ)
     → List·Memᴰ earlier (roll (graphOf f t)) → s ≡ graphOf f t .start → l ≤ length w
     → following earlier (roll (graphOf f t)) ≡ some (graphOf f t .start ∷ take l w) → l < length a
     → k ≡ loopStart (s ∷ take l w) → a' ≡ (s ∷ take l w) ++ drop (l + 1) a
-    → (answered (Followed.found l k) ≡ nextOutcome f t earlier (length a) work) × (a' ≡ nextAnswer f t earlier a work)
-following-written f t accepted one work room earlier a a' w s l k m at-start fits follows free at-k out =
+    → (answered (Followed.found l k) ≡ nextOutcome f t earlier (length a) workRoom) × (a' ≡ nextAnswer f t earlier a workRoom)
+following-written f t accepted one workRoom room earlier a a' w s l k m at-start fits follows free at-k out =
     let g : Graph = graphOf f t in
     let xs : List ℕ = s ∷ take l w in
     let long : length (take l w) ≡ l = length-take-le l w fits in
     let at-l : l ≡ edges xs = omega arith in
     let follows' : following earlier (roll g) ≡ some xs = subst (λ (x : ℕ). following earlier (roll g) ≡ some (x ∷ take l w)) (sym at-start) follows in
-    let found = next-found f t accepted one earlier (length a) work room m xs follows' (omega arith) in
+    let found = next-found f t accepted one earlier (length a) workRoom room m xs follows' (omega arith) in
     let figures : answered (Followed.found l k) ≡ answered (Followed.found (edges xs) (loopStart xs)) = cc in
     let entries : l + 1 ≡ length xs = omega arith in (
       figures ∙ sym (found .outcome-is),

@@ -4,7 +4,8 @@ use mathlib.Core.Bool.{Bool, not}
 use mathlib.Core.List.{List, _∷_, _++_}
 use mathlib.Core.Option.{Option, some, none}
 use lib.ListN.{length}
-use Rattle.lasso.specs.Lists.{anyb}
+use Rattle.numbers.specs.Reasons as reason
+use Rattle.lists.specs.Lists.{anyb}
 use Rattle.lasso.specs.Graph.{Graph, edges, loopStart}
 use Rattle.lasso.specs.Roll.{roll}
 use Rattle.lasso.specs.Following.{sameb, following}
@@ -42,25 +43,25 @@ followed (some xs) = found (edges xs) (loopStart xs)
 
 -- the reasons 13 to 15, where the model and the list that is to be written are given
 abbrev pub dueReasons : Graph → List ℕ → Option (List ℕ) → ℕ → List Reason
-dueReasons g earlier due answer =
-    record { number = 13; holds = notShortest g earlier } ∷ listReasons g due answer
+dueReasons g earlier due answerRoom =
+    record { number = reason.notShortest; holds = notShortest g earlier } ∷ listReasons g due answerRoom
 
 -- the reasons that next applies: 22 before 1, then all to 15; the list that is to be written is the one that follows the
 -- earlier one
 abbrev pub nextReasons : List ℕ → (t : ℕ) → List ℕ → ℕ → ℕ → List Reason
-nextReasons f t earlier answer work =
-    namedRules f t work ++ dueReasons (graphOf f t) earlier (following earlier (roll (graphOf f t))) answer
+nextReasons f t earlier answerRoom workRoom =
+    namedRules f t workRoom ++ dueReasons (graphOf f t) earlier (following earlier (roll (graphOf f t))) answerRoom
 
 -- what next answers that names mark table t
 abbrev pub nextOutcome : List ℕ → (t : ℕ) → List ℕ → ℕ → ℕ → Outcome Followed
-nextOutcome f t earlier answer work =
-    outcome (firstBroken (nextReasons f t earlier answer work)) (followed (following earlier (roll (graphOf f t))))
+nextOutcome f t earlier answerRoom workRoom =
+    outcome (firstBroken (nextReasons f t earlier answerRoom workRoom)) (followed (following earlier (roll (graphOf f t))))
 
 -- the list that next writes
 abbrev pub nextList : List ℕ → (t : ℕ) → List ℕ → ℕ → ℕ → Option (List ℕ)
-nextList f t earlier answer work =
-    unlessRefused (firstBroken (nextReasons f t earlier answer work)) (following earlier (roll (graphOf f t)))
+nextList f t earlier answerRoom workRoom =
+    unlessRefused (firstBroken (nextReasons f t earlier answerRoom workRoom)) (following earlier (roll (graphOf f t)))
 
 -- the answer table after next
 abbrev pub nextAnswer : List ℕ → (t : ℕ) → List ℕ → List ℕ → ℕ → List ℕ
-nextAnswer f t earlier a work = written (nextList f t earlier (length a) work) a
+nextAnswer f t earlier a workRoom = written (nextList f t earlier (length a) workRoom) a

@@ -11,10 +11,8 @@ ghost use Rattle.model.specs.Values.{Valid};
 ghost use Rattle.gate.specs.Gate.{workOf};
 ghost use Rattle.candidates.specs.Promises.{RoundsReady};
 ghost use Rattle.next.specs.Next.{nextOutcomeOf, nextOutcome, nextAnswer};
-use begun::ALL_ROUNDS;
-use begun::Begun;
-use begun::FULL_CEILING;
-use begun::begin;
+use begun::AllRounds;
+use begun::all_rounds;
 use cursor::to_list;
 use cursor::to_next;
 use cursor::write_list;
@@ -24,6 +22,8 @@ use lasso::Entries;
 use lasso::Transitions;
 use model::Checked;
 use model::Header;
+use numbers::limit;
+use numbers::reason;
 use paths::is_lasso;
 
 // The answer of next: refused with a number, found with the length and the loop's start, or no more.
@@ -54,10 +54,10 @@ fn next_list(
     ensures kept { λ _. ⌜ length (now (work .exit)) ≡ length (now (work .entry)) ⌝ }
 {
     if !is_lasso(file, h, earlier, transitions) {
-        return NextAnswer::Refused(13);
+        return NextAnswer::Refused(reason::NOT_SHORTEST);
     }
-    if 4096 < transitions.0 {
-        return NextAnswer::Refused(14);
+    if limit::LONGEST_PATH < transitions.0 {
+        return NextAnswer::Refused(reason::TOO_LONG);
     }
     to_list(file, h, transitions, earlier, work);
     if !to_next(file, h, transitions, work) {
@@ -66,14 +66,14 @@ fn next_list(
     let entries = transitions.entries();
     let room = Entries(answer.len());
     if room.0 < entries.0 {
-        return NextAnswer::Refused(15);
+        return NextAnswer::Refused(reason::NO_ROOM);
     }
     let k = write_list(h, work, transitions, answer);
     let loop_start = k as u16;
     NextAnswer::Found(transitions, loop_start)
 }
 
-// All rounds and then, if there is an accepting path, the one after the earlier list. The rounds are never stopped.
+// All rounds and then, if there is an accepting path, the one after the earlier list.
 fn next_of_model(
     file: &[u8],
     h: Header,
@@ -91,11 +91,10 @@ fn next_of_model(
         (length (now (work .entry))) ⌝ }
     ensures kept { λ _. ⌜ length (now (work .exit)) ≡ length (now (work .entry)) ⌝ }
 {
-    let begun = begin(file, h, Transitions(FULL_CEILING), ALL_ROUNDS, work);
-    match begun {
-        Begun::Stopped(_) => NextAnswer::Refused(13),
-        Begun::NoneWithin(_) => NextAnswer::Refused(13),
-        Begun::Length(transitions, _) => next_list(file, h, transitions, earlier, answer, work),
+    let completed = all_rounds(file, h, work);
+    match completed {
+        AllRounds::None(_) => NextAnswer::Refused(reason::NOT_SHORTEST),
+        AllRounds::Length(transitions, _) => next_list(file, h, transitions, earlier, answer, work),
     }
 }
 

@@ -14,6 +14,16 @@ use Rattle.model.proofs.Laws.{accepted-facts}
 use Rattle.outcomes.specs.Outcome.{Outcome, refused, answered, outcome}
 use Rattle.outcomes.specs.Tables.{tooLong, unlessRefused, written}
 
+-- a call is refused with the number that is found
+pub refused-some : {A : Type 0} (o : Option ℕ) (x : A) (n : ℕ) → outcome o x ≡ refused n → o ≡ some n
+refused-some none x n e = let z : _≡_ {A = ℕ} 0 1 = cc in absurd (omega arith)
+refused-some (some m) x n e = let same : m ≡ n = cc in ap some same
+
+-- a call is answered if none is found
+pub answered-none : {A : Type 0} (o : Option ℕ) (x y : A) → outcome o x ≡ answered y → o ≡ none
+answered-none none x y e = refl
+answered-none (some m) x y e = let z : _≡_ {A = ℕ} 0 1 = cc in absurd (omega arith)
+
 -- a call with these reasons, this finding and this list due has that outcome and writes that list
 pub record CallIs {A : Type 0} (reasons : List Reason) (found : A) (due : Option (List ℕ)) (o : Outcome A) (listed : Option (List ℕ)) : Type 0 where
   pub outcome-is : outcome (firstBroken reasons) found ≡ o

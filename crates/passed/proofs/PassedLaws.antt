@@ -30,7 +30,7 @@ passed-agree {f} {h} {w} {w'} agree two five o =
       tables = λ made b e. tables-for (λ k i. agree k (omega (arith, o .start .low))) two five (o .tables made b e);
     }
 
--- a store behind the list keeps what is known of it
+-- a store after the list keeps what is known of it
 pub passed-put : {f : List ℕ} {h : Header} {w : List ℕ} {l place : ℕ} {p : Passed} (t : ℕ) → place < h .states → PassedAt f h w l place p → PassedAt f h (set w place t) l place p
 passed-put {f} {h} {w} {l} {place} {p} t i o =
     passed-agree agree

@@ -10,7 +10,7 @@ use Rattle.goals.specs.Goals.{LastStart, LastMark}
 use Rattle.goal_tables.specs.Tables.{Tables}
 use Rattle.passed.specs.declared.Passed.{Passed}
 
--- what is known of the list up to a place is so: its last loop start, its last mark, and the tables behind that loop start
+-- what is known of the list up to a place is so: its last loop start, its last mark, and the tables after that loop start
 -- if they are said to be there
 pub record PassedAt (f : List ℕ) (h : Header) (w : List ℕ) (l place : ℕ) (p : Passed) : Type 0 where
   pub start : LastStart (graphIn f h) l (stateAt h w) place (p .start)

@@ -9,8 +9,8 @@ use native.Mathlib.Omega.{arith}
 use lib.ListN.{length, getD}
 use lib.Dec.{T, eqb→eq, leb, ltb, leb→le, le→leb, ltb→lt, nltb→le, T-not, not-T}
 use Rattle.lasso.specs.Graph.{Graph, WellFormed, edgeb, pathb, lassob}
-use Rattle.lasso.proofs.Tests.{fst, snd, both, either, or-l, or-r, parts, decide, T-false, lt-or-ge}
-use Rattle.lasso.proofs.Least.{IsLeast, isLeast-iff, isLeast-unique, seek-least, Passes}
+use Rattle.lists.proofs.Tests.{fst, snd, both, either, or-l, or-r, parts, decide, T-false, lt-or-ge}
+use Rattle.lists.proofs.Least.{IsLeast, isLeast-iff, isLeast-unique, seek-least, Passes}
 use Rattle.lasso.proofs.Walk.{path-states}
 use Rattle.lasso.proofs.RollLaws.{accepting-lasso}
 use Rattle.paths.specs.Breaks.{breakb, firstBreak, AllBelow, Breaks, BreaksFirst, BreaksShown}

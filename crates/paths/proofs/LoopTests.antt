@@ -8,9 +8,9 @@ use native.Mathlib.Omega.{arith}
 use borrow.Author.Tests.{eq-eqb, ne-eqb}
 use lib.ListN.{length, getD}
 use lib.Dec.{T, eqb, leb, eqb→eq, le→leb, not-T}
-use Rattle.lasso.specs.Lists.{anyb, upFrom, below}
+use Rattle.lists.specs.Lists.{anyb, upFrom, below}
 use Rattle.lasso.specs.Graph.{Graph, edges, pathb, loopsb, lassob}
-use Rattle.lasso.proofs.Tests.{parts, join, same-tests, T-false, eq→eqb, anyb-some, some-anyb, upFrom-range, range-upFrom, below-lt}
+use Rattle.lists.proofs.Tests.{parts, join, same-tests, T-false, eq→eqb, anyb-some, some-anyb, upFrom-range, range-upFrom, below-lt}
 use Rattle.lasso.proofs.RollLaws.{lasso-edges}
 
 -- the state at a place of the list is marked

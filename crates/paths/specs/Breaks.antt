@@ -7,7 +7,7 @@ use mathlib.Core.List.{List}
 use mathlib.Core.Option.{Option, some, none}
 use lib.ListN.{length, getD}
 use lib.Dec.{T, ltb, leb}
-use Rattle.lasso.specs.Lists.{seek}
+use Rattle.lists.specs.Lists.{seek}
 use Rattle.lasso.specs.Graph.{Graph, WellFormed, edgeb, pathb, acceptingb}
 use Rattle.paths.specs.declared.FirstBreak.{FirstBreak}
 use Rattle.paths.specs.declared.FirstBreak.the-variants.{None, At}

@@ -6,7 +6,7 @@ ghost use mathlib.Core.Option.{none};
 ghost use Prim.Native.Nat.{_≤_, _<_};
 ghost use lib.ListN.{length, getD};
 ghost use lib.Dec.{T, eqb};
-ghost use Rattle.lasso.specs.Lists.{anyb, below};
+ghost use Rattle.lists.specs.Lists.{anyb, below};
 ghost use Rattle.lasso.specs.Graph.{edges, pathb, loopsb, lassob};
 ghost use Rattle.model.specs.Model.{graphIn};
 ghost use Rattle.model.specs.Values.{Valid};
@@ -69,7 +69,7 @@ pub fn is_path(file: &[u8], h: Header, list: &[u16]) -> bool
 
 // From place k on a list that breaks nowhere is a closed walk with a mark: the last entry is the one at k, and one of
 // those from k to before the last is marked.
-pub fn closes_at(file: &[u8], h: Header, list: &[u16], k: usize) -> bool
+pub fn loops_at(file: &[u8], h: Header, list: &[u16], k: usize) -> bool
     requires { ⌜ Valid (now file) h ⌝ }
     requires { ⌜ firstBreak (graphIn (now file) h) (now list) ≡ none ⌝ }
     requires { ⌜ k < edges (now list) ⌝ }
@@ -104,7 +104,7 @@ pub fn closes(file: &[u8], h: Header, list: &[u16]) -> bool
     let mut k = 0;
     while k < end {
         if get(list, k) == last {
-            return closes_at(file, h, list, k);
+            return loops_at(file, h, list, k);
         }
         k += 1;
     }

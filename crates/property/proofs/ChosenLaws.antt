@@ -9,14 +9,14 @@ use borrow.Author.Tests.{lt-ltb, ne-eqb}
 use lib.ListN.{length, getD, take, drop}
 use lib.Seq.{drop-cons}
 use lib.Dec.{eqb, eqb-refl}
-use Rattle.lasso.specs.Lists.{anyb, pick, consIf, keep, upFrom}
-use Rattle.lasso.proofs.Tests.{T-true}
-use Rattle.lasso.proofs.Sorted.{All, Sorted}
+use Rattle.lists.specs.Lists.{anyb, pick, consIf, keep, upFrom}
+use Rattle.lists.proofs.Tests.{T-true}
+use Rattle.lists.proofs.Sorted.{All, Sorted}
 use Rattle.format.specs.Bytes.{bitb}
 use Rattle.format.specs.Layout.{states, rowEntry, target, rowTargets}
 use Rattle.model.proofs.Laws.{Facts}
-use Rattle.product.specs.Product.{agreeing}
-use Rattle.product.proofs.PairLists.{ascends}
+use Rattle.combine_model.specs.Product.{agreeing}
+use Rattle.lists.proofs.Ascending.{ascends}
 use Rattle.property.specs.Property.{maskAt, rowMasks, propertyOf, chosen}
 
 -- an entry that passes counts as one, another as none
@@ -24,7 +24,7 @@ consIf-length : (b : Bool) (x : ℕ) (xs : List ℕ) → length (consIf b x xs) 
 consIf-length true x xs = omega arith
 consIf-length false x xs = omega arith
 
--- the entries from a place on that pass: the one there, if it passes, and those behind it
+-- the entries from a place on that pass: the one there, if it passes, and those after it
 pub keep-from : (p : ℕ → Bool) (ws : List ℕ) (k : ℕ) → k < length ws
     → length (keep p (drop k ws)) ≡ pick (p (getD ws k 0)) 1 0 + length (keep p (drop (k + 1) ws))
 keep-from p ws k less =
@@ -82,7 +82,7 @@ module _ (t : ℕ → ℕ) (b : ℕ → Bool) where
   heldAt-past e es [] a = tt
   heldAt-past e es (x ∷ xs) a = (rw (ne-eqb (t e) x (omega (arith, a .0))), heldAt-past e es xs (a .1))
 
-  -- a place that holds a number less than all behind it decides about that number
+  -- a place that holds a number less than all after it decides about that number
   heldAt-here : (e : ℕ) (es : List ℕ) → All (λ y. t e < y) (map t es) → heldAt (e ∷ es) (t e) ≡ b e
   heldAt-here e es a = rw (T-true (eqb (t e) (t e)) (eqb-refl (t e)), heldAt-none (t e) es a) (or-false (b e))
     where

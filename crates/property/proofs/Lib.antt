@@ -1,4 +1,4 @@
 -- The laws of the property file.
-pub mod ReservedLaws
+pub mod StaysLaws
 pub mod PropertyLaws
 pub mod ChosenLaws

@@ -7,11 +7,11 @@ use mathlib.Core.List.{List}
 use native.Mathlib.Omega.{arith}
 use lib.ListN.{length}
 use lib.Dec.{T}
-use Rattle.lasso.specs.Lists.{isSome}
+use Rattle.lists.specs.Lists.{isSome}
 use Rattle.lasso.specs.Graph.{WellFormed}
-use Rattle.format.specs.Layout.{states, edgeCount, initial, rowEntry}
+use Rattle.format.specs.Layout.{states, edgeCount, startOf, rowEntry}
 use Rattle.format.specs.Rules.{firstBroken}
-use Rattle.format.proofs.Reasons.{neither-l}
+use Rattle.lists.proofs.Fails.{neither-l}
 use Rattle.model.specs.Values.{headerOf}
 use Rattle.model.specs.declared.Header.{Header}
 use Rattle.model.specs.declared.Checked.the-variants.{Refused, Accept}
@@ -32,7 +32,7 @@ module _ {p : List ℕ} {h : Header} (v : ValidProperty p h) where
       omega (arith, rw first at long)
 
   -- its header has its numbers
-  pub property-numbers : (h .states ≡ states p) × (h .edges ≡ edgeCount p) × (h .start ≡ initial p)
+  pub property-numbers : (h .states ≡ states p) × (h .edges ≡ edgeCount p) × (h .start ≡ startOf p)
   property-numbers = header-numbers p (v .header)
 
   -- its graph is well formed

@@ -8,7 +8,7 @@ use mathlib.Core.List.{List, [], _∷_}
 use mathlib.Core.Option.{none}
 use lib.ListN.{length, getD}
 use lib.Dec.{eqb}
-use Rattle.lasso.specs.Lists.{anyb, consIf, isSome, upFrom, below}
+use Rattle.lists.specs.Lists.{anyb, consIf, isSome, upFrom, below}
 use Rattle.lasso.specs.Graph.{Graph}
 use Rattle.format.specs.Bytes.{word, bitb}
 use Rattle.format.specs.Layout.{states, edgeCount, totalOf, rowEntry, target, rowNumbers}
@@ -17,9 +17,9 @@ use Rattle.model.specs.Model.{rowGraph}
 use Rattle.model.specs.declared.Header.{Header}
 use Rattle.model.specs.declared.Checked.{Checked}
 use Rattle.model.specs.Values.{headerOf, checkWith}
-use Rattle.product.specs.Product.{Property}
+use Rattle.combine_model.specs.Product.{Property}
 
--- the offset of the masks that N and M give: behind the marks
+-- the offset of the masks that N and M give: after the marks
 abbrev pub masksAt : ℕ → ℕ → ℕ
 masksAt n m = totalOf n m
 
@@ -77,6 +77,6 @@ pub record ValidProperty (p : List ℕ) (h : Header) : Type 0 where
   pub header : h ≡ headerOf p 0
 
 -- two files of one length whose bytes differ at 6–7 alone
-pub record SameButReserved (p p' : List ℕ) : Type 0 where
+pub record SameButStays (p p' : List ℕ) : Type 0 where
   pub same-length : length p ≡ length p'
   pub same-bytes : (i : ℕ) → (i < 6) ⊎ (8 ≤ i) → getD p i 0 ≡ getD p' i 0

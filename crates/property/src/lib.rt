@@ -2,7 +2,8 @@
 ghost use mathlib.Core.Path.{_≡_};
 ghost use Prim.Native.Nat.{_≤_, _<_};
 ghost use lib.ListN.{length};
-ghost use Rattle.lasso.specs.Lists.{keep};
+ghost use Rattle.numbers.specs.Limits.{highestLetter};
+ghost use Rattle.lists.specs.Lists.{keep};
 ghost use Rattle.format.specs.Bytes.{words, bitb};
 ghost use Rattle.format.specs.Layout.{rowTargets, markBit};
 ghost use Rattle.property.specs.Property.{propertyCheckOf, rowMasks, zeroMask, ValidProperty};
@@ -18,7 +19,7 @@ use format::word;
 use model::Checked;
 use model::Header;
 
-// Applies the rules 1 to 11 in order; there is one mark table, and the total length counts the masks behind it.
+// Applies the rules 1 to 11 in order; there is one mark table, and the total length counts the masks after it.
 pub fn check_property(file: &[u8]) -> Checked
     ensures { λ r. ⌜ r ≡ propertyCheckOf (now (file .entry)) ⌝ }
 {
@@ -70,7 +71,7 @@ pub fn mask_part(file: &[u8], h: Header, q: usize) -> &[u8]
 
 // The mask holds the letter: bit l of the mask is letter l.
 pub fn mask_holds(mask: usize, letter: usize) -> bool
-    requires { ⌜ letter ≤ 15 ⌝ }
+    requires { ⌜ letter ≤ highestLetter ⌝ }
     ensures { λ r. ⌜ r ≡ bitb mask letter ⌝ }
 {
     (mask >> letter) % 2 == 1
@@ -78,7 +79,7 @@ pub fn mask_holds(mask: usize, letter: usize) -> bool
 
 // How many masks of a part hold the letter.
 pub fn count_holding(masks: &[u8], letter: usize) -> usize
-    requires { ⌜ letter ≤ 15 ⌝ }
+    requires { ⌜ letter ≤ highestLetter ⌝ }
     ensures { λ r. ⌜ r ≡ length (keep (λ m. bitb m letter) (words (now (masks .entry)))) ⌝ }
 {
     let count = masks.len() / 2;
@@ -94,7 +95,7 @@ pub fn count_holding(masks: &[u8], letter: usize) -> usize
 }
 
 // State q is marked in mark table 0, the only one.
-pub fn is_marked(file: &[u8], h: Header, q: usize) -> bool
+pub fn property_marked(file: &[u8], h: Header, q: usize) -> bool
     requires { ⌜ ValidProperty (now file) h ⌝ }
     requires { ⌜ q < h .states ⌝ }
     ensures { λ r. ⌜ r ≡ markBit (now (file .entry)) 0 q ⌝ }

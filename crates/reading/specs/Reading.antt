@@ -5,7 +5,7 @@ use mathlib.Core.Bool.{Bool, true, false}
 use mathlib.Core.List.{List, []}
 use lib.ListN.{take}
 use lib.IntN.{ℤ, pos, negsuc}
-use Rattle.lasso.specs.Lists.{pick}
+use Rattle.lists.specs.Lists.{pick}
 
 -- the read failed: the answer is negative
 abbrev pub failedRead : ℤ → Bool

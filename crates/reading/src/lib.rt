@@ -2,8 +2,8 @@
 // byte more than the longest input has, so that no longer one passes for it, and no more is read than decides.
 ghost use mathlib.Core.Path.{_≡_};
 ghost use lib.ListN.{length, take};
+ghost use Rattle.numbers.specs.Limits.{fileBytes, lettersBytes, propertyBytes};
 ghost use Rattle.text.specs.Writing.{Within};
-ghost use Rattle.input_sizes.specs.Sizes.{fileBytes, lettersBytes, propertyBytes};
 ghost use Rattle.reading.specs.Reading.{failedRead, inputOf, FirstBytes};
 
 // What was read: so many bytes at the front of the buffer, and whether a read failed before the end of the input.

@@ -7,19 +7,15 @@ use mathlib.Core.Option.{Option, some, none}
 use native.Mathlib.Omega.{arith}
 use Rattle.lasso.specs.Graph.{Graph, WellFormed}
 use Rattle.lasso.specs.Distance.{dist}
-use Rattle.lasso.specs.Rounds.{sum, roundLength}
-use Rattle.lasso.proofs.Tests.{lt-or-ge}
-use Rattle.lasso.proofs.Least.{isLeast-has}
+use Rattle.lists.specs.Least.{sum}
+use Rattle.lasso.specs.Rounds.{roundLength}
+use Rattle.lists.proofs.Tests.{lt-or-ge}
+use Rattle.lists.proofs.Least.{isLeast-has}
 use Rattle.frontier.specs.Regions.{entryOf, valueOf}
-use Rattle.lasso.specs.Limit.{under}
+use Rattle.lists.specs.Limit.{under}
 use Rattle.hits.specs.Hit.{hitLength}
-use Rattle.lasso.proofs.UnderLaws.{under-lt, under-ge}
+use Rattle.lists.proofs.UnderLaws.{under-lt, under-ge}
 use Rattle.hits.proofs.HitLaws.{hitLength-cong, hitLength-under, hitLength-least}
-
--- an entry stands for the value that it was made for
-pub valueOf-entryOf : (a : Option ℕ) → valueOf (entryOf a) ≡ a
-valueOf-entryOf none = refl
-valueOf-entryOf (some v) = refl
 
 -- the entry for a value below n is at most n
 pub entryOf-le : (n : ℕ) (a : Option ℕ) → ((v : ℕ) → a ≡ some v → v < n) → entryOf a ≤ n

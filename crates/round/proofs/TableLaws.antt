@@ -9,8 +9,9 @@ use lib.ListN.{length, getD, set}
 use lib.Seq.{getD-set-same, getD-set-other}
 use Rattle.lasso.specs.Graph.{Graph}
 use Rattle.lasso.specs.Distance.{dist}
-use Rattle.lasso.specs.Rounds.{sum, roundLength}
-use Rattle.lasso.proofs.Tests.{lt-or-ge}
+use Rattle.lists.specs.Least.{sum}
+use Rattle.lasso.specs.Rounds.{roundLength}
+use Rattle.lists.proofs.Tests.{lt-or-ge}
 use Rattle.lasso.proofs.Distance.{dist-below}
 use Rattle.model.specs.declared.Header.{Header}
 use Rattle.model.specs.Model.{graphIn}
@@ -18,16 +19,17 @@ use Rattle.model.proofs.Laws.{valid-sizes}
 use Rattle.table.specs.Changes.{SameOutside}
 use Rattle.table.proofs.Laws.{sameOutside-refl, sameOutside-widen, sameOutside-trans, sameOutside-set}
 use Rattle.frontier.specs.Regions.{entry, entryOf, valueOf}
-use Rattle.lasso.specs.Limit.{under}
+use Rattle.lists.specs.Limit.{under}
 use Rattle.hits.specs.Hit.{hitLength}
 use Rattle.walks.specs.Through.{DistancesWithin}
 use Rattle.edge_search.specs.Promises.{FoundFrom, ExhaustedFrom}
 use Rattle.frontier.specs.Buckets.{sources}
-use Rattle.lasso.proofs.UnderLaws.{under-some}
+use Rattle.lists.proofs.UnderLaws.{under-some}
 use Rattle.candidates.specs.Promises.{RoundsReady}
 use Rattle.candidates.proofs.DistanceLaws.{entry-zero}
 use Rattle.round.specs.Promises.{SumsFit, SumsPut}
-use Rattle.round.proofs.Laws.{valueOf-entryOf, entryOf-le, under-sum, round-found}
+use Rattle.spread.proofs.SearchLaws.{value-entry}
+use Rattle.round.proofs.Laws.{entryOf-le, under-sum, round-found}
 
 -- after the distances from r are found, region 0 holds those from the start
 ready-start : {f : List ℕ} {h : Header} {w w₁ : List ℕ} {r limit reached : ℕ} → RoundsReady f h w
@@ -101,9 +103,9 @@ round-sources {f} {h} {r = r} {limit} w₂ ready found sums s l =
     let a = dist g (g .start) s in
     let b = under (suc limit) (dist g r s) in
     let both = ap₂ (λ (x y : ℕ). sum (valueOf x) (valueOf y)) (ready-start ready found s l) (found .distances s l) in
-    let plain : sum (valueOf (entryOf a)) (valueOf (entryOf b)) ≡ sum a b = ap₂ sum (valueOf-entryOf a) (valueOf-entryOf b) in
+    let plain : sum (valueOf (entryOf a)) (valueOf (entryOf b)) ≡ sum a b = ap₂ sum (value-entry a) (value-entry b) in
     ap (λ (x : ℕ). under limit (valueOf x)) (sums s l)
-    ∙ ap (under limit) (valueOf-entryOf _ ∙ both ∙ plain)
+    ∙ ap (under limit) (value-entry _ ∙ both ∙ plain)
     ∙ under-sum limit a (dist g r s)
 
 -- the search from these start levels finds the round's length

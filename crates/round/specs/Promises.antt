@@ -2,7 +2,7 @@
 use Prim.Native.Nat.{ℕ, _+_, _≤_, _<_}
 use mathlib.Core.Path.{_≡_}
 use mathlib.Core.List.{List}
-use Rattle.lasso.specs.Rounds.{sum}
+use Rattle.lists.specs.Least.{sum}
 use Rattle.frontier.specs.Regions.{entry, entryOf, valueOf}
 
 -- the sum of a state's entries in regions 0 and 2 fits an entry

@@ -2,12 +2,13 @@
 ghost use mathlib.Core.Path.{_≡_};
 ghost use Prim.Native.Nat.{suc, _+_, _*_, _≤_, _<_};
 ghost use lib.ListN.{length};
-ghost use Rattle.lasso.specs.Rounds.{roundLength, sum};
+ghost use Rattle.lists.specs.Least.{sum};
+ghost use Rattle.lasso.specs.Rounds.{roundLength};
 ghost use Rattle.lasso.specs.Values.{foundOf};
 ghost use Rattle.model.specs.Model.{graphIn};
 ghost use Rattle.table.specs.Changes.{SameOutside};
 ghost use Rattle.frontier.specs.Regions.{entryOf, valueOf};
-ghost use Rattle.lasso.specs.Limit.{under};
+ghost use Rattle.lists.specs.Limit.{under};
 ghost use Rattle.candidates.specs.Promises.{RoundsReady};
 ghost use Rattle.round.specs.Promises.{SumsFit, SumsPut};
 use edge_search::SpreadAnswer;
@@ -17,7 +18,7 @@ use model::Header;
 use spread::spread;
 use table::get;
 use table::put;
-use walks::distances;
+use walks::distances_from;
 
 // The entry for the sum of what two entries stand for: nothing if one of them stands for nothing.
 fn sum_entry(a: usize, b: usize) -> usize
@@ -63,7 +64,7 @@ pub fn round(file: &[u8], h: Header, work: &mut [u16], r: usize, limit: usize) -
         return LengthFound::None;
     }
     let n = h.states;
-    distances(file, h, work, r, limit);
+    distances_from(file, h, work, r, limit);
     add_start_distances(work, n);
     let answer = spread(file, h, work, limit, r);
     match answer {

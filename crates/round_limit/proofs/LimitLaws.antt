@@ -4,10 +4,11 @@ use mathlib.Core.Path.{_≡_, refl, sym, _∙_, ap}
 use mathlib.Core.Logic.{inl, inr}
 use mathlib.Core.Option.{Option, some, none}
 use native.Mathlib.Omega.{arith}
-use Rattle.lasso.specs.Rounds.{lesser, Record, bestLength, withRound}
-use Rattle.lasso.proofs.Tests.{lt-or-ge}
-use Rattle.lasso.specs.Limit.{under}
-use Rattle.lasso.proofs.UnderLaws.{under-lt, under-ge, under-some, under-under}
+use Rattle.lists.specs.Least.{lesser}
+use Rattle.lasso.specs.Rounds.{Record, bestLength, withRound}
+use Rattle.lists.proofs.Tests.{lt-or-ge}
+use Rattle.lists.specs.Limit.{under}
+use Rattle.lists.proofs.UnderLaws.{under-lt, under-ge, under-some, under-under}
 
 -- lengths above the limit do not change the best, if the limit is the lesser of the best and a bound on the lengths
 limit-enough : (best x : Option ℕ) (n limit : ℕ) → lesser best (some n) ≡ some limit

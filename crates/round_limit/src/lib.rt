@@ -2,7 +2,8 @@
 ghost use mathlib.Core.Path.{_≡_};
 ghost use mathlib.Core.Option.{some};
 ghost use Prim.Native.Nat.{min};
-ghost use Rattle.lasso.specs.Rounds.{bestLength, lesser};
+ghost use Rattle.lists.specs.Least.{lesser};
+ghost use Rattle.lasso.specs.Rounds.{bestLength};
 ghost use Rattle.lasso.specs.Values.{recordOf};
 use lasso::Best;
 use lasso::RoundRecord;

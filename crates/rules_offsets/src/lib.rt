@@ -3,6 +3,7 @@ ghost use mathlib.Core.Path.{_≡_};
 ghost use mathlib.Core.Bool.{false};
 ghost use Prim.Native.Nat.{_≤_};
 ghost use lib.ListN.{length};
+ghost use Rattle.numbers.specs.Limits.{mostStates, mostEdges};
 ghost use Rattle.format.specs.Layout.{states, edgeCount};
 ghost use Rattle.format.specs.Rules.{totalFits, badOffsets};
 use format::edges_at;
@@ -14,7 +15,7 @@ use format::marks_at;
 // with each further one, up to `tables`.
 fn total_fits(file: &[u8], n: usize, total: usize, tables: usize) -> bool
     requires { ⌜ 24 ≤ length (now file) ⌝ }
-    requires { ⌜ (n ≡ states (now file)) × (n ≤ 4096) ⌝ }
+    requires { ⌜ (n ≡ states (now file)) × (n ≤ mostStates) ⌝ }
     requires { ⌜ (total ≤ 65535) × (tables ≤ 2) ⌝ }
     ensures { λ r. ⌜ r ≡ totalFits total tables (now (file .entry)) ⌝ }
 {
@@ -35,7 +36,7 @@ fn total_fits(file: &[u8], n: usize, total: usize, tables: usize) -> bool
 pub fn offsets_broken(file: &[u8], n: usize, m: usize, total: usize, tables: usize) -> bool
     requires { ⌜ 24 ≤ length (now file) ⌝ }
     requires { ⌜ (n ≡ states (now file)) × (m ≡ edgeCount (now file)) ⌝ }
-    requires { ⌜ (n ≤ 4096) × (m ≤ 8192) ⌝ }
+    requires { ⌜ (n ≤ mostStates) × (m ≤ mostEdges) ⌝ }
     requires { ⌜ (total ≤ 65535) × (tables ≤ 2) ⌝ }
     ensures { λ r. ⌜ r ≡ badOffsets total tables (now (file .entry)) ⌝ }
 {

@@ -1,7 +1,7 @@
 // The rules 8 to 10, each as one test of a file whose numbers of states and edges were read: its rows and targets.
 ghost use mathlib.Core.Path.{_≡_};
 ghost use mathlib.Core.Bool.{false};
-ghost use Rattle.lasso.specs.Graph.{ascendingb};
+ghost use Rattle.lists.specs.Lists.{ascendingb};
 ghost use Rattle.format.specs.Bytes.{words};
 ghost use Rattle.format.specs.Layout.{HasTables};
 ghost use Rattle.format.specs.Rules.{badRows, badTargets, badOrder};

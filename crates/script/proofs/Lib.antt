@@ -1,2 +1,2 @@
--- The laws of a script's commands.
-pub mod CommandLaws
+-- The laws of the call that a command asks for.
+pub mod AskedLaws

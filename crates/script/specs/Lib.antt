@@ -1,2 +1,2 @@
--- The commands of a script, and the call that each asks for.
-pub mod Commands
+-- The call that a command of a script asks for.
+pub mod Asked

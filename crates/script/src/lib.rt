@@ -1,52 +1,16 @@
-// The commands of a script of numbers, one at a time: how many numbers each has, and the call that it asks for, which is
-// made and logged.
+// The call that a command of a script asks for, made and logged.
 ghost use mathlib.Core.Path.{_≡_};
 ghost use mathlib.Core.Bool.{false};
 ghost use Prim.Native.Nat.{_+_, _≤_};
-ghost use lib.ListN.{length, getD};
-ghost use Rattle.logged.specs.Log.{Made};
-ghost use Rattle.script.specs.Commands.{behind, overb, sizeOf, callOf};
+ghost use lib.ListN.{length};
+ghost use Rattle.script_call.specs.Log.{Made};
+ghost use Rattle.script_commands.specs.Commands.{overb};
+ghost use Rattle.script.specs.Asked.{callOf};
 use gate::Ask;
 use lasso::Transitions;
-use logged::play_next;
-use logged::play_search;
-
-// The number at a place of a script, 0 past its end.
-fn number_at(script: &[u16], place: usize) -> u16
-    ensures { λ r. ⌜ r ≡ getD (now (script .entry)) place 0 ⌝ }
-{
-    if script.len() <= place {
-        return 0;
-    }
-    script[place]
-}
-
-// How many numbers stand behind the first two of a command.
-fn numbers_behind(action: u16, third: u16) -> usize
-    ensures { λ r. ⌜ r ≡ behind action third ⌝ }
-{
-    match action {
-        0 => 2,
-        1 => 0,
-        _ => third as usize + 1,
-    }
-}
-
-// How many numbers the first command has, 0 if the script is over.
-pub fn command_size(script: &[u16]) -> usize
-    ensures { λ r. ⌜ r ≡ sizeOf (now (script .entry)) ⌝ }
-{
-    let action = number_at(script, 0);
-    if 2 < action {
-        return 0;
-    }
-    let third = number_at(script, 2);
-    let size = 2 + numbers_behind(action, third);
-    if script.len() < size {
-        return 0;
-    }
-    size
-}
+use script_call::play_next;
+use script_call::play_search;
+use script_commands::number_at;
 
 // The call that the first command of a script asks for.
 pub fn play_one(

@@ -6,11 +6,12 @@ use mathlib.Core.List.{List, [], _∷_, _++_, head?}
 use mathlib.Core.Option.{Option, none}
 use lib.ListN.{length}
 use lib.Dec.{ltb}
-use Rattle.lasso.specs.Lists.{pick}
+use Rattle.lists.specs.Lists.{pick}
 use Rattle.lasso.specs.Graph.{Graph, edges, loopStart}
 use Rattle.lasso.specs.Roll.{rollWithin}
 use Rattle.lasso.specs.Rounds.{Record, candidates, afterRounds}
 use Rattle.lasso.specs.Values.{recordOf}
+use Rattle.numbers.specs.Limits.{highestCeiling}
 use Rattle.gate.specs.declared.Ask.{Ask}
 use Rattle.model.specs.Model.{graphOf}
 use Rattle.format.specs.Rules.{Reason, firstBroken}
@@ -61,16 +62,16 @@ firstDue g ask = pick (stopsb g (ask .allowance)) none (head? (rollWithin g (ask
 abbrev pub graphAsked : List ℕ → Ask → Graph
 graphAsked f ask = graphOf f (ask .table)
 
--- the reasons that a search applies: 22 before 1, 21 behind 12, then 14 and 15; it skips 13
+-- the reasons that a search applies: 22 before 1, 21 after 12, then 14 and 15; it skips 13
 abbrev pub searchReasons : List ℕ → Ask → ℕ → ℕ → List Reason
-searchReasons f ask answer work =
-    namedRules f (ask .table) work ++
-    ceilingReason (ask .ceiling .0) ∷ listReasons (graphAsked f ask) (firstDue (graphAsked f ask) ask) answer
+searchReasons f ask answerRoom workRoom =
+    namedRules f (ask .table) workRoom ++
+    ceilingReason (ask .ceiling .0) ∷ listReasons (graphAsked f ask) (firstDue (graphAsked f ask) ask) answerRoom
 
 -- what a search answers
 abbrev pub searchOutcome : List ℕ → Ask → ℕ → ℕ → Outcome Searched
-searchOutcome f ask answer work =
-    outcome (firstBroken (searchReasons f ask answer work)) (searched (graphAsked f ask) ask)
+searchOutcome f ask answerRoom workRoom =
+    outcome (firstBroken (searchReasons f ask answerRoom workRoom)) (searched (graphAsked f ask) ask)
 
 -- a search asks enough: it names that mark table, it is allowed so many rounds, its ceiling is not below that length, and 21
 -- does not refuse it
@@ -78,7 +79,7 @@ pub record AsksEnough (t rounds l : ℕ) (ask : Ask) : Type 0 where
   pub named : ask .table ≡ t
   pub allowed : rounds ≤ ask .allowance
   pub within : l ≤ ask .ceiling .0
-  pub not-high : ask .ceiling .0 ≤ 4096
+  pub not-high : ask .ceiling .0 ≤ highestCeiling
 
 -- something is so of every search that asks enough
 abbrev pub WithEnough : (t rounds l : ℕ) → (Ask → Type 0) → Type 0
@@ -86,9 +87,9 @@ WithEnough t rounds l P = (ask : Ask) → AsksEnough t rounds l ask → P ask
 
 -- the list that a search writes
 abbrev pub searchList : List ℕ → Ask → ℕ → ℕ → Option (List ℕ)
-searchList f ask answer work =
-    unlessRefused (firstBroken (searchReasons f ask answer work)) (firstDue (graphAsked f ask) ask)
+searchList f ask answerRoom workRoom =
+    unlessRefused (firstBroken (searchReasons f ask answerRoom workRoom)) (firstDue (graphAsked f ask) ask)
 
 -- the answer table after a search
 abbrev pub searchAnswer : List ℕ → Ask → List ℕ → ℕ → List ℕ
-searchAnswer f ask a work = written (searchList f ask (length a) work) a
+searchAnswer f ask a workRoom = written (searchList f ask (length a) workRoom) a

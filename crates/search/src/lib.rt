@@ -26,6 +26,8 @@ use lasso::RoundRecord;
 use lasso::Transitions;
 use model::Checked;
 use model::Header;
+use numbers::limit;
+use numbers::reason;
 
 // The answer of a search: refused with a number; stopped with the record after the rounds that the allowance admits;
 // found with the length, the loop's start and the rounds; or none within the ceiling with the rounds.
@@ -56,13 +58,13 @@ fn first_list(
         ≡ searchAnswer (now (file .entry)) ask (now (answer .entry)) (length (now (work .entry)))) ⌝ }
     ensures kept { λ _. ⌜ length (now (work .exit)) ≡ length (now (work .entry)) ⌝ }
 {
-    if 4096 < transitions.0 {
-        return SearchAnswer::Refused(14);
+    if limit::LONGEST_PATH < transitions.0 {
+        return SearchAnswer::Refused(reason::TOO_LONG);
     }
     let entries = transitions.entries();
     let room = Entries(answer.len());
     if room.0 < entries.0 {
-        return SearchAnswer::Refused(15);
+        return SearchAnswer::Refused(reason::NO_ROOM);
     }
     to_first(file, h, transitions, work);
     let k = write_list(h, work, transitions, answer);
@@ -88,7 +90,7 @@ fn search_model(
     ensures kept { λ _. ⌜ length (now (work .exit)) ≡ length (now (work .entry)) ⌝ }
 {
     if ceiling_too_high(ask.ceiling) {
-        return SearchAnswer::Refused(21);
+        return SearchAnswer::Refused(reason::HIGH_CEILING);
     }
     let begun = begin(file, h, ask.ceiling, ask.allowance, work);
     match begun {

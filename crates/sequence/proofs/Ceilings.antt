@@ -8,7 +8,7 @@ use mathlib.Core.List.{List, [], _∷_, head?}
 use mathlib.Core.Option.{Option, some, none}
 use borrow.Author.Tests.{le-ltb}
 use lib.ListN.{length}
-use Rattle.lasso.specs.Lists.{pick}
+use Rattle.lists.specs.Lists.{pick}
 use Rattle.lasso.specs.Graph.{Graph}
 use Rattle.lasso.specs.Roll.{roll, rollWithin}
 use Rattle.lasso.specs.Rounds.{candidates, afterRounds}

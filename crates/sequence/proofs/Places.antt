@@ -12,11 +12,11 @@ use mathlib.Core.Option.{Option, some, none}
 use lib.ListN.{length, getD, take, getElem?}
 use lib.Seq.{take-append-seam}
 use lib.Dec.{eqb}
-use Rattle.lasso.specs.Lists.{pick}
+use Rattle.lists.specs.Lists.{pick}
 use Rattle.lasso.specs.Graph.{Graph, edges}
 use Rattle.lasso.specs.Roll.{ofLeast, leastLength, roll, rollWithin}
 use Rattle.lasso.specs.Following.{following}
-use Rattle.lasso.proofs.Sorted.{Sorted}
+use Rattle.lists.proofs.Sorted.{Sorted}
 use Rattle.lasso.proofs.OrderLaws.{Before, following-at}
 use Rattle.lasso.proofs.RollLaws.{ofLength-length}
 use Rattle.lasso.proofs.CeilingLaws.{within-roll}

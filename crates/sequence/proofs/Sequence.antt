@@ -9,12 +9,12 @@ use mathlib.Core.List.{List, [], _∷_, _++_, map, head?, List·Memᴰ, List·Me
 use mathlib.Core.Option.{Option, some, none}
 use lib.ListN.{length, take, getElem?}
 use lib.Dec.{T, ltb→lt}
-use Rattle.lasso.specs.Lists.{pick}
+use Rattle.lists.specs.Lists.{pick}
 use Rattle.lasso.specs.Graph.{Graph, edges}
 use Rattle.lasso.specs.Roll.{roll, rollWithin}
 use Rattle.lasso.specs.Rounds.{Record, candidates, afterRounds}
 use Rattle.lasso.specs.Following.{following}
-use Rattle.lasso.proofs.Sorted.{Sorted}
+use Rattle.lists.proofs.Sorted.{Sorted}
 use Rattle.lasso.proofs.OrderLaws.{Before}
 use Rattle.lasso.proofs.RollLaws.{roll-strict}
 use Rattle.lasso.proofs.CeilingLaws.{whole-or-none}
@@ -116,35 +116,35 @@ nextGives f t a w first due =
     record { answer = ofNext (outcome first (followed due)); table = written (unlessRefused first due) a; work = workOf f t w }
 
 -- the first reason of a next that holds, where the list due is given
-abbrev firstWith : List ℕ → (t : ℕ) → List ℕ → (answer work : ℕ) → Option (List ℕ) → Option ℕ
-firstWith f t earlier answer work due =
-    firstBroken (namedRules f t work ++ dueReasons (graphOf f t) earlier due answer)
+abbrev firstWith : List ℕ → (t : ℕ) → List ℕ → (answerRoom workRoom : ℕ) → Option (List ℕ) → Option ℕ
+firstWith f t earlier answerRoom workRoom due =
+    firstBroken (namedRules f t workRoom ++ dueReasons (graphOf f t) earlier due answerRoom)
 
 -- what a next does whose list due is given
 abbrev nextWith : List ℕ → (t : ℕ) → List ℕ → List ℕ → List ℕ → Option (List ℕ) → Result
 nextWith f t earlier a w due = nextGives f t a w (firstWith f t earlier (length a) (length w) due) due
 
 -- a next is refused with one number, whatever list is due
-abbrev RefusedAnyway : List ℕ → (t : ℕ) → List ℕ → (answer work : ℕ) → Type 0
-RefusedAnyway f t earlier answer work =
-    (n : ℕ) × ((due : Option (List ℕ)) → firstWith f t earlier answer work due ≡ some n)
+abbrev RefusedAnyway : List ℕ → (t : ℕ) → List ℕ → (answerRoom workRoom : ℕ) → Type 0
+RefusedAnyway f t earlier answerRoom workRoom =
+    (n : ℕ) × ((due : Option (List ℕ)) → firstWith f t earlier answerRoom workRoom due ≡ some n)
 
-module _ (f : List ℕ) (t : ℕ) (earlier : List ℕ) (answer work : ℕ) where
+module _ (f : List ℕ) (t : ℕ) (earlier : List ℕ) (answerRoom workRoom : ℕ) where
   -- so it is with a next that 22 or one of 1 to 12 refuses
-  gate-refuses : (n : ℕ) → firstBroken (namedRules f t work) ≡ some n → RefusedAnyway f t earlier answer work
-  gate-refuses n e = (n, λ due. broken-append (namedRules f t work) (dueReasons (graphOf f t) earlier due answer) n e)
+  gate-refuses : (n : ℕ) → firstBroken (namedRules f t workRoom) ≡ some n → RefusedAnyway f t earlier answerRoom workRoom
+  gate-refuses n e = (n, λ due. broken-append (namedRules f t workRoom) (dueReasons (graphOf f t) earlier due answerRoom) n e)
 
   -- lent a list that is no shortest accepting path, a next is refused with 13 or an earlier reason
-  not-shortest-refused : T (notShortest (graphOf f t) earlier) → RefusedAnyway f t earlier answer work
-  not-shortest-refused apart = go (firstBroken (namedRules f t work)) refl
+  not-shortest-refused : T (notShortest (graphOf f t) earlier) → RefusedAnyway f t earlier answerRoom workRoom
+  not-shortest-refused apart = go (firstBroken (namedRules f t workRoom)) refl
     where
-      go : (o : Option ℕ) → firstBroken (namedRules f t work) ≡ o → RefusedAnyway f t earlier answer work
+      go : (o : Option ℕ) → firstBroken (namedRules f t workRoom) ≡ o → RefusedAnyway f t earlier answerRoom workRoom
       go (some n) e = gate-refuses n e
       go none e = (
         13,
         λ due.
-            clear-append (namedRules f t work) (dueReasons (graphOf f t) earlier due answer) e
-            ∙ thirteen-decides (graphOf f t) earlier apart due answer,
+            clear-append (namedRules f t workRoom) (dueReasons (graphOf f t) earlier due answerRoom) e
+            ∙ thirteen-decides (graphOf f t) earlier apart due answerRoom,
       )
 
 -- then it makes no difference which list is due

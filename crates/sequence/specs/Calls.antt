@@ -31,6 +31,16 @@ pub record Result : Type 0 where
   pub table : List ℕ
   pub work : List ℕ
 
+-- the answer table that a call is lent
+abbrev pub answerLent : Call → List ℕ
+answerLent (search ask a w) = a
+answerLent (next t earlier a w) = a
+
+-- the working table that a call is lent
+abbrev pub workLent : Call → List ℕ
+workLent (search ask a w) = w
+workLent (next t earlier a w) = w
+
 -- what the finder does at a call on file f
 abbrev pub finderAt : List ℕ → Call → Result
 finderAt f (search ask a w) = record {

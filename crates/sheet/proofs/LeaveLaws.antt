@@ -7,7 +7,8 @@ use mathlib.Core.Option.{some}
 use native.Mathlib.Omega.{arith}
 use borrow.Author.Tests.{lt-ltb, le-ltb}
 use lib.ListN.{length}
-use Rattle.lasso.specs.Lists.{pick}
+use Rattle.lists.specs.Lists.{pick}
+use Rattle.numbers.specs.Limits.{sheetRoom}
 use Rattle.format.specs.Rules.{firstBroken}
 use Rattle.gate.specs.Gate.{namedRules, workEntered, workOf}
 use Rattle.gate.proofs.GateLaws.{work-refused}
@@ -16,7 +17,7 @@ use Rattle.text.specs.Figure.{figure}
 use Rattle.text.specs.Writing.{Wrote}
 use Rattle.text.proofs.WroteLaws.{wrote-none, wrote-as}
 use Rattle.sheet_head.specs.Words.{refusedWord}
-use Rattle.sheet_text.specs.SheetText.{sheetAsk, sheetText, sheetAnswer, sheetRoom}
+use Rattle.sheet_text.specs.SheetText.{sheetAsk, sheetText, sheetAnswer}
 use Rattle.sheet_text.proofs.SheetLaws.{sheet-answer, sheet-refused}
 use Rattle.sheet.specs.Sheet.{smallText}
 

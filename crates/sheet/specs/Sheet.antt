@@ -4,9 +4,10 @@ use mathlib.Core.List.{List, []}
 use Prim.Native.Nat.{ℕ, _≤_}
 use lib.ListN.{length}
 use lib.Dec.{ltb}
-use Rattle.lasso.specs.Lists.{pick}
+use Rattle.lists.specs.Lists.{pick}
+use Rattle.numbers.specs.Limits.{sheetRoom}
 use Rattle.gate.specs.Gate.{workOf}
-use Rattle.sheet_text.specs.SheetText.{sheetText, sheetAnswer, sheetRoom}
+use Rattle.sheet_text.specs.SheetText.{sheetText, sheetAnswer}
 
 -- the text t that is lent has less room than is asked
 abbrev pub smallText : List ℕ → Bool
@@ -26,4 +27,4 @@ sheetWorked f w t = pick (smallText t) w (workOf f 0 w)
 
 -- no sheet is longer than the room that is asked for its text
 abbrev pub SheetsFit : Type 0
-SheetsFit = (f : List ℕ) (answer work : ℕ) → length (sheetText f answer work) ≤ sheetRoom
+SheetsFit = (f : List ℕ) (answerRoom workRoom : ℕ) → length (sheetText f answerRoom workRoom) ≤ sheetRoom

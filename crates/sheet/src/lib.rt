@@ -5,14 +5,12 @@ ghost use Rattle.sheet.specs.Sheet.{sheetWritten, sheetAnswered, sheetWo
 use gate::enter;
 use gate::leave;
 use model::Checked;
+use numbers::limit;
 use sheet_head::write_refusal;
 use sheet_text::sheet_model;
 
 // The mark table that a sheet is about.
 const SHEET_TABLE: u16 = 0;
-
-// The entries that a text must have: no sheet is longer.
-const SHEET_ROOM: usize = 410_000;
 
 // Writes the sheet of a file to the front of a text, and answers the number of bytes written. With fewer than 410,000
 // bytes of room it writes nothing and answers 0.
@@ -25,7 +23,7 @@ pub fn sheet(input: &[u8], answer: &mut [u16], work: &mut [u16], text: &mut [u8]
     ensures work { λ _. ⌜ now (work .exit) ≡
         sheetWorked (now (input .entry)) (now (work .entry)) (now (text .entry)) ⌝ }
 {
-    if text.len() < SHEET_ROOM {
+    if text.len() < limit::SHEET_ROOM {
         return 0;
     }
     let checked = enter(input, SHEET_TABLE, work);

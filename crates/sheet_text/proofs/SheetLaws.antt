@@ -1,6 +1,6 @@
 -- What the sheet of a file is, case by case: refused, without a list, with lists.
 use Prim.Native.Nat.{ℕ, suc, _+_, _*_, _≤_, _<_}
-use mathlib.Core.Path.{_≡_, refl, sym, _∙_, ap}
+use mathlib.Core.Path.{_≡_, sym, _∙_, ap}
 use mathlib.Core.List.{List, [], _∷_, _++_, head?, append-assoc}
 use mathlib.Core.Option.{Option, some, none}
 use native.Mathlib.Omega.{arith}
@@ -17,7 +17,8 @@ use Rattle.model.specs.declared.Header.{Header}
 use Rattle.model.specs.Values.{Valid}
 use Rattle.model.proofs.Laws.{accepted-facts, header-numbers, valid-sizes}
 use Rattle.lasso.proofs.RoundLaws.{candidates-length-le}
-use Rattle.outcomes.specs.Outcome.{refused, answered, outcome}
+use Rattle.outcomes.proofs.OutcomeLaws.{refused-some, answered-none}
+use Rattle.outcomes.specs.Outcome.{refused, answered}
 use Rattle.outcomes.specs.Tables.{written, unlessRefused}
 use Rattle.search.specs.Search.{Searched, searched}
 use Rattle.search.proofs.SearchLaws.{SearchIs, search-none, search-found, search-no-room, roll-first}
@@ -25,50 +26,40 @@ use Rattle.text.specs.Figure.{figure}
 use Rattle.sheet_head.specs.Words.{refusedWord, noneLine, shortestWord}
 use Rattle.sheet_head.specs.Head.{head}
 use Rattle.sheet_text.specs.SheetText.{rollText, textOf, sheetAsk, sheetRefusal, sheetText, sheetAnswer}
-use Rattle.roll_text.specs.RollText.{listsText, lastPrinted}
+use Rattle.sheet_lists.specs.RollText.{listsText, lastPrinted}
 use Rattle.sheet_head.proofs.HeadLaws.{head-room}
 
 -- the whole text of a sheet, and the list that it leaves in the answer table
-pub record SheetIs (f : List ℕ) (answer work : ℕ) (text : List ℕ) (due : Option (List ℕ)) : Type 0 where
-  pub text-is : sheetText f answer work ≡ text
-  pub list-is : unlessRefused (sheetRefusal f answer work) (lastPrinted (roll (graphOf f 0))) ≡ due
+pub record SheetIs (f : List ℕ) (answerRoom workRoom : ℕ) (text : List ℕ) (due : Option (List ℕ)) : Type 0 where
+  pub text-is : sheetText f answerRoom workRoom ≡ text
+  pub list-is : unlessRefused (sheetRefusal f answerRoom workRoom) (lastPrinted (roll (graphOf f 0))) ≡ due
 
 -- the answer table holds that list
-pub sheet-answer : {f : List ℕ} {work : ℕ} {text : List ℕ} {due : Option (List ℕ)} (a : List ℕ) → SheetIs f (length a) work text due
-    → sheetAnswer f a work ≡ written due a
+pub sheet-answer : {f : List ℕ} {workRoom : ℕ} {text : List ℕ} {due : Option (List ℕ)} (a : List ℕ) → SheetIs f (length a) workRoom text due
+    → sheetAnswer f a workRoom ≡ written due a
 sheet-answer a s = ap (λ (o : Option (List ℕ)). written o a) (s .list-is)
 
--- a refusal is told by its reason
-outcome-refused : {A : Type 0} (o : Option ℕ) (s : A) (n : ℕ) → outcome o s ≡ refused n → o ≡ some n
-outcome-refused none s n e = let z : _≡_ {A = ℕ} 0 1 = cc in absurd (omega arith)
-outcome-refused (some m) s n e = let q : m ≡ n = cc in ap some q
-
--- an answer has none
-pub outcome-answered : {A : Type 0} (o : Option ℕ) (s a : A) → outcome o s ≡ answered a → o ≡ none
-outcome-answered none s a e = refl
-outcome-answered (some m) s a e = let z : _≡_ {A = ℕ} 0 1 = cc in absurd (omega arith)
-
 -- the sheet of a file that a search refuses
-pub sheet-refused : (f : List ℕ) (answer work : ℕ) {n : ℕ} {due : Option (List ℕ)} → SearchIs f sheetAsk answer work (refused n) due
-    → SheetIs f answer work (figure refusedWord n) none
-sheet-refused f answer work {n} s =
-    let e : sheetRefusal f answer work ≡ some n = outcome-refused (sheetRefusal f answer work) (searched (graphOf f 0) sheetAsk) n (s .outcome-is) in
+pub sheet-refused : (f : List ℕ) (answerRoom workRoom : ℕ) {n : ℕ} {due : Option (List ℕ)} → SearchIs f sheetAsk answerRoom workRoom (refused n) due
+    → SheetIs f answerRoom workRoom (figure refusedWord n) none
+sheet-refused f answerRoom workRoom {n} s =
+    let e : sheetRefusal f answerRoom workRoom ≡ some n = refused-some (sheetRefusal f answerRoom workRoom) (searched (graphOf f 0) sheetAsk) n (s .outcome-is) in
     record {
       text-is = ap (λ (o : Option ℕ). textOf o f) e;
       list-is = ap (λ (o : Option ℕ). unlessRefused o (lastPrinted (roll (graphOf f 0)))) e;
     }
 
 -- the sheet of a file that a search does not refuse
-sheet-kept : (f : List ℕ) (answer work : ℕ) {a : Searched} {due : Option (List ℕ)} → SearchIs f sheetAsk answer work (answered a) due
-    → SheetIs f answer work (textOf none f) (lastPrinted (roll (graphOf f 0)))
-sheet-kept f answer work {a} s =
-    let e : sheetRefusal f answer work ≡ none = outcome-answered (sheetRefusal f answer work) (searched (graphOf f 0) sheetAsk) a (s .outcome-is) in
+sheet-kept : (f : List ℕ) (answerRoom workRoom : ℕ) {a : Searched} {due : Option (List ℕ)} → SearchIs f sheetAsk answerRoom workRoom (answered a) due
+    → SheetIs f answerRoom workRoom (textOf none f) (lastPrinted (roll (graphOf f 0)))
+sheet-kept f answerRoom workRoom {a} s =
+    let e : sheetRefusal f answerRoom workRoom ≡ none = answered-none (sheetRefusal f answerRoom workRoom) (searched (graphOf f 0) sheetAsk) a (s .outcome-is) in
     record {
       text-is = ap (λ (o : Option ℕ). textOf o f) e;
       list-is = ap (λ (o : Option ℕ). unlessRefused o (lastPrinted (roll (graphOf f 0)))) e;
     }
 
--- the text behind the rounds, if there is a first list
+-- the text after the rounds, if there is a first list
 pub rollText-some : (rs : List (List ℕ)) (xs : List ℕ) (l : ℕ) → head? rs ≡ some xs → length xs ≡ suc l
     → rollText rs ≡ figure shortestWord l ++ listsText rs
 rollText-some [] xs l e long = let z : _≡_ {A = ℕ} 0 1 = cc in absurd (omega arith)
@@ -78,10 +69,10 @@ rollText-some (r ∷ rs) xs l e long =
     ap (λ (k : ℕ). figure shortestWord k ++ listsText (r ∷ rs)) n
 
 -- the lines before the lists
-abbrev pub headOf : List ℕ → List ℕ
-headOf f = head (states f) (edgeCount f) (length (candidates (graphOf f 0)))
+abbrev pub headLines : List ℕ → List ℕ
+headLines f = head (states f) (edgeCount f) (length (candidates (graphOf f 0)))
 
-module _ (f : List ℕ) (accepted : Accepted f) (answer work : ℕ) (room : 6 * states f ≤ work) where
+module _ (f : List ℕ) (accepted : Accepted f) (answerRoom workRoom : ℕ) (room : 6 * states f ≤ workRoom) where
   -- the allowance suffices
   pub enough-rounds : length (candidates (graphOf f 0)) ≤ sheetAsk .allowance
   enough-rounds =
@@ -103,39 +94,39 @@ module _ (f : List ℕ) (accepted : Accepted f) (answer work : ℕ) (room : 6 * 
       roll-full (graphOf f 0) (sheetAsk .ceiling .0) (omega (arith, facts .states-range))
 
   -- there is no accepting path
-  pub sheet-none : leastLength (graphOf f 0) ≡ none → SheetIs f answer work (headOf f ++ noneLine) none
+  pub sheet-none : leastLength (graphOf f 0) ≡ none → SheetIs f answerRoom workRoom (headLines f ++ noneLine) none
   sheet-none e =
       let no-list : roll (graphOf f 0) ≡ [] = roll-empty (graphOf f 0) .1 e in
-      let s = sheet-kept f answer work (search-none f accepted sheetAsk answer work room named-one low-ceiling enough-rounds (whole-roll ∙ no-list)) in
+      let s = sheet-kept f answerRoom workRoom (search-none f accepted sheetAsk answerRoom workRoom room named-one low-ceiling enough-rounds (whole-roll ∙ no-list)) in
       record {
-        text-is = s .text-is ∙ ap (λ (rs : List (List ℕ)). headOf f ++ rollText rs) no-list;
+        text-is = s .text-is ∙ ap (λ (rs : List (List ℕ)). headLines f ++ rollText rs) no-list;
         list-is = s .list-is ∙ ap (λ (rs : List (List ℕ)). lastPrinted rs) no-list;
       }
 
   -- there are lists, and they have room
-  pub sheet-lists : (l : ℕ) → leastLength (graphOf f 0) ≡ some l → l + 1 ≤ answer
-      → SheetIs f answer work (headOf f ++ figure shortestWord l ++ listsText (roll (graphOf f 0))) (lastPrinted (roll (graphOf f 0)))
+  pub sheet-lists : (l : ℕ) → leastLength (graphOf f 0) ≡ some l → l + 1 ≤ answerRoom
+      → SheetIs f answerRoom workRoom (headLines f ++ figure shortestWord l ++ listsText (roll (graphOf f 0))) (lastPrinted (roll (graphOf f 0)))
   sheet-lists l e fits =
       let (xs, first, long) = roll-first (graphOf f 0) l e in
-      let s = sheet-kept f answer work (search-found f accepted sheetAsk answer work room named-one low-ceiling enough-rounds xs (ap (λ (rs : List (List ℕ)). head? rs) whole-roll ∙ first) (omega arith)) in
+      let s = sheet-kept f answerRoom workRoom (search-found f accepted sheetAsk answerRoom workRoom room named-one low-ceiling enough-rounds xs (ap (λ (rs : List (List ℕ)). head? rs) whole-roll ∙ first) (omega arith)) in
       record {
         text-is =
             s .text-is
-            ∙ ap (λ (r : List ℕ). headOf f ++ r) (rollText-some (roll (graphOf f 0)) xs l first long)
-            ∙ sym (append-assoc (headOf f) (figure shortestWord l) (listsText (roll (graphOf f 0))));
+            ∙ ap (λ (r : List ℕ). headLines f ++ r) (rollText-some (roll (graphOf f 0)) xs l first long)
+            ∙ sym (append-assoc (headLines f) (figure shortestWord l) (listsText (roll (graphOf f 0))));
         list-is = s .list-is;
       }
 
   -- there are lists, and they have no room
-  pub sheet-no-room : (l : ℕ) → leastLength (graphOf f 0) ≡ some l → answer < l + 1 → SheetIs f answer work (figure refusedWord 15) none
+  pub sheet-no-room : (l : ℕ) → leastLength (graphOf f 0) ≡ some l → answerRoom < l + 1 → SheetIs f answerRoom workRoom (figure refusedWord 15) none
   sheet-no-room l e less =
       let facts = accepted-facts f accepted in
       let within : l ≤ sheetAsk .ceiling .0 = omega (arith, leastLength-range (graphOf f 0) l e, facts .states-range) in
-      sheet-refused f answer work (search-no-room f accepted sheetAsk answer work room named-one low-ceiling enough-rounds l e within less)
+      sheet-refused f answerRoom workRoom (search-no-room f accepted sheetAsk answerRoom workRoom room named-one low-ceiling enough-rounds l e within less)
 
 -- the numbers of the header are the file's
 pub head-is : {f : List ℕ} {h : Header} {rounds : ℕ} → Valid f h → rounds ≡ length (candidates (graphOf f 0))
-    → head (h .states) (h .edges) rounds ≡ headOf f
+    → head (h .states) (h .edges) rounds ≡ headLines f
 head-is {f} {h} {rounds} v e =
     let (n, m, s) = header-numbers f (v .header) in
     ap (λ (k : ℕ). head k (h .edges) rounds) n

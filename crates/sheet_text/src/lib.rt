@@ -4,23 +4,23 @@ ghost use mathlib.Core.Option.{some};
 ghost use Prim.Native.Nat.{_*_, _≤_};
 ghost use lib.ListN.{length};
 ghost use lib.ListN;
+ghost use Rattle.numbers.specs.Limits.{sheetRoom};
 ghost use Rattle.lasso.specs.Roll.{leastLength};
 ghost use Rattle.lasso.specs.Rounds.{candidates};
 ghost use Rattle.model.specs.Model.{graphIn};
 ghost use Rattle.model.specs.Values.{Valid};
 ghost use Rattle.candidates.specs.Promises.{RoundsReady};
 ghost use Rattle.text.specs.Writing.{Wrote};
-ghost use Rattle.sheet_text.specs.SheetText.{sheetText, sheetAnswer, sheetRoom};
-use begun::ALL_ROUNDS;
-use begun::Begun;
-use begun::FULL_CEILING;
-use begun::begin;
+ghost use Rattle.sheet_text.specs.SheetText.{sheetText, sheetAnswer};
+use begun::AllRounds;
+use begun::all_rounds;
 use lasso::Entries;
 use lasso::Transitions;
 use model::Header;
-use roll_text::write_lists;
+use numbers::reason;
 use sheet_head::write_head;
 use sheet_head::write_refusal;
+use sheet_lists::write_lists;
 use text::write_bytes;
 use text::write_figure;
 
@@ -48,7 +48,7 @@ fn write_shortest(
     let entries = transitions.entries();
     let room = Entries(answer.len());
     if room.0 < entries.0 {
-        return write_refusal(text, 15);
+        return write_refusal(text, reason::NO_ROOM as usize);
     }
     let at = write_head(text, h, rounds as usize);
     let number = transitions.number();
@@ -74,14 +74,13 @@ pub fn sheet_model(
         sheetAnswer (now (file .entry)) (now (answer .entry)) (length (now (work .entry))) ⌝ }
     ensures kept { λ _. ⌜ length (now (work .exit)) ≡ length (now (work .entry)) ⌝ }
 {
-    let begun = begin(file, h, Transitions(FULL_CEILING), ALL_ROUNDS, work);
-    match begun {
-        Begun::Stopped(_) => 0,
-        Begun::NoneWithin(rounds) => {
+    let completed = all_rounds(file, h, work);
+    match completed {
+        AllRounds::None(rounds) => {
             let at = write_head(text, h, rounds as usize);
             write_bytes(text, at, b"none\n")
         }
-        Begun::Length(transitions, rounds) => write_shortest(
+        AllRounds::Length(transitions, rounds) => write_shortest(
             file,
             h,
             transitions,

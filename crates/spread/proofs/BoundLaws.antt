@@ -9,12 +9,12 @@ use native.Mathlib.Omega.{arith}
 use native.Mathlib.Nat.{le-refl}
 use lib.ListN.{length, getD}
 use lib.Dec.{T, eqb, eqb-refl}
-use Rattle.lasso.specs.Lists.{memb}
-use Rattle.lasso.specs.Limit.{under}
+use Rattle.lists.specs.Lists.{memb}
+use Rattle.lists.specs.Limit.{under}
 use Rattle.lasso.specs.Graph.{Graph, WellFormed, edgeb}
-use Rattle.lasso.proofs.Tests.{or-l, lt-or-ge, eq-or-apart}
-use Rattle.lasso.proofs.Least.{isLeast-le}
-use Rattle.lasso.proofs.UnderLaws.{under-some, some-under, under-under}
+use Rattle.lists.proofs.Tests.{or-l, lt-or-ge, eq-or-apart}
+use Rattle.lists.proofs.Least.{isLeast-le}
+use Rattle.lists.proofs.UnderLaws.{under-some, some-under, under-under}
 use Rattle.lasso.proofs.Walk.{Walk, walk-edge}
 use Rattle.frontier.specs.Regions.{entry, valueOf}
 use Rattle.frontier.specs.Buckets.{sources, Greatest, SourcesListed, Planned}

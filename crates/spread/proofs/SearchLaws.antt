@@ -8,17 +8,17 @@ use mathlib.Core.Option.{Option, some, none}
 use native.Mathlib.Omega.{arith}
 use Rattle.lasso.specs.Graph.{Graph, WellFormed}
 use Rattle.lasso.specs.Distance.{dist}
-use Rattle.lasso.proofs.Least.{isLeast-unique}
+use Rattle.lists.proofs.Least.{isLeast-unique}
 use Rattle.lasso.proofs.Walk.{Walk, walk-end-state}
 use Rattle.table.specs.Changes.{SameOutside}
 use Rattle.table.proofs.Laws.{sameOutside-trans}
 use Rattle.edge_search.specs.declared.SpreadAnswer.{SpreadAnswer}
 use Rattle.edge_search.specs.declared.SpreadAnswer.the-variants.{Length, Nothing}
 use Rattle.frontier.specs.Regions.{entry, valueOf, entryOf}
-use Rattle.lasso.specs.Limit.{under}
+use Rattle.lists.specs.Limit.{under}
 use Rattle.hits.specs.Hit.{hitLevel, hitLength}
 use Rattle.edge_search.specs.Promises.{ExhaustedFrom, SpreadFrom}
-use Rattle.lasso.proofs.UnderLaws.{under-lt, under-some, some-under, under-under}
+use Rattle.lists.proofs.UnderLaws.{under-lt, under-some, some-under, under-under}
 use Rattle.frontier.proofs.BucketLaws.{source-entry, entry-source}
 use Rattle.hits.proofs.HitLaws.{Timed, Single, hitLength-least, hitLevel-cong, hitLength-cong, hitLevel-single, hitLevel-under, hitLength-under}
 

@@ -1,7 +1,8 @@
-// The one search there is: breadth-first by levels, from sources that start at levels of their own. The working table
+// A search, breadth-first by levels, from sources that are told by their levels in the table. The working table
 // has the regions of the frontier.
 ghost use Prim.Native.Nat.{_*_, _≤_, _<_};
 ghost use lib.ListN.{length};
+ghost use Rattle.numbers.specs.Limits.{mostStates};
 ghost use Rattle.model.specs.Values.{Valid};
 ghost use Rattle.model.specs.Model.{graphIn};
 ghost use Rattle.frontier.specs.Buckets.{HasPlan};
@@ -18,7 +19,7 @@ use table::get;
 
 // State s is in the list of a level, in a plan up to the limit, which the contract alone needs. Lists descend.
 fn is_listed(work: &[u16], n: usize, limit: usize, level: usize, s: usize) -> bool
-    requires { ⌜ n ≤ 4096 ⌝ }
+    requires { ⌜ n ≤ mostStates ⌝ }
     requires { ⌜ level < limit ⌝ }
     requires { ⌜ limit ≤ n ⌝ }
     requires { ⌜ s < n ⌝ }
@@ -35,7 +36,7 @@ fn is_listed(work: &[u16], n: usize, limit: usize, level: usize, s: usize) -> bo
 
 // The level in whose list state s is, or the limit if it is in none.
 fn listed_level(work: &[u16], n: usize, limit: usize, s: usize) -> usize
-    requires { ⌜ n ≤ 4096 ⌝ }
+    requires { ⌜ n ≤ mostStates ⌝ }
     requires { ⌜ limit ≤ n ⌝ }
     requires { ⌜ s < n ⌝ }
     requires { ⌜ 6 * n ≤ length (now work) ⌝ }

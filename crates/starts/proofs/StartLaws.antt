@@ -9,13 +9,13 @@ use lib.Dec.{T}
 use Rattle.lasso.specs.Graph.{Graph, WellFormed, edgeb}
 use Rattle.lasso.specs.Distance.{dist}
 use Rattle.lasso.specs.Roll.{leastLength}
-use Rattle.lasso.proofs.Least.{isLeast-has}
+use Rattle.lists.proofs.Least.{isLeast-has}
 use Rattle.lasso.proofs.Walk.{Walk, walk-here, walk-edge, walk-cons, walk-uncons, walk-append, walk-zero, walk-to, walk-end-state}
 use Rattle.lasso.proofs.Distance.{dist-walk, dist-le}
 use Rattle.lasso.proofs.Lasso.{Knot, knot→lasso, lasso→lassob}
 use Rattle.lasso.proofs.RollLaws.{leastLength-le}
 use Rattle.walks.specs.Through.{loopLength}
-use Rattle.lasso.proofs.UnderLaws.{under-some, some-under}
+use Rattle.lists.proofs.UnderLaws.{under-some, some-under}
 use Rattle.walks.proofs.ThroughLaws.{ViaMark, loopLength-least}
 use Rattle.starts.specs.LoopStarts.{loopWithin, startLoop}
 

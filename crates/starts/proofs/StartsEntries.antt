@@ -1,25 +1,16 @@
 -- The entry of region 1 for one state, by the entry of its distance in region 0: nothing if it is not reached before the
 -- length, else its loop length within the rest of the length.
-use Prim.Native.Nat.{ℕ, suc, _+_, _*_, _-_, _≤_, _<_}
-use mathlib.Core.Path.{_≡_, refl, ap, _∙_}
-use mathlib.Core.List.{List}
+use Prim.Native.Nat.{ℕ, suc, _+_, _-_, _≤_, _<_}
+use mathlib.Core.Path.{_≡_, refl, ap}
 use mathlib.Core.Option.{Option, some, none}
 use native.Mathlib.Omega.{arith}
-use lib.ListN.{getD}
 use Rattle.lasso.specs.Graph.{Graph, WellFormed}
 use Rattle.lasso.specs.Distance.{dist}
 use Rattle.frontier.specs.Regions.{entryOf}
-use Rattle.lasso.specs.Limit.{under}
+use Rattle.lists.specs.Limit.{under}
 use Rattle.walks.specs.Through.{loopLength}
-use Rattle.candidates.specs.Promises.{StartDistances}
 use Rattle.starts.specs.LoopStarts.{startLoop}
 use Rattle.starts.proofs.StartLaws.{loopLength-closed, dist-state, startLoop-iff}
-
--- what region 0 holds for a state is the entry of its distance from the initial state
-pub start-distance : {g : Graph} {w : List ℕ} → StartDistances g w → (s : ℕ) → s < g .size
-    → getD w s 0 ≡ entryOf (dist g (g .start) s)
-start-distance {g} {w} at s h =
-    let z : s ≡ 0 * g .size + s = omega arith in ap (λ (i : ℕ). getD w i 0) z ∙ at .distances s h
 
 -- the entry 0 is that of no value
 pub entryOf-zero : (a : Option ℕ) → 0 ≡ entryOf a → a ≡ none

@@ -10,7 +10,7 @@ use lib.ListN.{length, getD, set}
 use lib.Seq.{getD-set-same, getD-set-other}
 use Rattle.lasso.specs.Graph.{Graph, WellFormed}
 use Rattle.lasso.specs.Roll.{leastLength}
-use Rattle.lasso.proofs.Tests.{lt-or-ge}
+use Rattle.lists.proofs.Tests.{lt-or-ge}
 use Rattle.model.specs.declared.Header.{Header}
 use Rattle.model.proofs.Laws.{valid-sizes}
 use Rattle.table.specs.Changes.{SameOutside}
@@ -20,7 +20,8 @@ use Rattle.candidates.specs.Promises.{StartDistances, RoundsReady}
 use Rattle.starts.specs.LoopStarts.{startLoop, StartLoops}
 use Rattle.starts.specs.Flags.{FlagsStarts}
 use Rattle.starts.proofs.StartLaws.{dist-state, startLoop-entered}
-use Rattle.starts.proofs.StartsEntries.{start-distance, none-entryOf}
+use Rattle.candidates.proofs.DistanceLaws.{start-entry}
+use Rattle.starts.proofs.StartsEntries.{none-entryOf}
 
 -- the entries of the first i states are in region 1, and among the other states those that are not flagged start no loop
 pub record Filling (g : Graph) (l i n : ℕ) (v w : List ℕ) : Type 0 where
@@ -36,12 +37,12 @@ flags-start {g} {l} {n} {v} {w} wf least at flags = record {
   done = λ s h. absurd (omega arith);
   left = λ s h k z. none-entryOf (startLoop g l s) (λ b q.
       let (u, d, e, edge, to-u, to-s, le) = startLoop-entered wf l s b least q in
-      let from : getD v u 0 ≡ suc e = start-distance at u (dist-state wf to-u) ∙ ap entryOf to-u in
-      let to : getD v s 0 ≡ suc d = start-distance at s (dist-state wf to-s) ∙ ap entryOf to-s in
+      let from : getD v u 0 ≡ suc e = start-entry at u (dist-state wf to-u) ∙ ap entryOf to-u in
+      let to : getD v s 0 ≡ suc d = start-entry at s (dist-state wf to-s) ∙ ap entryOf to-s in
       omega (arith, flags .flagged u s (omega arith) (record { edge = edge; low = omega arith })));
 }
 
--- one more state: its entry is stored, after a change of the regions behind
+-- one more state: its entry is stored, after a change of the regions after
 pub filling-put : {g : Graph} {l i n value : ℕ} {v w w' : List ℕ} → i < n → n + i < length w'
     → SameOutside (2 * n) (6 * n) w w' → value ≡ entryOf (startLoop g l i) → Filling g l i n v w
     → Filling g l (i + 1) n v (set w' (n + i) value)

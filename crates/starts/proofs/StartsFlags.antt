@@ -9,7 +9,7 @@ use native.Mathlib.Decide.{ℕ-discrete}
 use lib.ListN.{length, getD, set}
 use lib.Seq.{getD-set-same, getD-set-other}
 use Rattle.lasso.specs.Graph.{Graph, WellFormed}
-use Rattle.lasso.proofs.Tests.{lt-or-ge, memb-at}
+use Rattle.lists.proofs.Tests.{lt-or-ge, memb-at}
 use Rattle.table.specs.Changes.{SameOutside}
 use Rattle.table.proofs.Laws.{sameOutside-refl, sameOutside-trans, set-sameOutside}
 use Rattle.starts.specs.Flags.{LowEdge, Flagging, FlagsRow, FlagsStarts}

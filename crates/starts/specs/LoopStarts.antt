@@ -6,7 +6,7 @@ use mathlib.Core.Option.{Option, some, none}
 use Rattle.lasso.specs.Graph.{Graph}
 use Rattle.lasso.specs.Distance.{dist}
 use Rattle.frontier.specs.Regions.{entry, entryOf}
-use Rattle.lasso.specs.Limit.{under}
+use Rattle.lists.specs.Limit.{under}
 use Rattle.walks.specs.Through.{loopLength}
 
 -- the loop length, if the stem of d transitions and the loop have at most l transitions together

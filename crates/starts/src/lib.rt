@@ -86,7 +86,7 @@ fn start_loop(file: &[u8], h: Header, work: &mut [u16], transitions: Transitions
 }
 
 // Puts the loop length of each state that can start the loop of a shortest lasso into region 1.
-pub fn prepare(file: &[u8], h: Header, work: &mut [u16], transitions: Transitions)
+pub fn prepare_starts(file: &[u8], h: Header, work: &mut [u16], transitions: Transitions)
     requires { ⌜ RoundsReady (now file) h (now work) ⌝ }
     requires { ⌜ leastLength (graphIn (now file) h) ≡ some (transitions .0) ⌝ }
     ensures { λ _. ⌜ StartLoops (graphIn (now (file .entry)) h) (transitions .0) (now (work .exit)) ⌝ }

@@ -8,11 +8,11 @@ use mathlib.Core.List.{List}
 use mathlib.Core.Option.{Option, some, none}
 use Rattle.lasso.specs.Graph.{Graph, WellFormed}
 use Rattle.lasso.specs.Distance.{dist}
-use Rattle.lasso.specs.Limit.{under}
+use Rattle.lists.specs.Limit.{under}
 use Rattle.lasso.specs.Roll.{leastLength}
 use Rattle.lasso.proofs.Distance.{dist-step}
 use Rattle.lasso.proofs.RollLaws.{leastLength-range}
-use Rattle.lasso.proofs.Tests.{lt-or-ge}
+use Rattle.lists.proofs.Tests.{lt-or-ge}
 use Rattle.frontier.specs.Regions.{entry, entryOf}
 use Rattle.spread.proofs.SearchLaws.{level-within}
 use Rattle.ways.specs.Ways.{KeptBack}

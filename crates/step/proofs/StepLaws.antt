@@ -6,7 +6,7 @@ use mathlib.Core.List.{List, [], _∷_}
 use mathlib.Core.Option.{Option, some, none}
 use borrow.Author.Tests.{le-leb, lt-leb}
 use lib.ListN.{length}
-use Rattle.lasso.specs.Lists.{pick}
+use Rattle.lists.specs.Lists.{pick}
 use Rattle.lasso.specs.Graph.{Graph}
 use Rattle.lasso.specs.Rounds.{Record, candidates, afterRound}
 use Rattle.model.specs.Model.{graphOf}
@@ -20,27 +20,27 @@ use Rattle.step.specs.declared.StepAnswer.{StepAnswer}
 use Rattle.step.specs.declared.StepAnswer.the-variants as StepAnswers
 use Rattle.step.specs.Step.{Stepped, finished, advanced, stepOutcomeOf, StepLosesNothing, stepped, stepReasons, stepOutcome}
 
-module _ (f : List ℕ) (t ceiling : ℕ) (rec : Record) (work : ℕ) where
+module _ (f : List ℕ) (t ceiling : ℕ) (rec : Record) (workRoom : ℕ) where
   -- refused with the first reason that holds
-  step-broken : (n : ℕ) → firstBroken (stepReasons f t ceiling work) ≡ some n → refused n ≡ stepOutcome f t ceiling rec work
+  step-broken : (n : ℕ) → firstBroken (stepReasons f t ceiling workRoom) ≡ some n → refused n ≡ stepOutcome f t ceiling rec workRoom
   step-broken n e = sym (ap (λ (o : Option ℕ). outcome o (stepped (graphOf f t) ceiling rec)) e)
 
   -- refused with a reason of 22 and 1 to 12
-  pub step-refused : (n : ℕ) → firstBroken (namedRules f t work) ≡ some n → refused n ≡ stepOutcome f t ceiling rec work
-  step-refused n e = step-broken n (broken-append (namedRules f t work) (ceilingReason ceiling ∷ []) n e)
+  pub step-refused : (n : ℕ) → firstBroken (namedRules f t workRoom) ≡ some n → refused n ≡ stepOutcome f t ceiling rec workRoom
+  step-refused n e = step-broken n (broken-append (namedRules f t workRoom) (ceilingReason ceiling ∷ []) n e)
 
   -- refused with 21
-  pub step-too-high : firstBroken (namedRules f t work) ≡ none → 4096 < ceiling → refused 21 ≡ stepOutcome f t ceiling rec work
-  step-too-high e high = step-broken 21 (ceiling-high (namedRules f t work) ceiling [] e high)
+  pub step-too-high : firstBroken (namedRules f t workRoom) ≡ none → 4096 < ceiling → refused 21 ≡ stepOutcome f t ceiling rec workRoom
+  step-too-high e high = step-broken 21 (ceiling-high (namedRules f t workRoom) ceiling [] e high)
 
-  module _ (e : firstBroken (namedRules f t work) ≡ none) (low : ceiling ≤ 4096) where
+  module _ (e : firstBroken (namedRules f t workRoom) ≡ none) (low : ceiling ≤ 4096) where
     -- not refused: answered with what the step gives
-    step-answered : (s : Stepped) → stepped (graphOf f t) ceiling rec ≡ s → answered s ≡ stepOutcome f t ceiling rec work
+    step-answered : (s : Stepped) → stepped (graphOf f t) ceiling rec ≡ s → answered s ≡ stepOutcome f t ceiling rec workRoom
     step-answered s q =
-        sym (ap (λ (o : Option ℕ). outcome o (stepped (graphOf f t) ceiling rec)) (ceiling-low (namedRules f t work) ceiling [] e low) ∙ ap (λ (x : Stepped). answered x) q)
+        sym (ap (λ (o : Option ℕ). outcome o (stepped (graphOf f t) ceiling rec)) (ceiling-low (namedRules f t workRoom) ceiling [] e low) ∙ ap (λ (x : Stepped). answered x) q)
 
     -- no candidate is left: finished, with the same record
-    pub step-finished : length (candidates (graphOf f t)) ≤ rec .done → answered (finished rec) ≡ stepOutcome f t ceiling rec work
+    pub step-finished : length (candidates (graphOf f t)) ≤ rec .done → answered (finished rec) ≡ stepOutcome f t ceiling rec workRoom
     step-finished le =
         let g : Graph = graphOf f t in
         step-answered (finished rec)
@@ -48,7 +48,7 @@ module _ (f : List ℕ) (t ceiling : ℕ) (rec : Record) (work : ℕ) where
 
     -- a candidate is left: the record after its round
     pub step-advanced : rec .done < length (candidates (graphOf f t)) → (after : Record) → after ≡ afterRound (graphOf f t) ceiling rec
-        → answered (advanced after) ≡ stepOutcome f t ceiling rec work
+        → answered (advanced after) ≡ stepOutcome f t ceiling rec workRoom
     step-advanced less after q =
         let g : Graph = graphOf f t in
         step-answered (advanced after)

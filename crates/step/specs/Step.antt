@@ -1,7 +1,7 @@
 -- One step: the record after one more round under a ceiling, by the marks of the table that it names.
 use Prim.Native.Nat.{ℕ}
 use mathlib.Core.List.{List, [], _∷_, _++_}
-use Rattle.lasso.specs.Lists.{pick}
+use Rattle.lists.specs.Lists.{pick}
 use Rattle.lasso.specs.Graph.{Graph}
 use Rattle.lasso.specs.Rounds.{Record, finishedb, afterRound}
 use Rattle.lasso.specs.Values.{recordOf}
@@ -32,10 +32,11 @@ StepLosesNothing = LosesNothing stepOutcomeOf
 abbrev pub stepped : Graph → (ceiling : ℕ) → Record → Stepped
 stepped g ceiling rec = pick (finishedb g rec) (finished rec) (advanced (afterRound g ceiling rec))
 
--- the reasons that a step applies: 22 before 1, 21 behind 12, and no further
-abbrev pub stepReasons : List ℕ → (t ceiling work : ℕ) → List Reason
-stepReasons f t ceiling work = namedRules f t work ++ ceilingReason ceiling ∷ []
+-- the reasons that a step applies: 22 before 1, 21 after 12, and no further
+abbrev pub stepReasons : List ℕ → (t ceiling workRoom : ℕ) → List Reason
+stepReasons f t ceiling workRoom = namedRules f t workRoom ++ ceilingReason ceiling ∷ []
 
 -- what a step answers that names mark table t
-abbrev pub stepOutcome : List ℕ → (t ceiling : ℕ) → Record → (work : ℕ) → Outcome Stepped
-stepOutcome f t ceiling rec work = outcome (firstBroken (stepReasons f t ceiling work)) (stepped (graphOf f t) ceiling rec)
+abbrev pub stepOutcome : List ℕ → (t ceiling : ℕ) → Record → (workRoom : ℕ) → Outcome Stepped
+stepOutcome f t ceiling rec workRoom =
+    outcome (firstBroken (stepReasons f t ceiling workRoom)) (stepped (graphOf f t) ceiling rec)

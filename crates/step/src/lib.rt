@@ -16,6 +16,7 @@ use lasso::RoundRecord;
 use lasso::Transitions;
 use model::Checked;
 use model::Header;
+use numbers::reason;
 use rounds::next_round;
 
 // The answer of a step: refused with a number, or the record, the same or after one more round.
@@ -40,7 +41,7 @@ fn step_model(
     ensures kept { λ _. ⌜ length (now (work .exit)) ≡ length (now (work .entry)) ⌝ }
 {
     if ceiling_too_high(ceiling) {
-        return StepAnswer::Refused(21);
+        return StepAnswer::Refused(reason::HIGH_CEILING);
     }
     start_distances(file, h, work);
     let count = count_candidates(file, h, work);

@@ -61,7 +61,7 @@ sameOutside-set {from} {to} {w' = w'} at v p q s = sameOutside-trans s (set-same
 pub cleared-none : (from : ℕ) (w : List ℕ) → Cleared from from w w
 cleared-none from w = record { others = sameOutside-refl from from w; zeros = λ i p q. absurd (omega arith) }
 
--- one more entry is cleared by storing zero behind the cleared ones
+-- one more entry is cleared by storing zero after the cleared ones
 pub cleared-more : (from at : ℕ) (w w' : List ℕ) → from ≤ at → at < length w → Cleared from at w w' → Cleared from (at + 1) w (set w' at 0)
 cleared-more from at w w' p q c =
     record {
@@ -84,7 +84,7 @@ cleared-all w w' c =
 pub copied-none : (from to : ℕ) (w : List ℕ) → Copied from to 0 w w
 copied-none from to w = record { others = sameOutside-refl to (to + 0) w; copies = λ i l. absurd (omega arith) }
 
--- one more entry is copied by storing it behind the copies: it stands as before, since the two parts are apart
+-- one more entry is copied by storing it after the copies: it stands as before, since the two parts are apart
 pub copied-more : (from to m n : ℕ) (w w' : List ℕ) (at source : ℕ) → at ≡ to + n → source ≡ from + n → (to + m ≤ from) ⊎ (from + m ≤ to) → n < m → to + n < length w → Copied from to n w w'
     → Copied from to (n + 1) w (set w' at (getD w' source 0))
 copied-more from to m n w w' at source at-is source-is apart l q c =

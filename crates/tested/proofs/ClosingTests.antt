@@ -8,8 +8,8 @@ use native.Mathlib.Omega.{arith}
 use lib.ListN.{getD}
 use lib.Dec.{T}
 use Rattle.lasso.specs.Graph.{Graph}
-use Rattle.lasso.specs.Decides.{Decides}
-use Rattle.lasso.proofs.Tests.{lt-or-ge, decides-iff}
+use Rattle.lists.specs.Decides.{Decides}
+use Rattle.lists.proofs.Tests.{lt-or-ge, decides-iff}
 use Rattle.frontier.specs.Regions.{entry}
 
 -- what the code reads for a state in region 2 is its entry

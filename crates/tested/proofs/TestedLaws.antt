@@ -8,16 +8,16 @@ use mathlib.Core.List.{List}
 use lib.ListN.{getD}
 use lib.Dec.{T}
 use Rattle.lasso.specs.Graph.{Graph, edgeb}
-use Rattle.lasso.proofs.Tests.{lt-or-ge}
+use Rattle.lists.proofs.Tests.{lt-or-ge}
 use Rattle.lasso.proofs.Walk.{walk-length, walk-uncons, walk-zero}
 use Rattle.model.specs.declared.Header.{Header}
 use Rattle.model.specs.Model.{graphIn}
 use Rattle.table.specs.Changes.{SameOutside}
 use Rattle.frontier.specs.Regions.{entry}
-use Rattle.current.specs.Current.{stateAt}
+use Rattle.current.specs.Current.{stateAt, listIn}
 use Rattle.current.proofs.CurrentLaws.{list-kept}
 use Rattle.stems.specs.Stems.{LoopAt}
-use Rattle.follow.specs.Follow.{OnStem, upTo, MayFollow}
+use Rattle.follow.specs.Follow.{OnStem, MayFollow}
 use Rattle.follow.proofs.FollowLaws.{Beginning, between, next-state, none-extends}
 use Rattle.follow.proofs.FollowTable.{Asked, asked-sizes, asked-beginning, asked-at, not-ahead}
 use Rattle.goals.specs.Goals.{LastStart, LastMark, Goal, Later, Sooner}
@@ -35,13 +35,13 @@ module _ {f : List ℕ} {h : Header} {w : List ℕ} {l place t : ℕ} (asked : A
 
   -- the list up to the place, and its states
   abbrev q : List ℕ
-  q = upTo (graphIn f h) w place
+  q = listIn (graphIn f h .start) w place
 
   abbrev at : ℕ → ℕ
   at k = getD q k 0
 
   -- the list and the state
-  o : Beginning (graphIn f h) l place (upTo (graphIn f h) w place) t
+  o : Beginning (graphIn f h) l place (listIn (graphIn f h .start) w place) t
   o = asked-beginning asked
 
   -- no stem, and no loop start passed: t may not follow
@@ -79,7 +79,7 @@ module _ {f : List ℕ} {h : Header} {w : List ℕ} {l place t : ℕ} (asked : A
     agree : (k : ℕ) → k ≤ b → stateAt h w k ≡ at k
     agree k i = asked-at asked k (omega (arith, start-inside))
 
-    -- the list and the state behind it
+    -- the list and the state after it
     behind : Behind g l place b q t
     behind =
         record {
@@ -96,7 +96,7 @@ module _ {f : List ℕ} {h : Header} {w : List ℕ} {l place t : ℕ} (asked : A
         }
 
     module _ {mark : ℕ} (m : LastMark g (stateAt h w) place mark) where
-      -- a mark behind the loop start
+      -- a mark after the loop start
       behind-marked : b + 1 < mark → MarkBehind g q b place
       behind-marked i =
           let r : ℕ = mark - 1 in

@@ -1,7 +1,7 @@
 -- What the test of a next state answers.
 use Prim.Native.Nat.{ℕ, _*_}
 use mathlib.Core.List.{List}
-use Rattle.lasso.specs.Decides.{Decides}
+use Rattle.lists.specs.Decides.{Decides}
 use Rattle.model.specs.declared.Header.{Header}
 use Rattle.model.specs.Model.{graphIn}
 use Rattle.table.specs.Changes.{SameOutside}

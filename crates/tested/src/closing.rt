@@ -3,18 +3,19 @@ ghost use mathlib.Core.List.{[], _∷_, _++_};
 ghost use Prim.Native.Nat.{_*_, _≤_, _<_};
 ghost use lib.ListN.{length};
 ghost use lib.Dec.{T};
-ghost use Rattle.lasso.specs.Decides.{Decides};
+ghost use Rattle.lists.specs.Decides.{Decides};
 ghost use Rattle.lasso.specs.Graph.{pathb};
 ghost use Rattle.model.specs.Model.{graphIn};
 ghost use Rattle.model.specs.Values.{Valid};
 ghost use Rattle.table.specs.Changes.{SameOutside};
-ghost use Rattle.follow.specs.Follow.{upTo, StatesTo, Prepared, OnStem, ClosesMarked, ClosesStart, MayFollow};
+ghost use Rattle.current.specs.Current.{listIn};
+ghost use Rattle.follow.specs.Follow.{StatesTo, Prepared, OnStem, ClosesMarked, ClosesStart, MayFollow};
 use current::list_at;
 use lasso::Transitions;
 use model::Header;
 use model::is_marked;
 use table::get;
-use walks::distances;
+use walks::distances_from;
 use walks::from_marks;
 
 // A state of the list, up to a place, is reached soon enough, and a mark stands from it on.
@@ -87,14 +88,14 @@ pub fn may_close(
     requires { ⌜ Prepared (now file) h (now work) (transitions .0) ⌝ }
     requires { ⌜ place < transitions .0 ⌝ }
     requires { ⌜ t < h .states ⌝ }
-    requires { ⌜ T (pathb (graphIn (now file) h) (upTo (graphIn (now file) h) (now work) place ++ t ∷ [])) ⌝ }
+    requires { ⌜ T (pathb (graphIn (now file) h) (listIn (h .start) (now work) place ++ t ∷ [])) ⌝ }
     requires { ⌜ (OnStem (h .states) (now work) place t → ⊥) ⌝ }
     ensures { λ r. ⌜ Decides (MayFollow (graphIn (now (file .entry)) h) (transitions .0) (now (work .entry)) place t) r ⌝ }
     ensures same { λ r. ⌜ SameOutside (2 * h .states) (6 * h .states) (now (work .entry)) (now (work .exit)) ⌝ }
 {
     let n = h.states;
     let left = transitions.number() - (place + 1);
-    distances(file, h, work, t, left + 1);
+    distances_from(file, h, work, t, left + 1);
     if closes_marked(file, h, work, place, left) {
         return true;
     }

@@ -10,8 +10,8 @@ ghost use lib.Dec.{T};
 ghost use Rattle.lasso.specs.Graph.{pathb};
 ghost use Rattle.model.specs.Model.{graphIn};
 ghost use Rattle.table.specs.Changes.{SameOutside};
-ghost use Rattle.current.specs.Current.{stateAt};
-ghost use Rattle.follow.specs.Follow.{upTo, Prepared};
+ghost use Rattle.current.specs.Current.{stateAt, listIn};
+ghost use Rattle.follow.specs.Follow.{Prepared};
 ghost use Rattle.goal_tables.specs.Tables.{Ground, Tables};
 ghost use Rattle.passed.specs.Passed.{PassedAt};
 ghost use Rattle.tested.specs.Tested.{TestSays};
@@ -24,7 +24,7 @@ use model::Header;
 use passed::Passed;
 use table::get;
 
-// Makes the tables behind the loop start at place b, unless they are there.
+// Makes the tables after the loop start at place b, unless they are there.
 fn ensure_tables(
     file: &[u8],
     h: Header,
@@ -51,7 +51,7 @@ pub struct Tested {
     pub passed: Passed,
 }
 
-// So many tests behind a loop start are done by a search each; the next one makes the tables, which cost more.
+// So many tests after a loop start are done by a search each; the next one makes the tables, which cost more.
 const SEARCHES: usize = 2;
 
 // State t may stand after the list up to a place: the two begin some shortest lasso. Either the loop's start is ahead, and
@@ -68,7 +68,7 @@ pub fn may_follow(
     requires { ⌜ Prepared (now file) h (now work) (transitions .0) ⌝ }
     requires { ⌜ place < transitions .0 ⌝ }
     requires { ⌜ t < h .states ⌝ }
-    requires { ⌜ T (pathb (graphIn (now file) h) (upTo (graphIn (now file) h) (now work) place ++ t ∷ [])) ⌝ }
+    requires { ⌜ T (pathb (graphIn (now file) h) (listIn (h .start) (now work) place ++ t ∷ [])) ⌝ }
     requires { ⌜ PassedAt (now file) h (now work) (transitions .0) place passed ⌝ }
     ensures { λ r. ⌜ TestSays (now (file .entry)) h (now (work .entry)) (now (work .exit)) (transitions .0) place t r ⌝ }
 {

@@ -7,8 +7,8 @@ use mathlib.Core.List.{List, [], _∷_, _++_}
 use native.Mathlib.Omega.{arith}
 use borrow.Author.Tests.{lt-ltb, le-ltb}
 use lib.ListN.{length, length-append}
-use Rattle.lasso.specs.Lists.{pick}
-use Rattle.lasso.proofs.Tests.{lt-or-ge}
+use Rattle.lists.specs.Lists.{pick}
+use Rattle.lists.proofs.Tests.{lt-or-ge}
 use Rattle.text.specs.Decimal.{digit, digitsWithin, decimal, DecimalShown}
 
 -- a number below ten has one digit

@@ -9,7 +9,7 @@ use lib.ListN.{length, take, drop}
 abbrev pub Within : ℕ → List ℕ → Type 0
 Within n t = (n ≤ length t) × (n ≡ length (take n t))
 
--- the bytes have room in text t from place `at` on, t' is t with them there, and `next` is the place behind them
+-- the bytes have room in text t from place `at` on, t' is t with them there, and `next` is the place after them
 pub record Wrote (t : List ℕ) (at : ℕ) (bytes t' : List ℕ) (next : ℕ) : Type 0 where
   pub room : at + length bytes ≤ length t
   pub text : t' ≡ take at t ++ bytes ++ drop (at + length bytes) t

@@ -9,17 +9,17 @@ use native.Mathlib.Omega.{arith}
 use lib.Dec.{T}
 use Rattle.lasso.specs.Graph.{Graph, WellFormed}
 use Rattle.lasso.specs.Distance.{dist}
-use Rattle.lasso.proofs.Tests.{T-true}
-use Rattle.lasso.proofs.Least.{IsLeast, isLeast-by, isLeast-iff, isLeast-unique}
+use Rattle.lists.proofs.Tests.{T-true}
+use Rattle.lists.proofs.Least.{IsLeast, isLeast-by, isLeast-iff, isLeast-unique}
 use Rattle.lasso.proofs.Walk.{Walk, walk-here, walk-zero, walk-end-state, walk-to, walk-append, walk-length}
 use Rattle.lasso.proofs.Distance.{dist-least, dist-walk, dist-le}
 use Rattle.edge_search.specs.declared.SpreadAnswer.{SpreadAnswer}
 use Rattle.edge_search.specs.declared.SpreadAnswer.the-variants.{Length, Nothing}
 use Rattle.frontier.specs.Regions.{entry, valueOf}
-use Rattle.lasso.specs.Limit.{under}
+use Rattle.lists.specs.Limit.{under}
 use Rattle.edge_search.specs.Promises.{ExhaustedFrom, SpreadFrom}
 use Rattle.walks.specs.Through.{onlyIf, markedDist, viaMark, loopLength, DistancesWithin, markedSources, LoopLength}
-use Rattle.lasso.proofs.UnderLaws.{under-under}
+use Rattle.lists.proofs.UnderLaws.{under-under}
 use Rattle.hits.proofs.HitLaws.{Timed, hitLevel-least, hitLength-least}
 use Rattle.spread.proofs.SearchLaws.{value-entry, spread-nothing, exhausted-levels, searched-length}
 

@@ -10,15 +10,15 @@ use native.Mathlib.Omega.{arith}
 use native.Mathlib.Decide.{ℕ-discrete}
 use lib.ListN.{length, getD, set, length-set}
 use lib.Seq.{getD-set-same, getD-set-other}
-use Rattle.lasso.specs.Lists.{pick}
+use Rattle.lists.specs.Lists.{pick}
 use Rattle.lasso.specs.Graph.{Graph, WellFormed}
-use Rattle.lasso.proofs.Tests.{lt-or-ge}
+use Rattle.lists.proofs.Tests.{lt-or-ge}
 use Rattle.table.specs.Changes.{SameOutside, Cleared}
 use Rattle.table.proofs.Laws.{sameOutside-refl, sameOutside-sym, set-sameOutside, sameOutside-set, sameOutside-trans, sameOutside-widen}
 use Rattle.edge_search.specs.declared.SpreadAnswer.{SpreadAnswer}
 use Rattle.edge_search.specs.declared.SpreadAnswer.the-variants.{Nothing}
 use Rattle.frontier.specs.Regions.{entry, valueOf}
-use Rattle.lasso.specs.Limit.{under}
+use Rattle.lists.specs.Limit.{under}
 use Rattle.frontier.specs.Buckets.{sources, withSource, Planned}
 use Rattle.edge_search.specs.Promises.{SpreadFrom, Spread}
 use Rattle.walks.specs.Through.{onlyIf, SameButOne, DistancesWithin, markedSources, OneSource, PlannedAt, KeptMarked}

@@ -2,6 +2,7 @@
 // states at the levels that the first gave them.
 ghost use Prim.Native.Nat.{_*_, _≤_, _<_};
 ghost use lib.ListN.{length};
+ghost use Rattle.numbers.specs.Limits.{mostStates};
 ghost use Rattle.model.specs.Values.{Valid};
 ghost use Rattle.model.specs.Model.{graphIn};
 ghost use Rattle.table.specs.Changes.{SameOutside};
@@ -17,7 +18,7 @@ use table::put;
 
 // Makes the plan of a search from the one source x, at level 0: with one source there are no states to go through.
 fn start_at(work: &mut [u16], n: usize, x: usize, limit: usize)
-    requires { ⌜ n ≤ 4096 ⌝ }
+    requires { ⌜ n ≤ mostStates ⌝ }
     requires { ⌜ x < n ⌝ }
     requires { ⌜ 1 ≤ limit ⌝ }
     requires { ⌜ limit ≤ n ⌝ }
@@ -47,7 +48,7 @@ fn keep_marked(file: &[u8], h: Header, work: &mut [u16])
 
 // Puts the distances from x, up to the limit, into region 2, and answers how many states have one. No state has the
 // number n, so no edge leads into that target.
-pub fn distances(file: &[u8], h: Header, work: &mut [u16], x: usize, limit: usize) -> usize
+pub fn distances_from(file: &[u8], h: Header, work: &mut [u16], x: usize, limit: usize) -> usize
     requires { ⌜ Valid (now file) h ⌝ }
     requires { ⌜ x < h .states ⌝ }
     requires { ⌜ 1 ≤ limit ⌝ }
@@ -93,6 +94,6 @@ pub fn loop_length(file: &[u8], h: Header, work: &mut [u16], x: usize, limit: us
     ensures answer { λ r. ⌜ LoopLength (graphIn (now (file .entry)) h) x limit r ⌝ }
     ensures same { λ r. ⌜ SameOutside (2 * h .states) (6 * h .states) (now (work .entry)) (now (work .exit)) ⌝ }
 {
-    distances(file, h, work, x, limit);
+    distances_from(file, h, work, x, limit);
     from_marks(file, h, work, limit, x)
 }

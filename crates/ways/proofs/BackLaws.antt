@@ -1,4 +1,4 @@
--- The way back over a queue: the states behind a place are settled, those before it stand as before.
+-- The way back over a queue: the states after a place are settled, those before it stand as before.
 use Prim.Native.Nat.{ℕ, suc, _+_, _*_, _≤_, _<_}
 use native.Mathlib.Omega.{arith}
 use mathlib.Core.Path.{_≡_, refl, sym, _∙_, ap, subst}
@@ -7,7 +7,7 @@ use mathlib.Core.List.{List}
 use lib.ListN.{length, set}
 use lib.Seq.{getD-set-same, getD-set-other}
 use Rattle.lasso.specs.Graph.{Graph, WellFormed}
-use Rattle.lasso.proofs.Tests.{lt-or-ge}
+use Rattle.lists.proofs.Tests.{lt-or-ge}
 use Rattle.table.specs.Changes.{SameOutside}
 use Rattle.table.proofs.Laws.{sameOutside-refl, sameOutside-set}
 use Rattle.frontier.specs.Regions.{entry}
@@ -57,13 +57,13 @@ settled-all {g} {n} {count} {i} {w} {w'} q z s =
           | inr p ↦ absurd (omega (arith, s .nothing t h (omega arith)))
         ]
 
--- The state at place i of the queue, when those behind it are settled.
+-- The state at place i of the queue, when those after it are settled.
 module _ {g : Graph} {n count i : ℕ} {w w' : List ℕ} (wf : WellFormed g) (size : g .size ≡ n) (q : Queue n count w) (inside : i < count) (s : Settled g n count w w' (i + 1)) where
   -- the state
   abbrev here : ℕ
   here = entry 3 n w i
 
-  -- a state one level later stands behind it
+  -- a state one level later stands after it
   behind : (t : ℕ) → t < n → entry 2 n w t ≡ suc (entry 2 n w here) → (j : ℕ) × (i + 1 ≤ j) × (j < count) × (entry 3 n w j ≡ t)
   behind t h e =
       let (j, b, at) = q .holds t h (omega arith) in

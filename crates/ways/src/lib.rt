@@ -1,7 +1,7 @@
 // Back over the queue of a search: which states have a way on, one level a step, to an end.
 ghost use Prim.Native.Nat.{_*_, _≤_, _<_};
 ghost use lib.ListN.{length};
-ghost use Rattle.lasso.specs.Decides.{Decides};
+ghost use Rattle.lists.specs.Decides.{Decides};
 ghost use Rattle.model.specs.Values.{Valid};
 ghost use Rattle.model.specs.Model.{graphIn};
 ghost use Rattle.frontier.specs.Search.{Queue};

@@ -10,12 +10,12 @@ use native.Mathlib.Nat.{add-zero, one-mul, pow-suc, eq-or-lt-of-le, div-eq-of-lt
 use lib.ListN.{length, getD, length-append}
 use lib.Pow.{pow-pos, pow-add}
 use lib.Dec.{eqb}
-use Rattle.lasso.specs.Lists.{pick, collect, below}
+use Rattle.lists.specs.Lists.{pick, collect, below}
 use Rattle.lasso.specs.Graph.{Graph}
-use Rattle.lasso.proofs.BelowLaws.{below-next, map-below-length, map-below-next}
+use Rattle.lists.proofs.BelowLaws.{below-next, map-below-length, map-below-next}
 use Rattle.format.specs.Bytes.{word, bitb}
 use Rattle.format.specs.Layout.{markBytes, totalOf}
-use Rattle.text.proofs.CollectLaws.{collect-append}
+use Rattle.lists.proofs.CollectLaws.{collect-append}
 use Rattle.writer.specs.File.{words16, edgesBelow, edgeTotal, headerWords, rowWords, worth, markByte, fileOf}
 
 -- each number takes two bytes

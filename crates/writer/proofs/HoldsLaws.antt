@@ -8,10 +8,10 @@ use native.Mathlib.Omega.{arith}
 use lib.ListN.{length, getD}
 use lib.Dec.{T, eqb, ltb, eqb-refl, not-T}
 use borrow.Author.Tests.{le-ltb}
-use Rattle.lasso.specs.Lists.{memb, below}
-use Rattle.lasso.specs.Graph.{Graph, WellFormed, ascendingb}
-use Rattle.lasso.proofs.Tests.{and-false, or-l, mem-memb, lt-or-ge, T-false}
-use Rattle.lasso.proofs.OrderLaws.{mem-collect, getD-mem}
+use Rattle.lists.specs.Lists.{memb, below, ascendingb}
+use Rattle.lasso.specs.Graph.{Graph, WellFormed}
+use Rattle.lists.proofs.Tests.{and-false, or-l, mem-memb, lt-or-ge, T-false, getD-mem}
+use Rattle.lists.proofs.CollectLaws.{mem-collect}
 use Rattle.format.specs.Layout.{states, edgeCount, rowEntry}
 use Rattle.model.specs.Model.{graphIn, graphOf}
 use Rattle.model.specs.declared.Header.{Header}
@@ -21,7 +21,7 @@ use Rattle.model.proofs.Laws.{Facts, succs-row, succs-none, marked-bit}
 use Rattle.writer.specs.File.{edgesBelow, edgeTotal, fileOf}
 use Rattle.writer.specs.Holds.{Writable, FilesHold}
 use Rattle.writer.proofs.FileLaws.{edges-below-le, file-length-is}
-use Rattle.writer.proofs.ReadLaws.{file-states, file-edges, file-initial, file-reserved, file-rows-at, file-edges-at, file-marks-at, file-total, file-row-entry, file-target, file-row-targets, file-mark-bit}
+use Rattle.writer.proofs.ReadLaws.{file-states, file-edges, file-startOf, file-stays, file-rows-at, file-edges-at, file-marks-at, file-total, file-row-entry, file-target, file-row-targets, file-mark-bit}
 use Rattle.writer.proofs.RuleLaws.{LaidOut, second-clear, facts-accepted}
 
 -- a list in which nothing is found is empty
@@ -46,7 +46,7 @@ file-laid-out g =
     let en : states (fileOf g) ≡ g .size = file-states g in
     let em : edgeCount (fileOf g) ≡ edgeTotal g = file-edges g in
     record {
-      reserved-zero = file-reserved g;
+      staysWord-zero = file-stays g;
       rows-at = file-rows-at g;
       edges-at = omega (arith, file-edges-at g);
       marks-at = omega (arith, file-marks-at g);
@@ -65,7 +65,7 @@ module _ (g : Graph) (w : Writable g) where
       record {
         states-range = omega (arith, wf .start-state, w .states-limit);
         edges-range = omega (arith, w .edges-limit);
-        initial-below = omega (arith, wf .start-state, file-initial g);
+        start-below = omega (arith, wf .start-state, file-startOf g);
         file-length = omega (arith, file-length-is g);
         row-first = file-row-entry g 0 (omega arith);
         rows-ascend = λ s l. omega (arith, file-row-entry g s (omega arith), file-row-entry g (s + 1) (omega arith), edges-below-le g s (s + 1) (omega arith));
@@ -100,7 +100,7 @@ module _ (g : Graph) (w : Writable g) where
   pub file-graph : graphOf (fileOf g) 0 ≡ g
   file-graph = λ i. record {
     size = file-states g i;
-    start = file-initial g i;
+    start = file-startOf g i;
     succs = λ s. same-succs s i;
     marked = λ s. same-marks s i;
   }

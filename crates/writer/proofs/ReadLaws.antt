@@ -7,11 +7,11 @@ use native.Mathlib.Omega.{arith}
 use native.Mathlib.Nat.{add-zero}
 use lib.ListN.{length, getD, length-append, List·getD-append}
 use lib.Seq.{getD-append-add}
-use Rattle.lasso.specs.Lists.{upFrom, below}
+use Rattle.lists.specs.Lists.{upFrom, below}
 use Rattle.lasso.specs.Graph.{Graph}
-use Rattle.lasso.proofs.BelowLaws.{map-below-at}
+use Rattle.lists.proofs.BelowLaws.{map-below-at}
 use Rattle.format.specs.Bytes.{word, long, bitb}
-use Rattle.format.specs.Layout.{states, edgeCount, initial, reserved, rowsAt, edgesAt, marksAt, markBytes, totalOf, tableAt, rowEntry, target, rowTargets, markBit}
+use Rattle.format.specs.Layout.{states, edgeCount, startOf, staysWord, rowsAt, edgesAt, marksAt, markBytes, totalOf, tableAt, rowEntry, target, rowTargets, markBit}
 use Rattle.writer.specs.File.{words16, edgesBelow, edgeTotal, headerWords, rowWords, markByte, fileOf}
 use Rattle.writer.proofs.FileLaws.{bytes-number, words16-length, words16-append, word-words16, edges-next, edges-below-le, row-words-length, worth-bit}
 
@@ -31,7 +31,7 @@ module _ (hs rs es marks : List ℕ) where
       ∙ ap (λ (a : ℕ). word (words16 (hs ++ rs ++ es) ++ marks) a) e
       ∙ word-words16 (hs ++ rs ++ es) marks k l
 
-  -- the numbers of the second part stand behind the first
+  -- the numbers of the second part stand after the first
   second-word : (at k : ℕ) → at ≡ 2 * (length hs + k) → k < length rs
       → word (words16 hs ++ words16 rs ++ words16 es ++ marks) at ≡ getD rs k 0
   second-word at k e l =
@@ -41,7 +41,7 @@ module _ (hs rs es marks : List ℕ) where
       ∙ List·getD-append (hs ++ rs) es 0 (length hs + k) (omega arith)
       ∙ getD-append-add hs rs k 0
 
-  -- the numbers of the third part stand behind the second
+  -- the numbers of the third part stand after the second
   third-word : (at k : ℕ) → at ≡ 2 * (length hs + length rs + k) → k < length es
       → word (words16 hs ++ words16 rs ++ words16 es ++ marks) at ≡ getD es k 0
   third-word at k e l =
@@ -50,7 +50,7 @@ module _ (hs rs es marks : List ℕ) where
       parts-word at (length (hs ++ rs) + k) (omega arith) (omega arith)
       ∙ getD-append-add (hs ++ rs) es k 0
 
-  -- the bytes of the last part stand behind the third
+  -- the bytes of the last part stand after the third
   last-byte : (at k : ℕ) → at ≡ 2 * (length hs + length rs + length es) + k
       → getD (words16 hs ++ words16 rs ++ words16 es ++ marks) at 0 ≡ getD marks k 0
   last-byte at k e =
@@ -73,7 +73,7 @@ edges-keep g s (suc d) t i e l =
     ∙ List·getD-append (edgesBelow g (s + d)) (g .succs (s + d)) 0 i m
     ∙ edges-keep g s d (s + d) i refl l
 
--- a state's edges stand behind those of the states below it
+-- a state's edges stand after those of the states below it
 pub edge-at : (g : Graph) (s n i : ℕ) → s < n → i < length (g .succs s)
     → getD (edgesBelow g n) (length (edgesBelow g s) + i) 0 ≡ getD (g .succs s) i 0
 edge-at g s n i l m =
@@ -103,12 +103,12 @@ module _ (g : Graph) where
   file-edges = bytes-number (edgeTotal g)
 
   -- i is the initial state
-  pub file-initial : initial (fileOf g) ≡ g .start
-  file-initial = bytes-number (g .start)
+  pub file-startOf : startOf (fileOf g) ≡ g .start
+  file-startOf = bytes-number (g .start)
 
   -- bytes 6–7 are zero
-  pub file-reserved : reserved (fileOf g) ≡ 0
-  file-reserved = refl
+  pub file-stays : staysWord (fileOf g) ≡ 0
+  file-stays = refl
 
   -- the first offset is that of the row table
   pub file-rows-at : long (fileOf g) 8 ≡ rowsAt

@@ -1,19 +1,18 @@
 -- How a file is shown to be accepted: by plain facts about its numbers, each of which makes the test of a rule fail.
 use Prim.Native.Nat.{ℕ, _+_, _*_, _-_, _≤_, _<_}
 use mathlib.Core.Path.{_≡_, refl, sym, ap, _∙_}
-use mathlib.Core.Bool.{Bool, true, false, _||_, not}
-use mathlib.Core.List.{List, [], _∷_, List·Memᴰ}
+use mathlib.Core.Bool.{Bool, false, _||_, not}
+use mathlib.Core.List.{List, [], _∷_}
 use mathlib.Core.Option.{none}
 use native.Mathlib.Omega.{arith}
-use native.Mathlib.Nat.{not-le-of-lt}
 use lib.ListN.{length, drop}
-use lib.Dec.{T, eqb, ltb, eqb→eq, ltb→lt, lt→ltb, not-T, T-not}
-use Rattle.lasso.specs.Lists.{anyb, upFrom, below, someIf}
-use Rattle.lasso.proofs.Tests.{anyb-some, or-l, upFrom-range, eq→eqb, T-false}
-use Rattle.lasso.specs.Graph.{ascendingb}
+use lib.Dec.{T, eqb, ltb, eqb→eq, not-T}
+use Rattle.lists.proofs.Fails.{neither, passes, same-passes, le-fails, lt-passes, none-in-range, none-below-passes}
+use Rattle.lists.specs.Lists.{anyb, below, someIf, ascendingb}
+use Rattle.lists.proofs.Tests.{or-l, eq→eqb, T-false}
 use Rattle.format.specs.Bytes.{long}
-use Rattle.format.specs.Layout.{states, edgeCount, initial, reserved, rowsAt, edgesAt, marksAt, markBytes, totalOf, rowEntry, target, rowTargets, markBit}
-use Rattle.format.specs.Rules.{Reason, firstBroken, shortFile, badStates, badEdges, badInitial, badReserved, totalFits, badOffsets, badLength, badRows, badTargets, badOrder, spareSet, badSpare, rules, Accepted}
+use Rattle.format.specs.Layout.{states, edgeCount, startOf, staysWord, rowsAt, edgesAt, marksAt, markBytes, totalOf, rowEntry, target, rowTargets, markBit}
+use Rattle.format.specs.Rules.{Reason, firstBroken, shortFile, badStates, badEdges, badStart, badStays, totalFits, badOffsets, badLength, badRows, badTargets, badOrder, spareSet, badSpare, rules, Accepted}
 use Rattle.format.proofs.Marks.{one-table-no-marks}
 use Rattle.format.proofs.Reasons.{Clear}
 use Rattle.model.proofs.Laws.{Facts}
@@ -24,43 +23,9 @@ clear-unbroken [] c = refl
 clear-unbroken (r ∷ rs) c =
     ap (λ (b : Bool). someIf b (r .number) (firstBroken rs)) (T-false (r .holds) (c .0)) ∙ clear-unbroken rs (c .1)
 
--- a disjunction of tests that fail fails
-pub neither : (a b : Bool) → T (not a) → T (not b) → T (not (a || b))
-neither true b h k = h
-neither false b h k = k
-
--- the negation of a test that passes fails
-pub passes : (a : Bool) → T a → T (not (not a))
-passes true h = tt
-passes false h = h
-
--- the negated test of equality fails for equal numbers
-pub same-passes : (m n : ℕ) → m ≡ n → T (not (not (eqb m n)))
-same-passes m n e = passes (eqb m n) (eq→eqb m n e)
-
--- a number not below another fails the test for being below it
-pub le-fails : (m n : ℕ) → n ≤ m → T (not (ltb m n))
-le-fails m n l = not-T (ltb m n) (λ t. not-le-of-lt (ltb→lt m n t) l)
-
--- the negated test for being below fails where a number is below another
-pub lt-passes : (m n : ℕ) → m < n → T (not (not (ltb m n)))
-lt-passes m n l = passes (ltb m n) (lt→ltb m n l)
-
--- a test that no number of a range passes finds none
-pub none-in-range : (p : ℕ → Bool) (a n : ℕ) → ((i : ℕ) → a ≤ i → i < a + n → T (not (p i))) → T (not (anyb p (upFrom a n)))
-none-in-range p a n h =
-    not-T (anyb p (upFrom a n)) (λ t.
-    let r : (i : ℕ) × List·Memᴰ i (upFrom a n) × T (p i) = anyb-some p (upFrom a n) t in
-    let b : (a ≤ r .0) × (r .0 < a + n) = upFrom-range a n (r .1) in
-    T-not (p (r .0)) (h (r .0) (b .0) (b .1)) (r .2))
-
--- a test that no number below n passes finds none
-pub none-below-passes : (p : ℕ → Bool) (n : ℕ) → ((i : ℕ) → i < n → T (not (p i))) → T (not (anyb p (below n)))
-none-below-passes p n h = none-in-range p 0 n (λ i a l. h i (omega arith))
-
 -- what the rules ask of the header and the length of a file with one mark table
 pub record LaidOut (f : List ℕ) : Type 0 where
-  pub reserved-zero : reserved f ≡ 0
+  pub staysWord-zero : staysWord f ≡ 0
   pub rows-at : long f 8 ≡ rowsAt
   pub edges-at : long f 12 ≡ edgesAt (states f)
   pub marks-at : long f 16 ≡ marksAt (states f) (edgeCount f)
@@ -84,12 +49,12 @@ module _ (f : List ℕ) (F : Facts f) (L : LaidOut f) where
   keeps-edges = le-fails 8192 (edgeCount f) (F .edges-range)
 
   -- rule 4 is kept: the initial state is below N
-  keeps-initial : T (not (badInitial f))
-  keeps-initial = lt-passes (initial f) (states f) (F .initial-below)
+  keeps-startOf : T (not (badStart f))
+  keeps-startOf = lt-passes (startOf f) (states f) (F .start-below)
 
   -- rule 5 is kept: bytes 6–7 are zero, so not above 1
-  keeps-reserved : T (not (badReserved f))
-  keeps-reserved = le-fails 1 (reserved f) (omega (arith, L .reserved-zero))
+  keeps-staysWord : T (not (badStays f))
+  keeps-staysWord = le-fails 1 (staysWord f) (omega (arith, L .staysWord-zero))
 
   -- rule 6 is kept: the offsets and the total length are those that N and M give with one mark table
   keeps-offsets : T (not (badOffsets (totalOf (states f) (edgeCount f)) 2 f))
@@ -149,4 +114,4 @@ module _ (f : List ℕ) (F : Facts f) (L : LaidOut f) where
   -- a file with these facts is accepted
   pub facts-accepted : Accepted f
   facts-accepted =
-      clear-unbroken (rules f) (keeps-room, (keeps-states, (keeps-edges, (keeps-initial, (keeps-reserved, tables-clear)))))
+      clear-unbroken (rules f) (keeps-room, (keeps-states, (keeps-edges, (keeps-startOf, (keeps-staysWord, tables-clear)))))

@@ -3,7 +3,7 @@ use Prim.Native.Nat.{ℕ, zero, suc, _+_, _*_, _/_, _%_, _^_}
 use mathlib.Core.Bool.{Bool}
 use mathlib.Core.List.{List, [], _∷_, _++_, map}
 use lib.ListN.{length}
-use Rattle.lasso.specs.Lists.{pick, collect, below}
+use Rattle.lists.specs.Lists.{pick, collect, below}
 use Rattle.lasso.specs.Graph.{Graph}
 use Rattle.format.specs.Layout.{rowsAt, edgesAt, marksAt, markBytes, totalOf}
 

@@ -5,6 +5,7 @@ use mathlib.Core.Bool.{false}
 use lib.ListN.{length}
 use lib.Dec.{T}
 use Rattle.lasso.specs.Graph.{Graph, WellFormed}
+use Rattle.numbers.specs.Limits.{mostStates, mostEdges}
 use Rattle.format.specs.Layout.{totalOf}
 use Rattle.format.specs.Rules.{Accepted}
 use Rattle.model.specs.Model.{graphOf}
@@ -14,8 +15,8 @@ use Rattle.writer.specs.File.{edgeTotal, fileOf}
 pub record Writable (g : Graph) : Type 0 where
   pub well-formed : WellFormed g
   pub marks-states : (s : ℕ) → T (g .marked s) → s < g .size
-  pub states-limit : g .size ≤ 4096
-  pub edges-limit : edgeTotal g ≤ 8192
+  pub states-limit : g .size ≤ mostStates
+  pub edges-limit : edgeTotal g ≤ mostEdges
 
 -- The file of a graph has the length that its states and edges give with one mark table, breaks none of the rules 1 to 11,
 -- and holds exactly that graph, its marks in mark table 0; mark table 1 holds no marks.

@@ -3,6 +3,7 @@ use Prim.Native.Nat.{ℕ, _≤_}
 use mathlib.Core.List.{List, _++_}
 use lib.ListN.{length}
 use Rattle.lasso.specs.Graph.{Graph}
+use Rattle.numbers.specs.Limits.{mostEdges}
 use Rattle.format.specs.Layout.{marksAt}
 use Rattle.writer.specs.File.{words16, edgesBelow, edgeTotal, rowWords}
 
@@ -13,4 +14,4 @@ tableBytes g = words16 (rowWords g) ++ words16 (edgesBelow g (g .size))
 -- the two tables fit the output, and each row entry fits 16 bits
 pub record TablesFit (g : Graph) (out : List ℕ) : Type 0 where
   pub room : marksAt (g .size) (edgeTotal g) ≤ length out
-  pub edges-limit : edgeTotal g ≤ 8192
+  pub edges-limit : edgeTotal g ≤ mostEdges

@@ -1,6 +1,7 @@
 // Writers of the bytes of a model file: each puts its bytes into a lent output from a place on, and answers the next place.
 ghost use Prim.Native.Nat.{_+_, _≤_, _<_};
 ghost use lib.ListN.{length};
+ghost use Rattle.numbers.specs.Limits.{mostStates, mostEdges};
 ghost use Rattle.text.specs.Writing.{Wrote};
 ghost use Rattle.writer.specs.File.{word16, words16, halves, headerWords};
 use format::edges_at;
@@ -31,7 +32,7 @@ fn write_long(out: &mut [u8], at: usize, x: usize) -> usize
 // Writes the header of a model file with n states, m edges, an initial state and one mark table.
 pub fn write_header(out: &mut [u8], n: usize, m: usize, start: usize) -> usize
     requires { ⌜ 24 ≤ length (now out) ⌝ }
-    requires { ⌜ (n ≤ 4096) × (m ≤ 8192) × (start < n) ⌝ }
+    requires { ⌜ (n ≤ mostStates) × (m ≤ mostEdges) × (start < n) ⌝ }
     ensures { λ r. ⌜ Wrote (now (out .entry)) 0 (words16 (headerWords n m start)) (now (out .exit)) r ⌝ }
 {
     let counted = write_word(out, 0, n);

@@ -5,7 +5,7 @@ use Prim.Native.Nat.{ℕ, suc, _≤_, min}
 use native.Mathlib.Omega.{arith}
 use borrow.Author.Needs.{needs}
 use lib.ListN.{length}
-use Rattle.lasso.specs.Limit.{under}
+use Rattle.lists.specs.Limit.{under}
 use Rattle.lasso.specs.Roll.{leastLength}
 use Rattle.lasso.specs.Rounds.{candidates, bestLength, afterRounds}
 use Rattle.lasso.specs.Values.{bestOf, recordOf}

@@ -8,8 +8,8 @@ use Rattle.candidates.proofs.DistanceLaws.{start-distances-put}
 use Rattle.candidates.proofs.start_distances.Statement.{statement}
 use Rattle.candidates.proofs.start_distances.Tie as tie
 
-distances-requires : tie.Need-distances-requires
-distances-requires c κs =
+distances-from-requires : tie.Need-distances-from-requires
+distances-from-requires c κs =
     let pre = c .before .before .before .pre in
     let sizes = valid-sizes (pre .0) in
     (pre .0, omega arith)
@@ -21,7 +21,7 @@ copy-requires : tie.Need-copy-requires
 copy-requires c κs =
     let d = c .before .before .before in
     let room = d .before .before .before .before .pre .1 in
-    (inl (omega arith), (omega (arith, room, d .distances .ensures .outside .same-length), omega (arith, room, d .distances .ensures .outside .same-length)))
+    (inl (omega arith), (omega (arith, room, d .distances-from .ensures .outside .same-length), omega (arith, room, d .distances-from .ensures .outside .same-length)))
 
 same-length : tie.Need-same-length
 same-length c = search needs
@@ -30,8 +30,8 @@ returns : tie.Need-returns
 returns c =
     let copied = c .before .before in
     let found = copied .before .before .before .before in
-    start-distances-put refl refl (found .distances .ensures) (copied .copy .ensures)
+    start-distances-put refl refl (found .distances-from .ensures) (copied .copy .ensures)
 
 pub start-distances-spec : {M : Type 1} → statement M
 start-distances-spec =
-    tie.close (tie.spec distances-requires mul-copy copy-requires same-length returns)
+    tie.close (tie.spec distances-from-requires mul-copy copy-requires same-length returns)

@@ -10,8 +10,8 @@ use Rattle.outcomes.specs.Outcome.{Outcome}
 use Rattle.combine.specs.declared.CombineAnswer.{CombineAnswer}
 use Rattle.combine.specs.declared.CombineAnswer.the-variants.{Refused, Written}
 use Rattle.combine.specs.Combine.{combineOutcomeOf}
-use Rattle.combination.specs.Combination.{combineOutcome, combineOutput}
-use Rattle.combination.proofs.ClaimLaws.{answered-bytes}
+use Rattle.combine_outcome.specs.Combination.{combineOutcome, combineOutput}
+use Rattle.combine_outcome.proofs.ClaimLaws.{answered-bytes}
 use Rattle.figures.specs.Kinds.{writtenReport}
 use Rattle.figures.specs.Short.{outShort}
 use Rattle.figures.proofs.CallLaws.{out-room, is-short, is-enough, reports-short, reports-enough}

@@ -11,8 +11,7 @@ use Rattle.outcomes.specs.Outcome.{Outcome}
 use Rattle.distances.specs.Distances.{distancesOutcomeOf, distancesOutcome, distancesOutput}
 use Rattle.figures.specs.Kinds.{writtenReport}
 use Rattle.figures.specs.Short.{outShort}
-use Rattle.figures.proofs.CallLaws.{out-room, tables-short, tables-enough}
-use Rattle.figures.proofs.CallLaws.{reports-short, reports-enough}
+use Rattle.figures.proofs.CallLaws.{out-room, tables-short, tables-enough, reports-short, reports-enough}
 use Rattle.capi_distances.proofs.distances_call.Statement.{statement}
 use Rattle.capi_distances.proofs.distances_call.Tie as tie
 

@@ -7,7 +7,7 @@ use native.Mathlib.Omega.{arith}
 use borrow.Author.Needs.{needs}
 use lib.ListN.{length}
 use Rattle.outcomes.specs.Outcome.{Outcome}
-use Rattle.grader.specs.Grade.{Grade, gradeOutcomeOf, gradeOutcome}
+use Rattle.grade.specs.Grade.{Grade, gradeOutcomeOf, gradeOutcome}
 use Rattle.gate.specs.Gate.{workOf}
 use Rattle.figures.proofs.CallLaws.{tables-short, tables-enough, reports-short, reports-enough}
 use Rattle.grade_report.specs.Grades.{gradeReport, placeIn}

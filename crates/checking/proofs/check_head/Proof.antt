@@ -1,4 +1,4 @@
--- `check_head` meets its contract: each rule of the header that is kept leaves the answer to those behind it, and the first
+-- `check_head` meets its contract: each rule of the header that is kept leaves the answer to those after it, and the first
 -- that is broken gives its number.
 use native.Mathlib.Omega.{arith}
 use Prim.Native.Nat.{ℕ}
@@ -9,8 +9,8 @@ use borrow.Author.Tests.{lt-ltb, le-ltb, eq-eqb, ne-eqb}
 use denote.Ref.{now}
 use lib.ListN.{length}
 use lib.Dec.{eqb}
-use Rattle.format.specs.Layout.{states, edgeCount, initial, reserved}
-use Rattle.format.specs.Rules.{shortFile, badStates, badEdges, badInitial, badReserved, headRules}
+use Rattle.format.specs.Layout.{states, edgeCount, startOf, staysWord}
+use Rattle.format.specs.Rules.{shortFile, badStates, badEdges, badStart, badStays, headRules}
 use Rattle.format.proofs.Reasons.{KeptTo, unheld-skipped}
 use Rattle.model.specs.Values.{headerOf}
 use Rattle.model.proofs.Answers.{held-refuses, none-accepts}
@@ -38,7 +38,7 @@ from5 c = from4 (c .before .before)
 abbrev checked : tie.Start → List ℕ
 checked c = now (c .args .file)
 
--- past each rule those behind it decide
+-- past each rule those after it decide
 kept-1 : (c : tie.Else1) → KeptTo 1 (headRules (checked (from1 c)))
 kept-1 c = let file = checked (from1 c) in unheld-skipped _ (shortFile file) 1 _ refl (le-ltb (length file) 24 (omega (arith, c .if1 .left)))
 
@@ -56,15 +56,15 @@ kept-3 c =
 kept-4 : (c : tie.Else5) → KeptTo 4 (headRules (checked (from4 c)))
 kept-4 c =
     let file = checked (from4 c) in
-    unheld-skipped _ (badInitial file) 4 _ (kept-3 (c .before)) (rw (lt-ltb (initial file) (states file) (omega arith)))
+    unheld-skipped _ (badStart file) 4 _ (kept-3 (c .before)) (rw (lt-ltb (startOf file) (states file) (omega arith)))
 
 kept-5 : (c : tie.Else6) → KeptTo 5 (headRules (checked (from5 c)))
 kept-5 c =
     let file = checked (from5 c) in
-    unheld-skipped _ (badReserved file) 5 _ (kept-4 (c .before .before)) (le-ltb 1 (reserved file) (omega arith))
+    unheld-skipped _ (badStays file) 5 _ (kept-4 (c .before .before)) (le-ltb 1 (staysWord file) (omega arith))
 
 -- the header that is made of the numbers read is the file's own
-header-told : (file : List ℕ) {n m i r : ℕ} → n ≡ states file → m ≡ edgeCount file → i ≡ initial file → r ≡ reserved file
+header-told : (file : List ℕ) {n m i r : ℕ} → n ≡ states file → m ≡ edgeCount file → i ≡ startOf file → r ≡ staysWord file
     → record { states = n; edges = m; start = i; stays = eqb r 1; table = 0 } ≡ headerOf file 0
 header-told file en em ei er = λ i. record { states = en i; edges = em i; start = ei i; stays = eqb (er i) 1; table = 0 }
 
@@ -107,7 +107,7 @@ returns-5 : tie.Need-returns-5
 returns-5 c =
     let start = from3 (c .before) in
     let file = checked start in
-    held-refuses (headRules file) (headerOf file 0) (badInitial file) 4 _ (kept-3 (c .before)) (rw (le-ltb (initial file) (states file) (omega arith)))
+    held-refuses (headRules file) (headerOf file 0) (badStart file) 4 _ (kept-3 (c .before)) (rw (le-ltb (startOf file) (states file) (omega arith)))
 
 word-requires-4 : tie.Need-word-requires-4
 word-requires-4 c κs = search needs
@@ -116,7 +116,7 @@ returns-6 : tie.Need-returns-6
 returns-6 c =
     let start = from4 (c .before .before) in
     let file = checked start in
-    held-refuses (headRules file) (headerOf file 0) (badReserved file) 5 _ (kept-4 (c .before .before)) (lt-ltb 1 (reserved file) (omega arith))
+    held-refuses (headRules file) (headerOf file 0) (badStays file) 5 _ (kept-4 (c .before .before)) (lt-ltb 1 (staysWord file) (omega arith))
 
 returns-7 : tie.Need-returns-7
 returns-7 c =

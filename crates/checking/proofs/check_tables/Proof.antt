@@ -1,4 +1,4 @@
--- `check_tables` meets its contract: each rule that is kept leaves the answer to those behind it, and the first that is
+-- `check_tables` meets its contract: each rule that is kept leaves the answer to those after it, and the first that is
 -- broken gives its number.
 use native.Mathlib.Omega.{arith}
 use mathlib.Core.Path.{_≡_, sym, _∙_}
@@ -12,7 +12,8 @@ use Prim.Native.Nat.{ℕ}
 use Rattle.format.specs.Bytes.{long}
 use Rattle.format.specs.Layout.{HasTables}
 use Rattle.format.specs.Rules.{badOffsets, badLength, badRows, badTargets, badOrder, badSpare, Reason, rulesWith}
-use Rattle.format.proofs.Reasons.{KeptTo, unheld-skipped, false-not}
+use Rattle.lists.proofs.Fails.{false-not}
+use Rattle.format.proofs.Reasons.{KeptTo, unheld-skipped}
 use Rattle.model.specs.declared.Header.{Header}
 use Rattle.model.specs.Values.{headerOf}
 use Rattle.model.proofs.Answers.{held-refuses, none-accepts}
@@ -80,7 +81,7 @@ own-length-kept c =
 rows-kept : (c : tie.Else3) → badRows (checked (from8 c)) ≡ false
 rows-kept c = sym (c .before .rows-broken .ensures) ∙ c .if3 .left
 
--- past each rule those behind it decide
+-- past each rule those after it decide
 kept-6 : (c : tie.Else1) → KeptTo 6 (reasons (from6 c))
 kept-6 c =
     let start = from6 c in

@@ -9,10 +9,10 @@ use denote.Ref.{now}
 use lib.ListN.{length}
 use Rattle.model.proofs.Laws.{valid-sizes}
 use Rattle.property.proofs.PropertyLaws.{property-facts, property-numbers}
-use Rattle.combined.specs.Combined.{combined, Combinable}
-use Rattle.combined.proofs.CombinedLaws.{combined-size}
-use Rattle.combination.specs.Combination.{tooLarge, combinedFile}
-use Rattle.combination.proofs.ReasonLaws.{large-states, large-edges, within-both, combined-length}
+use Rattle.combine_graph.specs.Combined.{combined, Combinable}
+use Rattle.combine_graph.proofs.CombinedLaws.{combined-size}
+use Rattle.combine_outcome.specs.Combination.{tooLarge, combinedFile}
+use Rattle.combine_outcome.proofs.ReasonLaws.{large-states, large-edges, within-both, combined-length}
 use Rattle.combine.proofs.ReasonLaws.{combinable, refused-18, refused-15, written-is}
 use Rattle.combine.proofs.within_limits.Statement.{statement}
 use Rattle.combine.proofs.within_limits.Tie as tie

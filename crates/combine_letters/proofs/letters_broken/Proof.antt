@@ -7,7 +7,7 @@ use borrow.Author.Needs.{needs}
 use denote.Ref.{now}
 use lib.ListN.{length, drop}
 use lib.Dec.{ltb}
-use Rattle.lasso.specs.Lists.{anyb}
+use Rattle.lists.specs.Lists.{anyb}
 use Rattle.combine_letters.specs.Letters.{badLetters}
 use Rattle.combine_letters.proofs.LetterLaws.{letter-above, letter-past, letters-end}
 use Rattle.combine_letters.proofs.letters_broken.Statement.{statement}

@@ -3,7 +3,7 @@ use native.Mathlib.Omega.{arith}
 use borrow.Author.Needs.{needs}
 use Rattle.lasso.proofs.RollLaws.{roll-length}
 use Rattle.model.specs.Model.{graphIn}
-use Rattle.cursor.proofs.TableLaws.{loaded-upTo, least-fits, loaded-kept, prepared-loaded}
+use Rattle.cursor.proofs.TableLaws.{loaded-listIn, least-fits, loaded-kept, prepared-loaded}
 use Rattle.cursor.proofs.CursorLaws.{placed-at}
 use Rattle.cursor.proofs.to_list.Statement.{statement}
 use Rattle.cursor.proofs.to_list.Tie as tie
@@ -34,7 +34,7 @@ returns c =
     let m = s .pre .1 .1 in
     let same = done .prepare .ensures .1 .same-length in
     let prepared = prepared-loaded (s .pre .0) (a .transitions .0) (s .pre .1 .0) _ _ same (done .prepare .ensures .0) (a .list .now) m (put .load .ensures) in
-    let list = loaded-upTo (graphIn (a .file .now) (a .h)) (a .transitions .0) (s .pre .1 .0) (a .list .now) m _ _ (put .load .ensures) in (
+    let list = loaded-listIn (graphIn (a .file .now) (a .h)) (a .transitions .0) (s .pre .1 .0) (a .list .now) m _ _ (put .load .ensures) in (
       placed-at (a .list .now) prepared list m,
       loaded-kept (s .pre .0) (a .transitions .0) (s .pre .1 .0) _ _ same (a .list .now) m (put .load .ensures),
     )

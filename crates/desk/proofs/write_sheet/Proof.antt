@@ -6,11 +6,12 @@ use mathlib.Core.List.{List, []}
 use borrow.Author.Needs.{needs}
 use borrow.Author.Tests.{le-ltb}
 use lib.ListN.{length}
-use Rattle.lasso.specs.Lists.{pick}
+use Rattle.lists.specs.Lists.{pick}
+use Rattle.numbers.specs.Limits.{sheetRoom, answerEntries, workEntries}
 use Rattle.text.proofs.WroteLaws.{wrote-as}
-use Rattle.sheet_text.specs.SheetText.{sheetText, sheetRoom}
+use Rattle.sheet_text.specs.SheetText.{sheetText}
 use Rattle.sheet.specs.Sheet.{sheetWritten}
-use Rattle.desk.specs.Desk.{answerEntries, workEntries, inputText}
+use Rattle.desk.specs.Desk.{inputText}
 use Rattle.desk.proofs.write_sheet.Statement.{statement}
 use Rattle.desk.proofs.write_sheet.Tie as tie
 

@@ -1,4 +1,4 @@
--- `main` is safe and ends: the arguments behind the place and those before it are no more than there were.
+-- `main` is safe and ends: the arguments after the place and those before it are no more than there were.
 use Prim.Native.Nat.{_+_, _<_}
 use native.Mathlib.Omega.{arith}
 use borrow.Author.Needs.{needs}

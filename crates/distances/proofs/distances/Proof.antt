@@ -5,7 +5,7 @@ use native.Mathlib.Omega.{arith}
 use borrow.Author.Needs.{needs}
 use lib.ListN.{length}
 use Rattle.outcomes.proofs.OutcomeLaws.{at-length}
-use Rattle.gate.specs.Gate.{Passed}
+use Rattle.gate.specs.Gate.{GatePassed}
 use Rattle.gate.proofs.GateLaws.{gate-refused, gate-passed, entered-length, work-refused, work-left}
 use Rattle.distances.specs.Distances.{distancesOutcome, distancesOutput}
 use Rattle.distances.proofs.DistancesLaws.{reasons-common, distances-refused}
@@ -22,7 +22,7 @@ start c = c .before .before .before .before .before
 -- the file has passed the gate, with its header
 passed : (c : tie.After-checked2)
     → let a = start (gate (c .before .before)) .args in
-    Passed (a .file .now) 0 (length (a .work .now)) (c .checked2 .given .0 .0)
+    GatePassed (a .file .now) 0 (length (a .work .now)) (c .checked2 .given .0 .0)
 passed c =
     let entered = gate (c .before .before) in
     let a = start entered .args in

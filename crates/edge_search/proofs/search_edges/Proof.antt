@@ -9,7 +9,7 @@ use native.Mathlib.Omega.{arith}
 use lib.ListN.{length, getD}
 use lib.Dec.{T}
 use Rattle.lasso.specs.Graph.{Graph, edgeb}
-use Rattle.lasso.proofs.Tests.{at-memb}
+use Rattle.lists.proofs.Tests.{at-memb}
 use Rattle.format.specs.Bytes.{words}
 use Rattle.model.specs.Model.{graphIn}
 use Rattle.model.proofs.Steps.{steps-edges, steps-or-itself}

@@ -5,7 +5,7 @@ use mathlib.Core.Bool.{Bool, true, false}
 use native.Mathlib.Omega.{arith}
 use borrow.Author.Needs.{needs}
 use borrow.Author.Tests.{eqb-true, eqb-false, not-true, not-false}
-use Rattle.lasso.proofs.Tests.{T-true}
+use Rattle.lists.proofs.Tests.{T-true}
 use Rattle.ends.specs.Ends.{as-before, flagged}
 use Rattle.ends.proofs.marked_flag.Statement.{statement}
 use Rattle.ends.proofs.marked_flag.Tie as tie

@@ -5,11 +5,11 @@ use mathlib.Core.Path.{_≡_, _∙_, ap}
 use mathlib.Core.List.{List, [], _∷_, _++_}
 use native.Mathlib.Omega.{arith}
 use lib.ListN.{length, getD}
-use Rattle.lasso.specs.Decides.{Decides}
+use Rattle.lists.specs.Decides.{Decides}
 use Rattle.lasso.specs.Extends.{Extends}
 use Rattle.model.specs.Model.{graphIn, stepsOf}
 use Rattle.table.proofs.Laws.{sameOutside-trans}
-use Rattle.follow.specs.Follow.{upTo}
+use Rattle.current.specs.Current.{listIn}
 use Rattle.follow.proofs.ExtendLaws.{extends-path}
 use Rattle.follow.proofs.PlacesTable.{prepared-sizes}
 use Rattle.passed.specs.Passed.{PassedAt}
@@ -20,7 +20,7 @@ use Rattle.followers.proofs.first_follower.Tie as tie
 
 abbrev Inv-loop : tie.InvT-loop
 Inv-loop file h work₀ length place s part d p₀ tried₀ work p tried =
-    Tried (graphIn file h) (h .states) (length .0) (upTo (graphIn file h) work₀ place) 0 (graphIn file h .succs s) work₀ work tried × (tried < d)
+    Tried (graphIn file h) (h .states) (length .0) (listIn (graphIn file h .start) work₀ place) 0 (graphIn file h .succs s) work₀ work tried × (tried < d)
     × PassedAt file h work (length .0) place p
 
 abbrev μ-loop : tie.MeasureT-loop
@@ -33,7 +33,7 @@ row c =
     let p = c .before .before .before .before .pre in
     let a = c .before .before .before .before .args in
     let g = graphIn (a .file .now) (a .h) in
-    read-row (p .0) (p .1 .0) (extends-path g (a .transitions .0) (upTo g (a .work .now) (a .place)) (p .1 .1 .0)) (c .list-at .ensures)
+    read-row (p .0) (p .1 .0) (extends-path g (a .transitions .0) (listIn (g .start) (a .work .now) (a .place)) (p .1 .1 .0)) (c .list-at .ensures)
 
 -- the number of the last state's successors
 degree : (c : tie.After-degree Inv-loop μ-loop)
@@ -53,7 +53,7 @@ within c = omega (arith, c .loop .inv .1, degree (c .before))
 -- what the test of the successor answers
 answer : (c : tie.After-may-follow Inv-loop μ-loop)
     → let a = c .before .before .before .before .before .before .before .before .before .before .before .args in
-    Decides (Extends (graphIn (a .file .now) (a .h)) (a .transitions .0) (upTo (graphIn (a .file .now) (a .h)) (a .work .now) (a .place) ++ c .before .before .successor .result ∷ [])) (c .may-follow .result .yes)
+    Decides (Extends (graphIn (a .file .now) (a .h)) (a .transitions .0) (listIn (a .h .start) (a .work .now) (a .place) ++ c .before .before .successor .result ∷ [])) (c .may-follow .result .yes)
 answer c =
     let at = c .before .before .before .before in
     let a = at .before .before .before .before .before .before .before .args in

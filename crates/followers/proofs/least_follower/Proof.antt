@@ -5,11 +5,11 @@ use mathlib.Core.Path.{_≡_, _∙_, ap}
 use mathlib.Core.List.{List, [], _∷_, _++_}
 use native.Mathlib.Omega.{arith}
 use lib.ListN.{length, getD}
-use Rattle.lasso.specs.Decides.{Decides}
+use Rattle.lists.specs.Decides.{Decides}
 use Rattle.lasso.specs.Extends.{Extends}
 use Rattle.model.specs.Model.{graphIn}
 use Rattle.table.proofs.Laws.{sameOutside-trans}
-use Rattle.follow.specs.Follow.{upTo}
+use Rattle.current.specs.Current.{listIn}
 use Rattle.follow.proofs.PlacesTable.{prepared-sizes, states-to}
 use Rattle.passed.specs.Passed.{PassedAt}
 use Rattle.followers.proofs.TriedLaws.{Tried, tried-none, tried-more, tried-found, tried-all}
@@ -19,7 +19,7 @@ use Rattle.followers.proofs.least_follower.Tie as tie
 
 abbrev Inv-loop : tie.InvT-loop
 Inv-loop file h work₀ length place bound p₀ s part d k₀ work p k =
-    Tried (graphIn file h) (h .states) (length .0) (upTo (graphIn file h) work₀ place) bound (graphIn file h .succs s) work₀ work k
+    Tried (graphIn file h) (h .states) (length .0) (listIn (graphIn file h .start) work₀ place) bound (graphIn file h .succs s) work₀ work k
     × PassedAt file h work (length .0) place p
 
 abbrev μ-loop : tie.MeasureT-loop
@@ -50,7 +50,7 @@ within c = omega (arith, c .loop-test .taken, degree (c .before .before))
 -- what the test of the successor answers
 answer : (c : tie.After-try-next Inv-loop μ-loop)
     → let a = c .before .before .before .before .before .before .before .before .before .before .before .before .before .args in
-    Decides ((a .bound ≤ c .before .before .successor .result) × Extends (graphIn (a .file .now) (a .h)) (a .transitions .0) (upTo (graphIn (a .file .now) (a .h)) (a .work .now) (a .place) ++ c .before .before .successor .result ∷ [])) (c .try-next .result .yes)
+    Decides ((a .bound ≤ c .before .before .successor .result) × Extends (graphIn (a .file .now) (a .h)) (a .transitions .0) (listIn (a .h .start) (a .work .now) (a .place) ++ c .before .before .successor .result ∷ [])) (c .try-next .result .yes)
 answer c =
     let at = c .before .before .before .before in
     let a = at .before .before .before .before .before .before .before .before .before .args in

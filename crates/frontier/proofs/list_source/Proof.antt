@@ -1,4 +1,4 @@
--- `list_source` stores the list's first source behind the new one, and the new one in front.
+-- `list_source` stores the list's first source after the new one, and the new one in front.
 use borrow.Author.Needs.{needs}
 use Rattle.frontier.proofs.list_source.Statement.{statement}
 use Rattle.frontier.proofs.list_source.Tie as tie

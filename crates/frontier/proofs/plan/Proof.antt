@@ -6,7 +6,7 @@ use mathlib.Core.Logic.{⊎-elim, inl, inr}
 use mathlib.Core.List.{List}
 use native.Mathlib.Omega.{arith}
 use lib.ListN.{length}
-use Rattle.lasso.proofs.Tests.{lt-or-ge}
+use Rattle.lists.proofs.Tests.{lt-or-ge}
 use Rattle.frontier.specs.Regions.{entry}
 use borrow.Author.Needs.{needs}
 use Rattle.frontier.proofs.BucketLaws.{Planning, planning-none, planning-skip, planning-list, planning-same, planning-done, source-entry, entry-source}

@@ -23,10 +23,10 @@ on : (c : tie.After-slice-known3) →
 on c =
     let e = c .before .before .before .before in
     let s = start (e .before) in
-    levels-on _ (c .before .before .from-marks .result) (valid-well-formed (s .pre .0)) (e .before .before .before .before .distances .ensures) (c .before .before .from-marks .ensures)
+    levels-on _ (c .before .before .from-marks .result) (valid-well-formed (s .pre .0)) (e .before .before .before .before .distances-from .ensures) (c .before .before .from-marks .ensures)
 
-distances-requires : tie.Need-distances-requires
-distances-requires c κs = search needs
+distances-from-requires : tie.Need-distances-from-requires
+distances-from-requires c κs = search needs
 
 is-marked-requires : tie.Need-is-marked-requires
 is-marked-requires c κs = search needs
@@ -37,7 +37,7 @@ same-length c = search needs
 returns : tie.Need-returns
 returns c =
     let s = start (c .before) in
-    levels-marked (valid-well-formed (s .pre .0)) (s .pre .1 .0) (rw (sym (c .before .is-marked .ensures) ∙ c .if1 .taken) tt) (c .before .before .before .before .distances .ensures)
+    levels-marked (valid-well-formed (s .pre .0)) (s .pre .1 .0) (rw (sym (c .before .is-marked .ensures) ∙ c .if1 .taken) tt) (c .before .before .before .before .distances-from .ensures)
 
 from-marks-requires : tie.Need-from-marks-requires
 from-marks-requires c κs = search needs
@@ -72,7 +72,7 @@ pub later-levels-spec : {M : Type 1} → statement M
 later-levels-spec =
     tie.close
     (tie.spec
-    distances-requires
+    distances-from-requires
     is-marked-requires
     same-length
     returns

@@ -18,30 +18,30 @@ use Rattle.goal_tables.proofs.make_sooner.Tie as tie
 abbrev start : tie.After-number → tie.Start
 start c = c .before .before .before .before .before
 
-abbrev number-of : tie.After-distances → tie.After-number
+abbrev number-of : tie.After-distances-from → tie.After-number
 number-of c = c .before .before .before .before
 
 -- the distances from the loop start
-away : (c : tie.After-distances) → let a = start (number-of c) .args in
-    DistancesWithin (graphIn (a .file .now) (a .h)) (stateAt (a .h) (a .work .now) (a .b)) (a .transitions .0 - a .b) (a .work .now) (c .distances .last .1 .1 .0) (c .distances .result)
+away : (c : tie.After-distances-from) → let a = start (number-of c) .args in
+    DistancesWithin (graphIn (a .file .now) (a .h)) (stateAt (a .h) (a .work .now) (a .b)) (a .transitions .0 - a .b) (a .work .now) (c .distances-from .last .1 .1 .0) (c .distances-from .result)
 away c =
     let n = number-of c in
     let a = start n .args in
     let g = graphIn (a .file .now) (a .h) in
-    subst (λ (y : ℕ). DistancesWithin g y (a .transitions .0 - a .b) (a .work .now) (c .distances .last .1 .1 .0) (c .distances .result)) (n .before .list-at .ensures)
-    (subst (λ (k : ℕ). DistancesWithin g (n .before .list-at .result) (k - a .b) (a .work .now) (c .distances .last .1 .1 .0) (c .distances .result)) (n .number .ensures) (c .distances .ensures))
+    subst (λ (y : ℕ). DistancesWithin g y (a .transitions .0 - a .b) (a .work .now) (c .distances-from .last .1 .1 .0) (c .distances-from .result)) (n .before .list-at .ensures)
+    (subst (λ (k : ℕ). DistancesWithin g (n .before .list-at .result) (k - a .b) (a .work .now) (c .distances-from .last .1 .1 .0) (c .distances-from .result)) (n .number .ensures) (c .distances-from .ensures))
 
 -- the table with the entry put back
-abbrev away-of : tie.After-put → tie.After-distances
+abbrev away-of : tie.After-put → tie.After-distances-from
 away-of c = c .before .before .before .before
 
 put-is : (c : tie.After-put) → let d = away-of c in let a = start (number-of d) .args in
-    c .put .last .0 ≡ set (d .distances .last .1 .1 .0) (5 * a .h .states + stateAt (a .h) (a .work .now) (a .b)) (entry 5 (a .h .states) (a .work .now) (stateAt (a .h) (a .work .now) (a .b)))
+    c .put .last .0 ≡ set (d .distances-from .last .1 .1 .0) (5 * a .h .states + stateAt (a .h) (a .work .now) (a .b)) (entry 5 (a .h .states) (a .work .now) (stateAt (a .h) (a .work .now) (a .b)))
 put-is c =
     let d = away-of c in
     let n = number-of d in
     let a = start n .args in
-    let w₁ : List ℕ = d .distances .last .1 .1 .0 in
+    let w₁ : List ℕ = d .distances-from .last .1 .1 .0 in
     let r : ℕ = n .before .list-at .result in
     c .put .ensures
     ∙ ap (λ (v : ℕ). set w₁ (5 * a .h .states + r) v) (d .before .before .get .ensures .0)
@@ -53,7 +53,7 @@ put-of c = c .before .before .before .before
 
 flags : (c : tie.After-flag-closing) → let d = away-of (put-of c) in let a = start (number-of d) .args in
     ClosingPut (graphIn (a .file .now) (a .h)) (a .h .states) (a .h .start) (a .transitions .0 - a .b - 1) (a .mark) (a .h .states)
-    (set (d .distances .last .1 .1 .0) (5 * a .h .states + stateAt (a .h) (a .work .now) (a .b)) (entry 5 (a .h .states) (a .work .now) (stateAt (a .h) (a .work .now) (a .b)))) (c .flag-closing .last .1 .1 .0)
+    (set (d .distances-from .last .1 .1 .0) (5 * a .h .states + stateAt (a .h) (a .work .now) (a .b)) (entry 5 (a .h .states) (a .work .now) (stateAt (a .h) (a .work .now) (a .b)))) (c .flag-closing .last .1 .1 .0)
 flags c =
     let p = put-of c in
     let n = number-of (away-of p) in
@@ -83,8 +83,8 @@ add-get c = omega (arith, ground-sizes (start (c .before) .pre .0), c .before .b
 get-requires : tie.Need-get-requires
 get-requires c κs = omega (arith, ground-sizes (start (c .before) .pre .0), c .before .before .list-at .ensures)
 
-distances-requires : tie.Need-distances-requires
-distances-requires c κs =
+distances-from-requires : tie.Need-distances-from-requires
+distances-from-requires c κs =
     let n = c .before .before .before in
     let sizes = ground-sizes (start n .pre .0) in
     let number = n .number .ensures in
@@ -151,7 +151,7 @@ make-sooner-spec =
     mul-get
     add-get
     get-requires
-    distances-requires
+    distances-from-requires
     mul-put
     add-put
     put-requires

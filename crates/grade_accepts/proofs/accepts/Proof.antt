@@ -7,7 +7,7 @@ use native.Mathlib.Omega.{arith}
 use borrow.Author.Needs.{needs}
 use borrow.Author.Tests.{not-true, not-false}
 use lib.ListN.{length, getD, take}
-use Rattle.lasso.specs.Lists.{differentb}
+use Rattle.lists.specs.Lists.{differentb}
 use Rattle.lasso.specs.Graph.{edges, loopsb}
 use Rattle.model.specs.Model.{graphIn}
 use Rattle.model.proofs.Laws.{valid-sizes}
@@ -24,7 +24,7 @@ start c = c .before .before .before .before .before .before .before
 abbrev low : tie.After-all-different → tie.Else1
 low c = c .before .before .before .before .before
 
--- an entry stands behind place k
+-- an entry stands after place k
 behind : (c : tie.Else1) → let a = start c .args in a .k + 1 < length (a .list .now)
 behind c = omega (arith, c .before .before .before .entries .ensures, c .if1 .left)
 
@@ -69,8 +69,8 @@ returns-3 c =
       tested .all-different .ensures .1,
     )
 
-closes-at-requires : tie.Need-closes-at-requires
-closes-at-requires c κs =
+loops-at-requires : tie.Need-loops-at-requires
+loops-at-requires c κs =
     let below = low (c .before .before .before) in
     let s = start below in
     (s .pre .0, (s .pre .1 .1, omega (arith, behind below)))
@@ -85,7 +85,7 @@ returns-4 c =
     let s = start below in
     let a = s .args in
     let g = graphIn (a .file .now) (a .h) in
-    let closed : c .closes-at .result ≡ loopsb g (a .list .now) (a .k) = c .closes-at .ensures in
+    let closed : c .loops-at .result ≡ loopsb g (a .list .now) (a .k) = c .loops-at .ensures in
     let path = unbroken-path g (a .list .now) (s .pre .1 .1) in
     let different : differentb (take (edges (a .list .now)) (a .list .now)) ≡ true =
     sym (tested .all-different .ensures .0) ∙ not-false (tested .all-different .result) (c .before .if3 .left) in
@@ -103,6 +103,6 @@ accepts-spec =
     all-different-requires
     same-length
     returns-3
-    closes-at-requires
+    loops-at-requires
     same-length-2
     returns-4)

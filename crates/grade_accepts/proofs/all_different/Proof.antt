@@ -5,7 +5,7 @@ use mathlib.Core.Path.{_≡_, refl, sym, _∙_, ap, subst}
 use mathlib.Core.List.{List}
 use native.Mathlib.Omega.{arith}
 use lib.ListN.{length, getD, set, length-set}
-use Rattle.grade_accepts.proofs.FlagLaws.{Flags, flags-start, flags-next, flags-repeat, flags-end}
+use Rattle.grade_accepts.proofs.FlagLaws.{Flags, no-flags, flags-next, flags-repeat, flags-end}
 use Rattle.grade_accepts.proofs.all_different.Statement.{statement}
 use Rattle.grade_accepts.proofs.all_different.Tie as tie
 
@@ -66,7 +66,7 @@ loop-holds c =
     let clear = c .before .before in
     let s = start clear in
     let only = clear .clear .ensures in (
-      flags-start (s .args .n) (s .args .list .now) _ (s .pre .1 .0) (omega (arith, s .pre .1 .1, only .others .same-length)) (λ i l. only .zeros i (omega arith) l),
+      no-flags (s .args .n) (s .args .list .now) _ (s .pre .1 .0) (omega (arith, s .pre .1 .1, only .others .same-length)) (λ i l. only .zeros i (omega arith) l),
       refl,
     )
 

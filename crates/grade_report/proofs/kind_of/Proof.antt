@@ -1,8 +1,8 @@
 -- `kind_of` meets its contract, verdict by verdict.
 use mathlib.Core.Path.{sym, ap}
 use borrow.Author.Needs.{needs}
-use Rattle.grader.specs.declared.Verdict.{Verdict}
-use Rattle.grader.specs.Grade.{verdictOf}
+use Rattle.grade.specs.declared.Verdict.{Verdict}
+use Rattle.grade.specs.Grade.{verdictOf}
 use Rattle.grade_report.specs.Grades.{verdictKind}
 use Rattle.grade_report.proofs.kind_of.Statement.{statement}
 use Rattle.grade_report.proofs.kind_of.Tie as tie

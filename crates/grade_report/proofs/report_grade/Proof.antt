@@ -4,9 +4,9 @@ use native.Mathlib.Omega.{arith}
 use borrow.Author.Needs.{needs}
 use lib.Seq.{set-split}
 use Rattle.paths.specs.declared.FirstBreak.{FirstBreak}
-use Rattle.grader.specs.declared.GradeAnswer.{GradeAnswer}
-use Rattle.grader.specs.declared.GradeAnswer.the-variants.{Graded}
-use Rattle.grader.specs.Grade.{gradeOutcomeOf}
+use Rattle.grade.specs.declared.GradeAnswer.{GradeAnswer}
+use Rattle.grade.specs.declared.GradeAnswer.the-variants.{Graded}
+use Rattle.grade.specs.Grade.{gradeOutcomeOf}
 use Rattle.figures.specs.Kinds.{Report}
 use Rattle.grade_report.specs.Grades.{gradeReport}
 use Rattle.figures.proofs.ReportLaws.{reports-known}

@@ -4,7 +4,7 @@ use native.Mathlib.Omega.{arith}
 use mathlib.Core.Path.{ap, sym}
 use mathlib.Core.Option.{some}
 use Rattle.lasso.specs.Values.{bestOf}
-use Rattle.lasso.proofs.Least.{lesser-none}
+use Rattle.lists.proofs.Least.{lesser-none}
 use Rattle.lasso.proofs.lesser.Statement.{statement}
 use Rattle.lasso.proofs.lesser.Tie as tie
 

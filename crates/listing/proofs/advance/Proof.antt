@@ -7,7 +7,7 @@ use native.Mathlib.Omega.{arith}
 use lib.ListN.{set}
 use Rattle.model.specs.Model.{graphIn}
 use Rattle.model.proofs.Laws.{valid-sizes}
-use Rattle.follow.specs.Follow.{upTo}
+use Rattle.current.specs.Current.{listIn}
 use Rattle.follow.specs.Places.{LeastFollower, Completed}
 use Rattle.follow.proofs.PlacesTable.{length-fits, append-asks, same-kept}
 use Rattle.follow.proofs.PlacesRoll.{Retreating, retreating-none, retreating-all, Raising, raising-from, raising-asks, raising-nothing, raised-asks, raised-kept, raised-follows}
@@ -62,7 +62,7 @@ found : (c : tie.After-next Inv-loop μ-loop)
     let at = get .before .before .before in
     let a = at .before .before .before .before .before .args in
     let g = graphIn (a .file .now) (a .h) in
-    LeastFollower g (a .transitions .0) (upTo g (at .loop .work) (at .loop .place - 1)) (get .get .result + 1) (c .next .given .0 .0)
+    LeastFollower g (a .transitions .0) (listIn (g .start) (at .loop .work) (at .loop .place - 1)) (get .get .result + 1) (c .next .given .0 .0)
 found c = follower (test-of c) _ (c .next .given .1)
 
 -- the state stored, from where the list was completed

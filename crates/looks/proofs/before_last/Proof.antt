@@ -4,8 +4,8 @@ use mathlib.Core.Path.{_≡_, sym, subst}
 use native.Mathlib.Omega.{arith}
 use borrow.Author.Needs.{needs}
 use lib.Dec.{eqb}
-use Rattle.lasso.specs.Decides.{Decides}
-use Rattle.lasso.proofs.Tests.{decides-eq}
+use Rattle.lists.specs.Decides.{Decides}
+use Rattle.lists.proofs.Tests.{decides-eq}
 use Rattle.frontier.specs.Regions.{entry}
 use Rattle.looks.proofs.CaseLaws.{pick-first, pick-second}
 use Rattle.looks.proofs.before_last.Statement.{statement}

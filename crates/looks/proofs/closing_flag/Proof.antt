@@ -3,7 +3,7 @@ use Prim.Native.Nat.{_-_, _≤_, _<_}
 use mathlib.Core.Path.{refl}
 use native.Mathlib.Omega.{arith}
 use borrow.Author.Needs.{needs}
-use Rattle.lasso.proofs.Tests.{NoneOf, noneOf-more}
+use Rattle.lists.proofs.Tests.{NoneOf, noneOf-more}
 use Rattle.model.specs.Model.{graphIn, stepsOf}
 use Rattle.model.proofs.Laws.{valid-sizes, row-edge, row-none, row-state}
 use Rattle.looks.specs.Looks.{GoalAt}

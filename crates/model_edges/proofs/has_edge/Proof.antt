@@ -8,8 +8,8 @@ use denote.Ref.{now}
 use native.Mathlib.Omega.{arith}
 use borrow.Author.Needs.{needs}
 use lib.Dec.{T}
-use Rattle.lasso.specs.Lists.{memb}
-use Rattle.lasso.specs.Graph.{ascendingb, edgeb}
+use Rattle.lists.specs.Lists.{memb, ascendingb}
+use Rattle.lasso.specs.Graph.{edgeb}
 use Rattle.model.specs.Model.{graphIn, stepsOf}
 use Rattle.model.proofs.Laws.{valid-well-formed}
 use Rattle.model_edges.proofs.Halving.{Between, between-all, between-first, between-after, between-before, between-found, between-none}

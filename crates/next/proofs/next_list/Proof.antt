@@ -15,7 +15,7 @@ use Rattle.lasso.specs.Roll.{roll}
 use Rattle.lasso.specs.Following.{following}
 use Rattle.model.specs.Model.{graphIn, graphOf}
 use Rattle.model.proofs.Laws.{valid-graph, valid-sizes, valid-well-formed}
-use Rattle.follow.specs.Follow.{upTo}
+use Rattle.current.specs.Current.{listIn}
 use Rattle.outcomes.proofs.OutcomeLaws.{call-answer}
 use Rattle.gate.proofs.GateLaws.{valid-room}
 use Rattle.paths.proofs.LoopTests.{lassoOf}
@@ -67,13 +67,13 @@ kept c = c .to-next .ensures .1 ∙ put c .to-list .ensures .1
 follows : (c : tie.Else3)
     → let adv = c .before .before .before in
     let a = origin adv .args in
-    following (a .earlier .now) (roll (graphOf (a .file .now) (a .h .table))) ≡ some (upTo (graphOf (a .file .now) (a .h .table)) (adv .to-next .last .1 .1 .1 .0) (a .transitions .0))
+    following (a .earlier .now) (roll (graphOf (a .file .now) (a .h .table))) ≡ some (listIn (graphOf (a .file .now) (a .h .table) .start) (adv .to-next .last .1 .1 .1 .0) (a .transitions .0))
 follows c =
     let adv = c .before .before .before in
     let s = origin adv in
     let a = s .args in
     let w = adv .to-next .last .1 .1 .1 .0 in
-    subst (λ (g : Graph). following (a .earlier .now) (roll g) ≡ some (upTo g w (a .transitions .0))) (valid-graph (s .pre .0 .valid))
+    subst (λ (g : Graph). following (a .earlier .now) (roll g) ≡ some (listIn (g .start) w (a .transitions .0))) (valid-graph (s .pre .0 .valid))
     (moved-some w (adv .to-next .result) (put adv .to-list .ensures .0) (adv .to-next .ensures .0) (not-false _ (c .if3 .left)))
 
 -- a list of the least length fits the table

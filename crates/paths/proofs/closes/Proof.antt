@@ -4,9 +4,9 @@ use Prim.Native.Nat.{_-_}
 use mathlib.Core.Path.{_≡_, sym, _∙_}
 use native.Mathlib.Omega.{arith}
 use lib.ListN.{getD}
-use Rattle.lasso.specs.Lists.{anyb, below}
+use Rattle.lists.specs.Lists.{anyb, below}
 use Rattle.lasso.specs.Graph.{edges, loopsb}
-use Rattle.lasso.proofs.Range.{Left, left-below, left-next, left-none}
+use Rattle.lists.proofs.Range.{Left, left-below, left-next, left-none}
 use Rattle.model.specs.Model.{graphIn}
 use Rattle.model.proofs.Laws.{valid-well-formed}
 use Rattle.paths.proofs.BreakLaws.{started-unbroken}
@@ -45,8 +45,8 @@ loop-holds c = left-below _ _
 get-requires-2 : tie.Need-get-requires-2 Inv-loop μ-loop
 get-requires-2 c κs = omega (arith, c .loop-test .taken)
 
-closes-at-requires : tie.Need-closes-at-requires Inv-loop μ-loop
-closes-at-requires c κs =
+loops-at-requires : tie.Need-loops-at-requires Inv-loop μ-loop
+loops-at-requires c κs =
     let at = c .before .before .before in
     let s = start at in
     let a = s .args in
@@ -59,7 +59,7 @@ returns c =
     let at = here .before .before .before in
     let a = start at .args in
     let g = graphIn (a .file .now) (a .h) in
-    let closed : c .closes-at .result ≡ loopsb g (a .list .now) (at .loop .k) = c .closes-at .ensures in
+    let closed : c .loops-at .result ≡ loopsb g (a .list .now) (at .loop .k) = c .loops-at .ensures in
     let first = first-decides g (a .list .now) (at .loop .k) (omega (arith, here .before .before .loop-test .taken)) (held here) in
     closed ∙ sym (at .loop .inv .decides ∙ first)
 
@@ -91,7 +91,7 @@ closes-spec =
     get-requires
     loop-holds
     get-requires-2
-    closes-at-requires
+    loops-at-requires
     returns
     add-k
     loop-less

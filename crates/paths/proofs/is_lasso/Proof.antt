@@ -8,7 +8,7 @@ use denote.Ref.{now}
 use lib.ListN.{getD}
 use lib.Dec.{T, eqb, eqb→eq}
 use Rattle.lasso.specs.Graph.{pathb}
-use Rattle.lasso.proofs.Tests.{parts}
+use Rattle.lists.proofs.Tests.{parts}
 use Rattle.model.specs.Model.{graphIn}
 use Rattle.paths.proofs.LoopTests.{lassoOf-other, lassoOf-no-path, lassoOf-closes}
 use Rattle.paths.proofs.is_lasso.Statement.{statement}

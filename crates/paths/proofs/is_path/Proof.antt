@@ -4,7 +4,7 @@ use borrow.Author.Needs.{needs}
 use borrow.Author.Tests.{eq-eqb, ne-eqb}
 use lib.ListN.{getD}
 use Rattle.lasso.specs.Graph.{pathb}
-use Rattle.lasso.proofs.Tests.{T-true}
+use Rattle.lists.proofs.Tests.{T-true}
 use Rattle.model.specs.Model.{graphIn}
 use Rattle.model.proofs.Laws.{valid-well-formed}
 use Rattle.paths.specs.Breaks.{breakOf}

@@ -8,7 +8,7 @@ use mathlib.Core.Logic.{⊎-elim}
 use mathlib.Core.List.{List}
 use denote.Ref.{now}
 use lib.ListN.{length, getD, drop, drop-of-length-le}
-use Rattle.lasso.specs.Lists.{keep, pick}
+use Rattle.lists.specs.Lists.{keep, pick}
 use Rattle.format.specs.Bytes.{word, words, bitb}
 use Rattle.format.proofs.Words.{words-length, words-at}
 use Rattle.property.proofs.ChosenLaws.{keep-from}

@@ -9,7 +9,7 @@ use borrow.Author.Tests.{eq-eqb, ne-eqb}
 use denote.Ref.{now}
 use lib.Dec.{eqb}
 use Rattle.format.specs.Bytes.{word}
-use Rattle.lasso.proofs.Range.{Left, left-below, left-found, left-next, left-none}
+use Rattle.lists.proofs.Range.{Left, left-below, left-found, left-next, left-none}
 use Rattle.property.specs.Property.{masksAt, maskAt, zeroMask}
 use Rattle.property.proofs.PropertyLaws.{property-facts, property-length, property-numbers}
 use Rattle.property.proofs.has_zero_mask.Statement.{statement}

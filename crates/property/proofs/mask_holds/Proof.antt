@@ -1,4 +1,4 @@
--- `mask_holds` meets its contract: the bit of the mask is what is left of it behind so many halvings.
+-- `mask_holds` meets its contract: the bit of the mask is what is left of it after so many halvings.
 use mathlib.Core.Path.{refl}
 use borrow.Author.Needs.{needs}
 use Rattle.property.proofs.mask_holds.Statement.{statement}

@@ -1,4 +1,4 @@
--- `mask_part` meets its contract: the masks of the row lie behind the marks, within the file.
+-- `mask_part` meets its contract: the masks of the row lie after the marks, within the file.
 use Prim.Native.Nat.{ℕ}
 use mathlib.Core.Path.{_≡_, ap, ap₂, _∙_}
 use native.Mathlib.Omega.{arith}
@@ -14,7 +14,7 @@ total-of-requires c κs =
     let v = c .before .pre .0 in
     omega (arith, property-numbers v, property-facts v)
 
--- the masks begin behind the marks
+-- the masks begin after the marks
 place : (c : tie.After-total-of) → let f = now (c .before .before .args .file) in c .total-of .result ≡ masksAt (states f) (edgeCount f)
 place c =
     let start = c .before .before in

@@ -29,7 +29,7 @@ kept c =
     let l = c .before .before .before .loop in
     same-len-mid {X = ℕ} (l .count) (length (l .buffer) - l .count) (l .buffer) (c .read-once .last .1 .0) (part-kept c)
 
--- the bytes that were read have room behind those before
+-- the bytes that were read have room after those before
 room : (c : tie.After-read-once Inv-loop μ-loop) → let l = c .before .before .before .loop in
     l .count + c .read-once .result .count ≤ length (l .buffer)
 room c =

@@ -11,7 +11,7 @@ use Rattle.round.proofs.round.Statement.{statement}
 use Rattle.round.proofs.round.Tie as tie
 
 -- the place where the distances from r are found, seen from the place after the search
-abbrev found-at : tie.After-spread → tie.After-distances
+abbrev found-at : tie.After-spread → tie.After-distances-from
 found-at c = c .before .before .before .before .before .before .before .before
 
 -- the place where the sums are made
@@ -29,8 +29,8 @@ returns c =
     let zero : start .args .limit ≡ 0 = omega arith in
     (sym (rw zero none-found), sameOutside-refl _ _ _)
 
-distances-requires : tie.Need-distances-requires
-distances-requires c κs =
+distances-from-requires : tie.Need-distances-from-requires
+distances-from-requires c κs =
     let pre = c .before .before .before .before .pre in
     (pre .0 .valid, omega arith)
 
@@ -39,7 +39,7 @@ add-start-distances-requires c κs =
     let found = c .before .before .before in
     let start = found .before .before .before .before .before in
     let sizes = valid-sizes (start .pre .0 .valid) in
-    (omega arith, round-fits (start .pre .0) (found .distances .ensures))
+    (omega arith, round-fits (start .pre .0) (found .distances-from .ensures))
 
 spread-requires : tie.Need-spread-requires
 spread-requires c κs = search needs
@@ -64,7 +64,7 @@ returns-2 : tie.Need-returns-2
 returns-2 c =
     let searched = c .before .before .before .before .before in
     let ready = start-at searched .pre .0 in
-    let found = found-at searched .distances .ensures in
+    let found = found-at searched .distances-from .ensures in
     let added = added-at searched .add-start-distances .ensures in
     let length = rw (c .before .answer .given .1) at (searched .spread .ensures) in (
       sym (round-some ready found (added .0) length),
@@ -78,7 +78,7 @@ returns-3 : tie.Need-returns-3
 returns-3 c =
     let searched = c .before .before .before .before in
     let ready = start-at searched .pre .0 in
-    let found = found-at searched .distances .ensures in
+    let found = found-at searched .distances-from .ensures in
     let added = added-at searched .add-start-distances .ensures in
     let nothing = rw (c .enum-told .given .1) at (searched .spread .ensures) in (
       sym (round-nothing ready found (added .0) nothing),
@@ -90,7 +90,7 @@ round-spec =
     tie.close
     (tie.spec
     returns
-    distances-requires
+    distances-from-requires
     add-start-distances-requires
     spread-requires
     enum-known-answer

@@ -11,7 +11,7 @@ use borrow.Author.Needs.{needs}
 use Rattle.rules_offsets.proofs.offsets_broken.Statement.{statement}
 use Rattle.rules_offsets.proofs.offsets_broken.Tie as tie
 
--- the function's start, from the place behind each test
+-- the function's start, from the place after each test
 abbrev from1 : tie.Else1 → tie.Start
 from1 c = c .before .before .before .before .before
 

@@ -12,7 +12,7 @@ use lib.Dec.{eqb}
 use Rattle.format.specs.Bytes.{long}
 use Rattle.format.specs.Layout.{states, markBytes}
 use Rattle.format.specs.Rules.{totalFits}
-use Rattle.lasso.proofs.Range.{Left, left-below, left-found, left-next, left-none}
+use Rattle.lists.proofs.Range.{Left, left-below, left-found, left-next, left-none}
 use Rattle.rules_offsets.proofs.total_fits.Statement.{statement}
 use Rattle.rules_offsets.proofs.total_fits.Tie as tie
 

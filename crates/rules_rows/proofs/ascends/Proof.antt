@@ -5,7 +5,7 @@ use Prim.Native.Nat.{_-_, _≤_}
 use mathlib.Core.Path.{_≡_, refl, sym, _∙_}
 use denote.Ref.{now}
 use lib.ListN.{drop}
-use Rattle.lasso.specs.Graph.{ascendingb}
+use Rattle.lists.specs.Lists.{ascendingb}
 use Rattle.format.specs.Bytes.{words}
 use Rattle.format.proofs.Words.{words-length, ascending-end, part-rises, part-falls}
 use Rattle.rules_rows.proofs.ascends.Statement.{statement}

@@ -7,11 +7,11 @@ use mathlib.Core.Bool.{Bool, not}
 use mathlib.Core.List.{List}
 use denote.Ref.{now}
 use lib.Dec.{T}
-use Rattle.lasso.specs.Graph.{ascendingb}
+use Rattle.lists.specs.Lists.{ascendingb}
 use Rattle.format.specs.Layout.{rowTargets}
 use Rattle.format.specs.Rules.{badRows, badOrder}
 use Rattle.format.proofs.Kept.{rows-ascend-kept, row-last-kept, row-end-within}
-use Rattle.lasso.proofs.Range.{Left, left-below, left-found, left-next, left-none}
+use Rattle.lists.proofs.Range.{Left, left-below, left-found, left-next, left-none}
 use Rattle.rules_rows.proofs.order_broken.Statement.{statement}
 use Rattle.rules_rows.proofs.order_broken.Tie as tie
 

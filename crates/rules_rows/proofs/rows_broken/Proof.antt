@@ -8,9 +8,9 @@ use mathlib.Core.List.{List}
 use borrow.Author.Tests.{lt-ltb, le-ltb, eq-eqb, ne-eqb}
 use denote.Ref.{now}
 use lib.Dec.{ltb, eqb}
-use Rattle.lasso.specs.Lists.{anyb, below}
+use Rattle.lists.specs.Lists.{anyb, below}
 use Rattle.format.specs.Layout.{states, rowEntry}
-use Rattle.lasso.proofs.Range.{Left, left-below, left-found, left-next, left-none}
+use Rattle.lists.proofs.Range.{Left, left-below, left-found, left-next, left-none}
 use Rattle.rules_rows.proofs.rows_broken.Statement.{statement}
 use Rattle.rules_rows.proofs.rows_broken.Tie as tie
 

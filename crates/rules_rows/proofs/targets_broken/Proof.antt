@@ -10,7 +10,7 @@ use denote.Ref.{now}
 use lib.Dec.{ltb}
 use Rattle.format.specs.Layout.{states, target}
 use Rattle.format.specs.Rules.{badTargets}
-use Rattle.lasso.proofs.Range.{Left, left-below, left-found, left-next, left-none}
+use Rattle.lists.proofs.Range.{Left, left-below, left-found, left-next, left-none}
 use Rattle.rules_rows.proofs.targets_broken.Statement.{statement}
 use Rattle.rules_rows.proofs.targets_broken.Tie as tie
 

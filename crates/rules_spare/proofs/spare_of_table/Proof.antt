@@ -7,7 +7,7 @@ use denote.Ref.{now}
 use Rattle.format.specs.Layout.{markBit}
 use Rattle.format.specs.Rules.{spareSet}
 use Rattle.format.proofs.Marks.{table-within}
-use Rattle.lasso.proofs.Range.{Left, left-from, left-found, left-next, left-none}
+use Rattle.lists.proofs.Range.{Left, left-from, left-found, left-next, left-none}
 use Rattle.rules_spare.proofs.spare_of_table.Statement.{statement}
 use Rattle.rules_spare.proofs.spare_of_table.Tie as tie
 

@@ -5,7 +5,7 @@ use Prim.Native.Nat.{_-_}
 use mathlib.Core.Path.{sym, _∙_}
 use denote.Ref.{now}
 use Rattle.format.specs.Rules.{spareSet, badSpare}
-use Rattle.lasso.proofs.Range.{Left, left-below, left-found, left-next, left-none}
+use Rattle.lists.proofs.Range.{Left, left-below, left-found, left-next, left-none}
 use Rattle.rules_spare.proofs.spare_set.Statement.{statement}
 use Rattle.rules_spare.proofs.spare_set.Tie as tie
 

@@ -1,8 +1,9 @@
 -- `play_one` meets its contract: the call that is made is the one that the first command asks for.
 use native.Mathlib.Omega.{arith}
 use mathlib.Core.Path.{refl}
-use Rattle.script.proofs.CommandLaws.{list-there, called-copy, called-list, made-search}
-use Rattle.logged.proofs.CallLaws.{made-as}
+use Rattle.script_commands.proofs.CommandLaws.{list-there}
+use Rattle.script.proofs.AskedLaws.{called-copy, called-list, made-search}
+use Rattle.script_call.proofs.CallLaws.{made-as}
 use borrow.Author.Needs.{needs}
 use Rattle.script.proofs.play_one.Statement.{statement}
 use Rattle.script.proofs.play_one.Tie as tie

@@ -15,7 +15,7 @@ use Rattle.model.proofs.Laws.{valid-graph, valid-sizes}
 use Rattle.outcomes.specs.Outcome.{refused}
 use Rattle.outcomes.proofs.OutcomeLaws.{call-answer}
 use Rattle.gate.proofs.GateLaws.{valid-room}
-use Rattle.follow.specs.Follow.{upTo}
+use Rattle.current.specs.Current.{listIn}
 use Rattle.cursor.proofs.RollPlaces.{stands-head}
 use Rattle.search.specs.Search.{graphAsked, WithEnough}
 use Rattle.search.proofs.SearchLaws.{SearchIs, search-no-room, first-written}
@@ -89,7 +89,7 @@ returns-3 c =
     let kept = listed .to-first .ensures .1 in
     let rounds-are = subst (λ (g : Graph). a .rounds ≡ length (candidates g)) (valid-graph v) (s .pre .1 .1) in
     let least = subst (λ (g : Graph). leastLength g ≡ some (a .transitions .0)) (valid-graph v) (s .pre .1 .0) in
-    let first = subst (λ (g : Graph). head? (roll g) ≡ some (upTo g (listed .to-first .last .1 .1 .1 .0) (a .transitions .0))) (valid-graph v) (stands-head (listed .to-first .ensures .0 .current)) in
+    let first = subst (λ (g : Graph). head? (roll g) ≡ some (listIn (g .start) (listed .to-first .last .1 .1 .1 .0) (a .transitions .0))) (valid-graph v) (stands-head (listed .to-first .ensures .0 .current)) in
     let both =
     first-written (a .file .now) (a .h .table) (v .accepted) (v .table-limit) (length (a .work .now)) (valid-room v (s .pre .0 .room)) (a .answer .now) _ _ (a .h .start) (a .transitions .0) (wrote .write-list .result) (a .rounds)
     (sizes .start-is) (omega (arith, kept, s .pre .0 .room)) least first (omega (arith, entered .entries .ensures, roomy listed .if2 .left))

@@ -4,7 +4,7 @@ use mathlib.Core.Path.{sym, _∙_}
 use native.Mathlib.Omega.{arith}
 use borrow.Author.Needs.{needs}
 use lib.ListN.{length}
-use Rattle.gate.specs.Gate.{Passed}
+use Rattle.gate.specs.Gate.{GatePassed}
 use Rattle.outcomes.proofs.OutcomeLaws.{call-answer, at-length}
 use Rattle.gate.proofs.GateLaws.{gate-refused, gate-passed, entered-length, work-refused, work-left}
 use Rattle.search.specs.Search.{searchOutcome, searchAnswer}
@@ -22,7 +22,7 @@ start c = c .before .before .before .before .before
 -- the file has passed the gate, with its header
 passed : (c : tie.After-checked2)
     → let a = start (gate (c .before .before)) .args in
-    Passed (a .file .now) (a .ask .table) (length (a .work .now)) (c .checked2 .given .0 .0)
+    GatePassed (a .file .now) (a .ask .table) (length (a .work .now)) (c .checked2 .given .0 .0)
 passed c =
     let entered = gate (c .before .before) in
     let a = start entered .args in

@@ -7,7 +7,7 @@ use native.Mathlib.Omega.{arith}
 use borrow.Author.Needs.{needs}
 use lib.ListN.{length}
 use Rattle.format.specs.Rules.{firstBroken}
-use Rattle.gate.specs.Gate.{namedRules, Passed}
+use Rattle.gate.specs.Gate.{namedRules, GatePassed}
 use Rattle.gate.proofs.GateLaws.{gate-refused, gate-passed, entered-length, work-left}
 use Rattle.outcomes.proofs.OutcomeLaws.{at-length}
 use Rattle.text.proofs.WroteLaws.{wrote-as}
@@ -40,13 +40,13 @@ broken c =
 
 -- the file has passed the gate, with its header
 passed : (c : tie.After-checked2)
-    → let a = start (gate (c .before .before)) .args in Passed (a .input .now) 0 (length (a .work .now)) (c .checked2 .given .0 .0)
+    → let a = start (gate (c .before .before)) .args in GatePassed (a .input .now) 0 (length (a .work .now)) (c .checked2 .given .0 .0)
 passed c =
     let entered = gate (c .before .before) in
     let a = start entered .args in
     gate-passed (a .input .now) 0 (length (a .work .now)) (entered .enter .ensures .0) (c .checked2 .given .1)
 
--- the working table has as many entries behind the gate as before it
+-- the working table has as many entries after the gate as before it
 kept : (c : tie.After-enter) → length (c .enter .last .1 .1 .0) ≡ length (start c .args .work .now)
 kept c = entered-length 0 (start c .args .work .now) (c .enter .ensures .1)
 

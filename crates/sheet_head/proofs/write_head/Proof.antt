@@ -13,7 +13,7 @@ use Rattle.sheet_head.proofs.HeadLaws.{head-length}
 use Rattle.sheet_head.proofs.write_head.Statement.{statement}
 use Rattle.sheet_head.proofs.write_head.Tie as tie
 
--- the function's start, from behind the word; the word, from behind the states; the states, from behind the edges
+-- the function's start, from after the word; the word, from after the states; the states, from after the edges
 abbrev start : tie.After-write-bytes → tie.Start
 start c = c .before .before .before .before
 

@@ -1,5 +1,4 @@
--- `sheet_model` meets its contract: what the rounds come to decides between no list and lists. The rounds are never stopped,
--- since no model has so many candidates, and the ceiling is that of the whole model.
+-- `sheet_model` meets its contract: what the rounds come to decides between no list and lists.
 use Prim.Native.Nat.{ℕ}
 use mathlib.Core.Path.{_≡_, sym, _∙_, ap, subst}
 use mathlib.Core.List.{List, _++_}
@@ -11,11 +10,9 @@ use Rattle.lasso.specs.Graph.{Graph}
 use Rattle.lasso.specs.Roll.{leastLength}
 use Rattle.lasso.specs.Rounds.{candidates}
 use Rattle.model.specs.Model.{graphIn, graphOf}
-use Rattle.model.proofs.Laws.{valid-sizes}
 use Rattle.gate.proofs.GateLaws.{named-graph, valid-room}
-use Rattle.begun.specs.Begun.{BegunSays}
-use Rattle.begun.specs.declared.Begun.{Begun}
-use Rattle.begun.proofs.BegunLaws.{never-stopped, full-least}
+use Rattle.begun.specs.Begun.{AllRoundsSay}
+use Rattle.begun.specs.declared.AllRounds.{AllRounds}
 use Rattle.text.proofs.WroteLaws.{wrote-length, wrote-then, wrote-as}
 use Rattle.sheet_head.specs.Words.{noneLine}
 use Rattle.sheet_text.specs.SheetText.{sheetText, sheetAnswer}
@@ -24,36 +21,31 @@ use Rattle.sheet_text.proofs.sheet_model.Statement.{statement}
 use Rattle.sheet_text.proofs.sheet_model.Tie as tie
 
 -- the function's start, and what the rounds came to
-abbrev start : tie.After-begin → tie.Start
+abbrev start : tie.After-all-rounds → tie.Start
 start c = c .before .before .before .before .before .before
 
-abbrev done : tie.After-slice-known4 → tie.After-begin
+abbrev done : tie.After-slice-known4 → tie.After-all-rounds
 done c = c .before .before
 
--- what an answer of the rounds says, by its case
-says : (c : tie.After-begin) (ceiling : ℕ) (r : Begun) → BegunSays (graphIn (start c .args .file .now) (start c .args .h)) ceiling 65535 (c .begin .result) → c .begin .result ≡ r
-    → BegunSays (graphIn (start c .args .file .now) (start c .args .h)) ceiling 65535 r
-says c ceiling r told e = subst (BegunSays (graphIn (start c .args .file .now) (start c .args .h)) ceiling 65535) e told
+-- what the answer of the rounds says, by its case
+says : (c : tie.After-all-rounds) (r : AllRounds) → c .all-rounds .result ≡ r → AllRoundsSay (graphIn (start c .args .file .now) (start c .args .h)) r
+says c r e = subst (AllRoundsSay (graphIn (start c .args .file .now) (start c .args .h))) e (c .all-rounds .ensures .0)
 
 -- without a list: the rounds, from where their answer was seen
-abbrev none-rounds : tie.After-begun → tie.After-begin
+abbrev none-rounds : tie.After-completed → tie.After-all-rounds
 none-rounds c = done (c .before .before)
 
 -- all of them are done: their number
-none-done : (c : tie.After-begun) → c .begun .given .0 .0 ≡ length (candidates (graphOf (start (none-rounds c) .args .file .now) 0))
+none-done : (c : tie.After-completed) → c .completed .given .0 .0 ≡ length (candidates (graphOf (start (none-rounds c) .args .file .now) 0))
 none-done c =
-    let begun = none-rounds c in
-    let all = says begun _ _ (begun .begin .ensures .0) (c .begun .given .1) in
-    subst (λ (g : Graph). c .begun .given .0 .0 ≡ length (candidates g)) (named-graph (start begun .pre .0 .0) (start begun .pre .0 .1)) (all .rounds-are)
+    let rounds = none-rounds c in
+    subst (λ (g : Graph). c .completed .given .0 .0 ≡ length (candidates g)) (named-graph (start rounds .pre .0 .0) (start rounds .pre .0 .1)) (says rounds _ (c .completed .given .1) .rounds-are)
 
-begin-requires : tie.Need-begin-requires
-begin-requires c κs = search needs
+all-rounds-requires : tie.Need-all-rounds-requires
+all-rounds-requires c κs = search needs
 
-enum-told : tie.Need-enum-told
-enum-told c = search needs
-
-enum-known-begun : tie.Need-enum-known-begun
-enum-known-begun c = search needs
+enum-known-completed : tie.Need-enum-known-completed
+enum-known-completed c = search needs
 
 cast-write-head : tie.Need-cast-write-head
 cast-write-head c = search needs
@@ -75,44 +67,39 @@ write-bytes-requires c κs =
     let w = headed .write-head .ensures in
     omega (arith, head-fits (s .pre .0 .0) (none-done told), s .pre .1 .1, w .place, wrote-length w)
 
-enum-known-begun-2 : tie.Need-enum-known-begun-2
-enum-known-begun-2 c = search needs
+enum-known-completed-2 : tie.Need-enum-known-completed-2
+enum-known-completed-2 c = search needs
 
 write-shortest-requires : tie.Need-write-shortest-requires
 write-shortest-requires c κs =
     let told = c .before .before .before .before in
-    let begun = done (told .before .before) in
-    let all = says begun _ _ (begun .begin .ensures .0) (told .begun2 .given .1) in
-    ((begun .begin .ensures .1 .0, start begun .pre .0 .1), (full-least (start begun .pre .0 .0) (omega (arith, valid-sizes (start begun .pre .0 .0))) all, (all .rounds-are, start begun .pre .1 .1)))
+    let rounds = done (told .before .before) in
+    let all = says rounds _ (told .completed2 .given .1) in
+    ((rounds .all-rounds .ensures .1 .0, start rounds .pre .0 .1), (all .least-is, (all .rounds-are, start rounds .pre .1 .1)))
 
 same-length : tie.Need-same-length
 same-length c = search needs
 
-returns : tie.Need-returns
-returns c =
-    let begun = done (c .before .before) in
-    absurd (never-stopped (start begun .pre .0 .0) (says begun _ _ (begun .begin .ensures .0) (c .enum-told .given .1)))
-
 same-length-2 : tie.Need-same-length-2
 same-length-2 c = search needs
 
-same-length-3 : tie.Need-same-length-3
-same-length-3 c = search needs
-
-returns-2 : tie.Need-returns-2
-returns-2 c =
+returns : tie.Need-returns
+returns c =
     let end = c .before .before in
     let head = end .before .before .before .before .before in
     let told = head .before .before .before in
-    let begun = none-rounds told in
-    let s = start begun in
+    let rounds = none-rounds told in
+    let s = start rounds in
     let a = s .args in
     let v = s .pre .0 .0 in
-    let none-least = subst (λ (g : Graph). leastLength g ≡ none) (named-graph v (s .pre .0 .1)) (full-least v (omega (arith, valid-sizes v)) (says begun _ _ (begun .begin .ensures .0) (told .begun .given .1))) in
+    let none-least = subst (λ (g : Graph). leastLength g ≡ none) (named-graph v (s .pre .0 .1)) (says rounds _ (told .completed .given .1) .least-is) in
     let is = sheet-none (a .file .now) (v .accepted) (length (a .answer .now)) (length (a .work .now)) (valid-room v (s .pre .1 .0)) none-least in (
       wrote-as (ap (λ (r : List ℕ). r ++ noneLine) (head-is v (none-done told)) ∙ sym (is .text-is)) (wrote-then (head .write-head .ensures) (end .write-bytes .ensures)),
-      (sym (sheet-answer (a .answer .now) is), begun .begin .ensures .1 .1),
+      (sym (sheet-answer (a .answer .now) is), rounds .all-rounds .ensures .1 .1),
     )
+
+same-length-3 : tie.Need-same-length-3
+same-length-3 c = search needs
 
 same-length-4 : tie.Need-same-length-4
 same-length-4 c = search needs
@@ -120,16 +107,13 @@ same-length-4 c = search needs
 same-length-5 : tie.Need-same-length-5
 same-length-5 c = search needs
 
-same-length-6 : tie.Need-same-length-6
-same-length-6 c = search needs
-
-returns-3 : tie.Need-returns-3
-returns-3 c =
+returns-2 : tie.Need-returns-2
+returns-2 c =
     let wrote = c .before .before .before .before .before .before in
     let told = wrote .before .before .before .before .before in
-    let begun = done (told .before .before) in
-    let a = start begun .args in
-    let kept = begun .begin .ensures .1 .1 in (
+    let rounds = done (told .before .before) in
+    let a = start rounds .args in
+    let kept = rounds .all-rounds .ensures .1 .1 in (
       wrote-as (ap (λ (n : ℕ). sheetText (a .file .now) (length (a .answer .now)) n) kept) (wrote .write-shortest .ensures .0),
       (
         wrote .write-shortest .ensures .1 .0 ∙ ap (λ (n : ℕ). sheetAnswer (a .file .now) (a .answer .now) n) kept,
@@ -141,21 +125,18 @@ pub sheet-model-spec : {M : Type 1} → statement M
 sheet-model-spec =
     tie.close
     (tie.spec
-    begin-requires
-    enum-told
-    enum-known-begun
+    all-rounds-requires
+    enum-known-completed
     cast-write-head
     write-head-requires
     slice-aggregate-write-bytes
     write-bytes-requires
-    enum-known-begun-2
+    enum-known-completed-2
     write-shortest-requires
     same-length
-    returns
     same-length-2
+    returns
     same-length-3
-    returns-2
     same-length-4
     same-length-5
-    same-length-6
-    returns-3)
+    returns-2)

@@ -19,8 +19,8 @@ use Rattle.text.specs.Figure.{figure}
 use Rattle.text.proofs.WroteLaws.{wrote-length, wrote-then, wrote-as}
 use Rattle.text.proofs.FigureLaws.{figure-room}
 use Rattle.sheet_head.specs.Words.{refusedWord, shortestWord}
-use Rattle.roll_text.specs.RollText.{listsText, lastPrinted}
-use Rattle.sheet_text.proofs.SheetLaws.{SheetIs, headOf, head-is, head-fits, sheet-answer, sheet-lists, sheet-no-room}
+use Rattle.sheet_lists.specs.RollText.{listsText, lastPrinted}
+use Rattle.sheet_text.proofs.SheetLaws.{SheetIs, headLines, head-is, head-fits, sheet-answer, sheet-lists, sheet-no-room}
 use Rattle.sheet_text.proofs.write_shortest.Statement.{statement}
 use Rattle.sheet_text.proofs.write_shortest.Tie as tie
 
@@ -60,7 +60,7 @@ length-range s =
 -- the sheet of a file with lists that have room
 lists-are : (c : tie.Else1) → let a = start (counted c) .args in
     SheetIs (a .file .now) (length (a .answer .now)) (length (a .work .now))
-    (headOf (a .file .now) ++ figure shortestWord (a .transitions .0) ++ listsText (roll (graphOf (a .file .now) 0)))
+    (headLines (a .file .now) ++ figure shortestWord (a .transitions .0) ++ listsText (roll (graphOf (a .file .now) 0)))
     (lastPrinted (roll (graphOf (a .file .now) 0)))
 lists-are c =
     let s = start (counted c) in
@@ -71,6 +71,9 @@ lists-are c =
 
 entries-requires : tie.Need-entries-requires
 entries-requires c κs = search needs
+
+cast-write-refusal : tie.Need-cast-write-refusal
+cast-write-refusal c = search needs
 
 write-refusal-requires : tie.Need-write-refusal-requires
 write-refusal-requires c κs =
@@ -160,6 +163,7 @@ write-shortest-spec =
     tie.close
     (tie.spec
     entries-requires
+    cast-write-refusal
     write-refusal-requires
     same-length
     returns

@@ -7,7 +7,7 @@ use mathlib.Core.Option.{some}
 use native.Mathlib.Omega.{arith}
 use borrow.Author.Needs.{needs}
 use denote.Ref.{now}
-use Rattle.lasso.proofs.Tests.{lt-or-ge}
+use Rattle.lists.proofs.Tests.{lt-or-ge}
 use Rattle.frontier.specs.Buckets.{sources}
 use Rattle.spread.specs.Bounds.{ListedAt}
 use Rattle.spread.proofs.listed_level.Statement.{statement}

@@ -12,11 +12,12 @@ use Rattle.model.specs.Model.{graphIn}
 use Rattle.model.proofs.Laws.{valid-sizes, valid-well-formed}
 use Rattle.table.proofs.Laws.{sameOutside-refl}
 use Rattle.frontier.specs.Regions.{entryOf}
-use Rattle.lasso.specs.Limit.{under}
+use Rattle.lists.specs.Limit.{under}
 use Rattle.walks.specs.Through.{loopLength}
 use Rattle.starts.specs.LoopStarts.{startLoop}
 use Rattle.starts.proofs.StartLaws.{startLoop-iff}
-use Rattle.starts.proofs.StartsEntries.{start-distance, startLoop-unreached, startLoop-far, startLoop-reached}
+use Rattle.candidates.proofs.DistanceLaws.{start-entry}
+use Rattle.starts.proofs.StartsEntries.{startLoop-unreached, startLoop-far, startLoop-reached}
 use Rattle.starts.proofs.start_loop.Statement.{statement}
 use Rattle.starts.proofs.start_loop.Tie as tie
 
@@ -31,7 +32,7 @@ distance-entry : (c : tie.After-get) → c .get .result ≡ entryOf (dist (graph
 distance-entry c =
     let s = start c in
     let size = valid-sizes (s .pre .0 .valid) .states-are in
-    c .get .ensures .0 ∙ start-distance (s .pre .0 .start-distances) (s .args .s) (omega arith)
+    c .get .ensures .0 ∙ start-entry (s .pre .0 .start-distances) (s .args .s) (omega arith)
 
 -- the loop length is asked for within the rest of the length
 loop-within : (c : tie.Else2) →

@@ -13,37 +13,37 @@ use Rattle.stems.proofs.prepare.Statement.{statement}
 use Rattle.stems.proofs.prepare.Tie as tie
 
 -- the function's entry, from the place after the distances
-abbrev start : tie.After-distances → tie.Start
+abbrev start : tie.After-distances-from → tie.Start
 start c = c .before .before .before .before .before .before .before .before .before
 
 -- the distances are those up to the least length
-away : (c : tie.After-distances) →
+away : (c : tie.After-distances-from) →
     let a = start c .args in
-    DistancesWithin (graphIn (a .file .now) (a .h)) (a .h .start) (a .transitions .0) (c .before .before .before .before .before .prepare .last .1 .1 .0) (c .distances .last .1 .1 .0) (c .distances .result)
+    DistancesWithin (graphIn (a .file .now) (a .h)) (a .h .start) (a .transitions .0) (c .before .before .before .before .before .prepare-starts .last .1 .1 .0) (c .distances-from .last .1 .1 .0) (c .distances-from .result)
 away c =
     let a = start c .args in
-    subst (λ (k : ℕ). DistancesWithin (graphIn (a .file .now) (a .h)) (a .h .start) k (c .before .before .before .before .before .prepare .last .1 .1 .0) (c .distances .last .1 .1 .0) (c .distances .result))
-    (c .before .before .number .ensures) (c .distances .ensures)
+    subst (λ (k : ℕ). DistancesWithin (graphIn (a .file .now) (a .h)) (a .h .start) k (c .before .before .before .before .before .prepare-starts .last .1 .1 .0) (c .distances-from .last .1 .1 .0) (c .distances-from .result))
+    (c .before .before .number .ensures) (c .distances-from .ensures)
 
 -- the distances, from the place after the copy, and from the place after the pass
-abbrev away-of : tie.After-copy → tie.After-distances
+abbrev away-of : tie.After-copy → tie.After-distances-from
 away-of c = c .before .before .before .before
 
 abbrev copied-of : tie.After-keep-ways → tie.After-copy
 copied-of c = c .before .before .before .before
 
-prepare-requires : tie.Need-prepare-requires
-prepare-requires c κs = search needs
+prepare-starts-requires : tie.Need-prepare-starts-requires
+prepare-starts-requires c κs = search needs
 
 number-requires : tie.Need-number-requires
 number-requires c κs = search needs
 
-distances-requires : tie.Need-distances-requires
-distances-requires c κs =
+distances-from-requires : tie.Need-distances-from-requires
+distances-from-requires c κs =
     let s = c .before .before .before .before .before .before .before .before in
     let sizes : Sizes (s .args .file .now) (s .args .h) = valid-sizes (s .pre .0 .valid) in
     let range = leastLength-range (graphIn (s .args .file .now) (s .args .h)) (s .args .transitions .0) (s .pre .1) in
-    let same = c .before .before .before .before .prepare .ensures .1 .same-length in
+    let same = c .before .before .before .before .prepare-starts .ensures .1 .same-length in
     let number = c .before .number .ensures in
     (s .pre .0 .valid, (sizes .start-below, (omega arith, (omega arith, omega (arith, s .pre .0 .room)))))
 
@@ -54,7 +54,7 @@ copy-requires : tie.Need-copy-requires
 copy-requires c κs =
     let a = c .before .before .before in
     let s = start a in
-    let first = a .before .before .before .before .before .prepare .ensures .1 .same-length in
+    let first = a .before .before .before .before .before .prepare-starts .ensures .1 .same-length in
     (inr (omega arith), (omega (arith, s .pre .0 .room, first, away a .outside .same-length), omega (arith, s .pre .0 .room, first, away a .outside .same-length)))
 
 keep-ways-requires : tie.Need-keep-ways-requires
@@ -62,7 +62,7 @@ keep-ways-requires c κs =
     let d = c .before .before .before in
     let a = away-of d in
     let s = start a in
-    let first = a .before .before .before .before .before .prepare .ensures in (
+    let first = a .before .before .before .before .before .prepare-starts .ensures in (
       s .pre .0 .valid,
       (
         omega (arith, s .pre .0 .room, first .1 .same-length, away a .outside .same-length, d .copy .ensures .others .same-length),
@@ -76,7 +76,7 @@ put-stems-requires c κs =
     let d = copied-of k in
     let a = away-of d in
     let s = start a in
-    let first = a .before .before .before .before .before .prepare .ensures in (
+    let first = a .before .before .before .before .before .prepare-starts .ensures in (
       valid-sizes (s .pre .0 .valid) .states-range .1,
       (
         omega (arith, s .pre .0 .room, first .1 .same-length, away a .outside .same-length, d .copy .ensures .others .same-length, k .keep-ways .ensures .outside .same-length),
@@ -94,7 +94,7 @@ returns c =
     let d = copied-of k in
     let a = away-of d in
     let s = start a in
-    let first = a .before .before .before .before .before .prepare .ensures in
+    let first = a .before .before .before .before .before .prepare-starts .ensures in
     let wf = valid-well-formed (s .pre .0 .valid) in (
       stems-done wf (s .pre .1) (first .0) (away a) (d .copy .ensures) (k .keep-ways .ensures) (p .put-stems .ensures),
       stems-outside wf (s .pre .1) (first .0) (away a) (d .copy .ensures) (k .keep-ways .ensures) (p .put-stems .ensures) (first .1),
@@ -104,9 +104,9 @@ pub prepare-spec : {M : Type 1} → statement M
 prepare-spec =
     tie.close
     (tie.spec
-    prepare-requires
+    prepare-starts-requires
     number-requires
-    distances-requires
+    distances-from-requires
     mul-copy
     copy-requires
     keep-ways-requires

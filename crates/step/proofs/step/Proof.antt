@@ -6,7 +6,7 @@ use borrow.Author.Needs.{needs}
 use lib.ListN.{length}
 use Rattle.lasso.specs.Values.{recordOf}
 use Rattle.outcomes.proofs.OutcomeLaws.{at-table}
-use Rattle.gate.specs.Gate.{Passed}
+use Rattle.gate.specs.Gate.{GatePassed}
 use Rattle.gate.proofs.GateLaws.{gate-refused, gate-passed, entered-length, work-refused, work-left}
 use Rattle.step.specs.Step.{stepOutcome}
 use Rattle.step.proofs.StepLaws.{step-refused}
@@ -23,7 +23,7 @@ start c = c .before .before .before .before
 -- the file has passed the gate, with its header
 passed : (c : tie.After-checked2)
     → let a = start (gate (c .before .before)) .args in
-    Passed (a .file .now) (a .mark-table) (length (a .work .now)) (c .checked2 .given .0 .0)
+    GatePassed (a .file .now) (a .mark-table) (length (a .work .now)) (c .checked2 .given .0 .0)
 passed c =
     let entered = gate (c .before .before) in
     let a = start entered .args in

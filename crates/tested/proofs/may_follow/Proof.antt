@@ -5,7 +5,7 @@ use mathlib.Core.Path.{_≡_, refl, _∙_, subst}
 use native.Mathlib.Omega.{arith}
 use borrow.Author.Tests.{eqb-true, eqb-false}
 use borrow.Author.Needs.{needs}
-use Rattle.lasso.proofs.Tests.{decides-iff}
+use Rattle.lists.proofs.Tests.{decides-iff}
 use Rattle.frontier.specs.Regions.{entry}
 use Rattle.model.specs.Model.{graphIn}
 use Rattle.table.specs.Changes.{SameOutside}

@@ -6,7 +6,7 @@ use lib.ListN.{length, take}
 use lib.Seq.{length-take-le, take-all}
 use Rattle.text.specs.Writing.{Wrote}
 use Rattle.text.proofs.WroteLaws.{wrote-length, wrote-none, wrote-then, wrote-as}
-use Rattle.text.proofs.CollectLaws.{take-next}
+use Rattle.lists.proofs.CollectLaws.{take-next}
 use Rattle.text.proofs.write_bytes.Statement.{statement}
 use Rattle.text.proofs.write_bytes.Tie as tie
 

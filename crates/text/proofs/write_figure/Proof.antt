@@ -6,7 +6,7 @@ use Rattle.text.proofs.FigureLaws.{figure-length}
 use Rattle.text.proofs.write_figure.Statement.{statement}
 use Rattle.text.proofs.write_figure.Tie as tie
 
--- the function's start, from behind the word
+-- the function's start, from after the word
 abbrev start : tie.After-write-bytes → tie.Start
 start c = c .before .before .before .before
 

@@ -6,7 +6,7 @@ use native.Mathlib.Omega.{arith}
 use borrow.Author.Tests.{eqb-true, eqb-false}
 use borrow.Author.Needs.{needs}
 use Rattle.frontier.specs.Regions.{entry}
-use Rattle.lasso.proofs.Tests.{NoneOf, noneOf-more}
+use Rattle.lists.proofs.Tests.{NoneOf, noneOf-more}
 use Rattle.model.specs.Model.{graphIn, stepsOf}
 use Rattle.model.proofs.Laws.{row-edge, row-none, row-state}
 use Rattle.ways.proofs.leads_on.Statement.{statement}

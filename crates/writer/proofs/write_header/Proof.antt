@@ -15,7 +15,7 @@ use Rattle.writer.proofs.write_header.Tie as tie
 long : {t t' : List ℕ} {at next x y : ℕ} → x ≡ y → Wrote t at (words16 (halves x)) t' next → Wrote t at (words16 (halves y)) t' next
 long e w = wrote-as (ap (λ (z : ℕ). words16 (halves z)) e) w
 
--- from behind a number that is written, the place behind the number before it
+-- from after a number that is written, the place after the number before it
 abbrev first : tie.After-write-word2 → tie.After-write-word
 first c = c .before .before .before .before
 
@@ -37,7 +37,7 @@ edges c = c .before .before .before .before .before
 abbrev marks : tie.After-write-long4 → tie.After-write-long3
 marks c = c .before .before .before .before .before
 
--- the function's start, from behind the zero
+-- the function's start, from after the zero
 abbrev start : tie.After-write-word4 → tie.Start
 start c = first (second (third c)) .before .before .before
 
@@ -47,7 +47,7 @@ counts : (c : tie.After-write-word4)
 counts c =
     wrote-then (wrote-then (wrote-then (first (second (third c)) .write-word .ensures) (second (third c) .write-word2 .ensures)) (third c .write-word3 .ensures)) (c .write-word4 .ensures)
 
--- and behind them the offsets of the row table, of the edge table and of the marks
+-- and after them the offsets of the row table, of the edge table and of the marks
 to-marks : (c : tie.After-write-long3)
     → let a = start (fourth (rows (edges c))) .args in
     Wrote (a .out .now) 0 (words16 (a .n ∷ a .m ∷ a .start ∷ 0 ∷ halves rowsAt ++ halves (edgesAt (a .n)) ++ halves (marksAt (a .n) (a .m)))) (c .write-long3 .last .0) (c .write-long3 .result)

@@ -1,4 +1,4 @@
--- `write_long` meets its contract: the low half is written, and behind it the high half.
+-- `write_long` meets its contract: the low half is written, and after it the high half.
 use borrow.Author.Needs.{needs}
 use Rattle.text.proofs.WroteLaws.{wrote-then}
 use Rattle.writer.proofs.write_long.Statement.{statement}

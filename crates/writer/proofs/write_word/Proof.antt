@@ -1,4 +1,4 @@
--- `write_word` meets its contract: the low byte is written, and behind it the high byte.
+-- `write_word` meets its contract: the low byte is written, and after it the high byte.
 use borrow.Author.Needs.{needs}
 use Rattle.text.proofs.WroteLaws.{wrote-then}
 use Rattle.writer.proofs.write_word.Statement.{statement}

@@ -10,7 +10,7 @@ use lib.ListN.{getD}
 use Rattle.model.specs.declared.Header.{Header}
 use Rattle.model.specs.Model.{graphIn}
 use Rattle.frontier.specs.Regions.{entry}
-use Rattle.lasso.specs.Decides.{Decides}
+use Rattle.lists.specs.Decides.{Decides}
 use Rattle.tested.proofs.ClosingTests.{MarkFrom, markFrom-here, markFrom-skip, from-more, read-two}
 use Rattle.tested.proofs.closing.closes_marked.Statement.{statement}
 use Rattle.tested.proofs.closing.closes_marked.Tie as tie

@@ -21,10 +21,10 @@ asked c =
     record { prepared = rw (c .number .ensures) (s .pre .0); within = omega (arith, c .number .ensures, s .pre .1 .0); path = s .pre .1 .1 .1 .0 }
 
 -- the length's number and the function's entry, from the place after the first search
-abbrev measured : tie.After-distances → tie.After-number
+abbrev measured : tie.After-distances-from → tie.After-number
 measured c = c .before .before
 
-abbrev entered : tie.After-distances → tie.Start
+abbrev entered : tie.After-distances-from → tie.Start
 entered c = measured c .before .before .before
 
 -- the state is on no stem
@@ -32,31 +32,31 @@ no-stem : (s : tie.Start) → let a = s .args in OnStem (a .h .states) (a .work 
 no-stem s = s .pre .1 .1 .1 .1
 
 -- the table after the first search
-abbrev searched : tie.After-distances → List ℕ
-searched c = c .distances .last .1 .1 .0
+abbrev searched : tie.After-distances-from → List ℕ
+searched c = c .distances-from .last .1 .1 .0
 
 -- the first search leaves the distances from the state
-distances-left : (c : tie.After-distances) → let a = entered c .args in
-    DistancesWithin (graphIn (a .file .now) (a .h)) (a .t) (measured c .number .result - (a .place + 1) + 1) (a .work .now) (searched c) (c .distances .result)
-distances-left c = c .distances .ensures
+distances-left : (c : tie.After-distances-from) → let a = entered c .args in
+    DistancesWithin (graphIn (a .file .now) (a .h)) (a .t) (measured c .number .result - (a .place + 1) + 1) (a .work .now) (searched c) (c .distances-from .result)
+distances-left c = c .distances-from .ensures
 
 -- it changes regions 2 to 5 only
-kept : (c : tie.After-distances) → let a = entered c .args in
+kept : (c : tie.After-distances-from) → let a = entered c .args in
     SameOutside (2 * a .h .states) (6 * a .h .states) (a .work .now) (searched c)
 kept c = asked-same (asked (measured c)) (searched c) (distances-left c .outside)
 
 -- what the tests ask of the table after the first search
-room : (c : tie.After-distances) → let a = entered c .args in
+room : (c : tie.After-distances-from) → let a = entered c .args in
     (3 * a .h .states ≤ length (searched c)) × (a .place < a .h .states) × (measured c .number .result - (a .place + 1) ≤ a .h .states)
 room c = omega (arith, asked-sizes (asked (measured c)), asked (measured c) .within, kept c .same-length)
 
 -- the states of the list are states
-states : (c : tie.After-distances) → let a = entered c .args in
+states : (c : tie.After-distances-from) → let a = entered c .args in
     StatesTo (a .h) (searched c) (a .place)
 states c = asked-states (asked (measured c)) (searched c) (distances-left c .outside)
 
 -- the place after the first search, from the place where a mark passed is ruled out
-abbrev no-mark-at : tie.Else1 → tie.After-distances
+abbrev no-mark-at : tie.Else1 → tie.After-distances-from
 no-mark-at c = c .before .before .before .before .before
 
 -- no loop start is passed with a mark
@@ -65,7 +65,7 @@ no-mark : (c : tie.Else1) → let a = entered (no-mark-at c) .args in
 no-mark c = rw (c .if1 .left) at (c .before .closes-marked .ensures)
 
 -- the place after the first search, from the place after the second
-abbrev second-at : tie.After-from-marks → tie.After-distances
+abbrev second-at : tie.After-from-marks → tie.After-distances-from
 second-at c = no-mark-at (c .before .before .before .before .before)
 
 -- the table after the second search
@@ -93,11 +93,11 @@ add-left c = search needs
 sub-left : tie.Need-sub-left
 sub-left c = search needs
 
-add-distances : tie.Need-add-distances
-add-distances c = search needs
+add-distances-from : tie.Need-add-distances-from
+add-distances-from c = search needs
 
-distances-requires : tie.Need-distances-requires
-distances-requires c κs =
+distances-from-requires : tie.Need-distances-from-requires
+distances-from-requires c κs =
     let s = c .before .before .before .before in
     let S = asked-sizes (asked (c .before)) in
     (s .pre .0 .valid, (s .pre .1 .1 .0, (omega arith, (omega arith, S .1))))
@@ -160,8 +160,8 @@ may-close-spec =
     number-requires
     add-left
     sub-left
-    add-distances
-    distances-requires
+    add-distances-from
+    distances-from-requires
     closes-marked-requires
     same-length
     returns

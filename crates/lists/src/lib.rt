@@ -1,0 +1,1 @@
+// Lists, options, tests, ranges and least numbers: definitions and laws, no code.

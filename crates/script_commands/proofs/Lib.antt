@@ -1,0 +1,2 @@
+-- The laws of a script's commands.
+pub mod CommandLaws

@@ -1,0 +1,2 @@
+-- The commands of a script.
+pub mod Commands
