@@ -2,7 +2,7 @@
 ghost use Rattle.std.specs.Prelude.{◌≡◌, ◌*◌, ◌≤◌, length};
 ghost use Rattle.std.proofs.Math.ListN;
 ghost use Rattle.model.specs.Values.{Valid};
-ghost use Rattle.model.specs.Model.{graphIn};
+ghost use Rattle.model.specs.Model.{graph_in};
 ghost use Rattle.candidates.specs.Promises.{RoundsReady};
 ghost use Rattle.begun.specs.Begun.{BegunSays, AllRoundsSay};
 
@@ -39,7 +39,7 @@ pub fn begin(
 ) -> Begun
     requires valid { Valid file.now h }
     requires states_in_bounds { 6 * h.states ≤ length work.old }
-    ensures says { BegunSays (graphIn file.now h) ceiling.0 allowance result }
+    ensures says { BegunSays (graph_in file.now h) ceiling.0 allowance result }
     ensures ready { RoundsReady file.now h work.new }
     ensures kept { length work.new ≡ length work.old }
 {
@@ -63,7 +63,7 @@ pub fn begin(
 pub fn all_rounds(file: &[u8], h: Header, work: &mut [u16]) -> AllRounds
     requires valid { Valid file.now h }
     requires states_in_bounds { 6 * h.states ≤ length work.old }
-    ensures says { AllRoundsSay (graphIn file.now h) result }
+    ensures says { AllRoundsSay (graph_in file.now h) result }
     ensures ready { RoundsReady file.now h work.new }
     ensures kept { length work.new ≡ length work.old }
 {

@@ -2,7 +2,7 @@
 // the frontier.
 ghost use Rattle.std.specs.Prelude.{◌*◌, ◌≤◌, ◌<◌, length};
 ghost use Rattle.model.specs.Values.{Valid};
-ghost use Rattle.model.specs.Model.{graphIn};
+ghost use Rattle.model.specs.Model.{graph_in};
 ghost use Rattle.table.specs.Changes.{SameOutside};
 ghost use Rattle.frontier.specs.Buckets.{HasPlan};
 ghost use Rattle.edge_search.specs.Promises.{ApartInPlan, SearchedFromPlan};
@@ -34,8 +34,8 @@ pub fn search_edges(
     requires limit_le_states { limit ≤ h.states }
     requires states_in_bounds { 6 * h.states ≤ length work.old }
     requires has_plan { HasPlan h.states limit work.old }
-    requires apart_in_plan { ApartInPlan (graphIn file.now h) limit target work.old }
-    ensures left { SearchedFromPlan (graphIn file.now h) limit target
+    requires apart_in_plan { ApartInPlan (graph_in file.now h) limit target work.old }
+    ensures left { SearchedFromPlan (graph_in file.now h) limit target
         work.old work.new result }
     ensures same { SameOutside (2 * h.states) (4 * h.states) work.old work.new }
 {

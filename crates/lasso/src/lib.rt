@@ -2,8 +2,8 @@
 // hand to each other. What they stand for is in specs/.
 ghost use Rattle.std.specs.Prelude.{◌≡◌, ◌+◌, ◌<◌};
 ghost use Rattle.lists.specs.Least;
-ghost use Rattle.lasso.specs.Rounds.{withRound};
-ghost use Rattle.lasso.specs.Values.{recordOf, bestOf, foundOf};
+ghost use Rattle.lasso.specs.Rounds.{with_round};
+ghost use Rattle.lasso.specs.Values.{record_of, best_of, found_of};
 
 // A count of transitions: the length of a path.
 #[derive(Drop)]
@@ -52,7 +52,7 @@ pub struct RoundRecord {
 
 // The lesser of the best so far and the length that a round found, where none counts as more than every length.
 pub fn lesser(best: Best, found: LengthFound) -> Best
-    ensures { bestOf result ≡ Least.lesser (bestOf best) (foundOf found) }
+    ensures { best_of result ≡ Least.lesser (best_of best) (found_of found) }
 {
     match found {
         LengthFound::None => best,
@@ -73,7 +73,7 @@ impl RoundRecord {
     // The record after one more round, given the length that it found.
     pub fn with_round(self, found: LengthFound) -> RoundRecord
         requires { self.done < 65535 }
-        ensures { recordOf result ≡ withRound (recordOf self) (foundOf found) }
+        ensures { record_of result ≡ with_round (record_of self) (found_of found) }
     {
         let best = self.best;
         RoundRecord {

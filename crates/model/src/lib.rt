@@ -2,7 +2,7 @@
 // The leaves speak of the graph that the file holds; those that are given the part of a row alone, of its numbers.
 ghost use Rattle.std.specs.Prelude.{◌≡◌, ◌<◌, length, get_or};
 ghost use Rattle.format.specs.Bytes.{words};
-ghost use Rattle.model.specs.Model.{graphIn, steps_of};
+ghost use Rattle.model.specs.Model.{graph_in, steps_of};
 ghost use Rattle.model.specs.Values.{naming, Valid};
 
 use format::{bit, mark_bytes, row, table_at, word};
@@ -44,7 +44,7 @@ pub enum Checked {
 pub fn row_part(file: &[u8], h: Header, s: usize) -> &[u8]
     requires valid { Valid file.now h }
     requires s_lt_states { s < h.states }
-    ensures { steps_of h s result.now ≡ (graphIn file.now h).succs s }
+    ensures { steps_of h s result.now ≡ (graph_in file.now h).succs s }
 {
     let states = h.states;
     row(file, states, s)
@@ -94,7 +94,7 @@ pub fn successor(part: &[u8], h: Header, s: usize, k: usize) -> usize
 pub fn is_marked(file: &[u8], h: Header, s: usize) -> bool
     requires valid { Valid file.now h }
     requires s_lt_states { s < h.states }
-    ensures { result ≡ (graphIn file.now h).marked s }
+    ensures { result ≡ (graph_in file.now h).marked s }
 {
     let states = h.states;
     let edges = h.edges;

@@ -3,9 +3,9 @@ use Rattle.std.specs.Prelude.{ℕ, ◌≡◌, Bool, true, false, List, [], take,
 use Rattle.lists.specs.Lists.{pick}
 
 -- the read failed: the answer is negative
-abbrev pub failedRead : ℤ → Bool
-failedRead (pos k) = false
-failedRead (negsuc k) = true
+abbrev pub failed_read : ℤ → Bool
+failed_read (pos k) = false
+failed_read (negsuc k) = true
 
 -- what counts as the input: an input that could not be read to its end, since a read failed, counts as empty
 abbrev pub input_of : (failed : Bool) (read : List ℕ) → List ℕ

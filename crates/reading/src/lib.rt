@@ -1,9 +1,9 @@
 // Reading an input from a descriptor. An error is not the end of the input. Each kind of input has a buffer of one size: one
 // byte more than the longest input has, so that no longer one passes for it, and no more is read than decides.
 ghost use Rattle.std.specs.Prelude.{◌≡◌, length, take};
-ghost use Rattle.numbers.specs.Limits.{fileBytes, lettersBytes, propertyBytes};
+ghost use Rattle.numbers.specs.Limits.{file_bytes, letters_bytes, property_bytes};
 ghost use Rattle.text.specs.Writing.{Within};
-ghost use Rattle.reading.specs.Reading.{failedRead, input_of, FirstBytes};
+ghost use Rattle.reading.specs.Reading.{failed_read, input_of, FirstBytes};
 
 // What was read: so many bytes at the front of the buffer, and whether a read failed before the end of the input.
 #[derive(Drop)]
@@ -14,7 +14,7 @@ pub struct Reading {
 
 // The read failed: C's answer is negative.
 fn has_failed(got: isize) -> bool
-    ensures { result ≡ failedRead got }
+    ensures { result ≡ failed_read got }
 {
     got < 0
 }
@@ -55,7 +55,7 @@ fn read_input(from: i32, buffer: &mut [u8]) -> Reading
 
 // Reads a model file.
 pub fn read_model(from: i32, buffer: &mut [u8]) -> Reading
-    requires { length buffer.old ≡ fileBytes }
+    requires { length buffer.old ≡ file_bytes }
     ensures { Within result.count buffer.new }
 {
     read_input(from, buffer)
@@ -63,7 +63,7 @@ pub fn read_model(from: i32, buffer: &mut [u8]) -> Reading
 
 // Reads the letters of a rule.
 pub fn read_letters(from: i32, buffer: &mut [u8]) -> Reading
-    requires { length buffer.old ≡ lettersBytes }
+    requires { length buffer.old ≡ letters_bytes }
     ensures { Within result.count buffer.new }
 {
     read_input(from, buffer)
@@ -71,7 +71,7 @@ pub fn read_letters(from: i32, buffer: &mut [u8]) -> Reading
 
 // Reads a property.
 pub fn read_property(from: i32, buffer: &mut [u8]) -> Reading
-    requires { length buffer.old ≡ propertyBytes }
+    requires { length buffer.old ≡ property_bytes }
     ensures { Within result.count buffer.new }
 {
     read_input(from, buffer)

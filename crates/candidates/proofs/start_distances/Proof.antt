@@ -3,15 +3,15 @@ use borrow.Author.Rules.{rules}
 use mathlib.Core.Path.{refl}
 use mathlib.Core.Logic.{inl}
 use native.Mathlib.Omega.{arith}
-use Rattle.model.proofs.Laws.{valid-sizes}
-use Rattle.candidates.proofs.DistanceLaws.{start-distances-put}
+use Rattle.model.proofs.Laws.{valid_sizes}
+use Rattle.candidates.proofs.DistanceLaws.{start_distances_put}
 use Rattle.candidates.proofs.start_distances.Statement.{statement}
 use Rattle.candidates.proofs.start_distances.Tie as tie
 
 distances-from-requires : tie.Need-distances-from-requires
 distances-from-requires c κs =
     let pre = c.before.before.before.requires in
-    let sizes = valid-sizes pre.0 in
+    let sizes = valid_sizes pre.0 in
     (pre.0, omega arith)
 
 mul-copy : tie.Need-overflow-mul-copy
@@ -30,7 +30,7 @@ returns : tie.Need-returns
 returns c =
     let copied = c.before.before in
     let found = copied.before.before.before.before in
-    start-distances-put refl refl found.distances-from.ensures copied.copy.ensures
+    start_distances_put refl refl found.distances-from.ensures copied.copy.ensures
 
 pub start-distances-spec : {M : Type 1} → statement M
 start-distances-spec =

@@ -4,16 +4,16 @@ use Prim.Native.Nat.{ℕ}
 use mathlib.Core.Path.{sym, ap, ap₂, ◌∙◌}
 use native.Mathlib.Omega.{arith}
 use borrow.Author.Rules.{rules}
-use Rattle.format.specs.Layout.{states, edge_count, totalOf}
-use Rattle.model.specs.Values.{checkWith}
-use Rattle.checking.proofs.HeadLaws.{HeadKept, head-kept, head-refuses}
-use Rattle.model.proofs.Laws.{header-numbers}
+use Rattle.format.specs.Layout.{states, edge_count, total_of}
+use Rattle.model.specs.Values.{check_with}
+use Rattle.checking.proofs.HeadLaws.{HeadKept, head_kept, head_refuses}
+use Rattle.model.proofs.Laws.{header_numbers}
 use Rattle.checking.proofs.check.Statement.{statement}
 use Rattle.checking.proofs.check.Tie as tie
 
 -- a file that keeps the rules 1 to 5, with its header
 head : (c : tie.After-head) → HeadKept c.before.before.before.before.args.file.now c.head.given.0.0
-head c = head-kept _ _ (sym c.before.before.check-head.ensures ∙ c.head.given.1)
+head c = head_kept _ _ (sym c.before.before.check-head.ensures ∙ c.head.given.1)
 
 check-head-requires : tie.Need-check-head-requires
 check-head-requires c κs = search rules
@@ -28,30 +28,30 @@ total-of-requires : tie.Need-total-of-requires
 total-of-requires c κs =
     let known = c.before in
     let h = head known in
-    omega (arith, header-numbers known.before.before.before.before.args.file.now h.header)
+    omega (arith, header_numbers known.before.before.before.before.args.file.now h.header)
 
 check-tables-requires : tie.Need-check-tables-requires
 check-tables-requires c κs =
     let known = c.before.before in
     let h = head known in (
       sym known.before.before.check-head.ensures ∙ known.head.given.1,
-      omega (arith, c.total_of.ensures, header-numbers known.before.before.before.before.args.file.now h.header),
+      omega (arith, c.total_of.ensures, header_numbers known.before.before.before.before.args.file.now h.header),
     )
 
 returns : tie.Need-returns
 returns c =
     let f = c.before.before.before.before.args.file.now in
     let answer = c.before.before.check-head in
-    answer.ensures ∙ head-refuses (totalOf (states f) (edge_count f)) 2 f _ (sym answer.ensures ∙ c.enum_told.given.1)
+    answer.ensures ∙ head_refuses (total_of (states f) (edge_count f)) 2 f _ (sym answer.ensures ∙ c.enum_told.given.1)
 
 returns-2 : tie.Need-returns-2
 returns-2 c =
     let at = c.before in
     let known = at.before.before in
     let f = known.before.before.before.before.args.file.now in
-    let numbers = header-numbers f (head known).header in
+    let numbers = header_numbers f (head known).header in
     c.check-tables.ensures
-    ∙ ap (λ (t : ℕ). checkWith t 2 f) (at.total_of.ensures ∙ ap₂ totalOf numbers.0 numbers.1)
+    ∙ ap (λ (t : ℕ). check_with t 2 f) (at.total_of.ensures ∙ ap₂ total_of numbers.0 numbers.1)
 
 pub check-spec : {M : Type 1} → statement M
 check-spec =

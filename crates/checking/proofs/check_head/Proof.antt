@@ -8,11 +8,11 @@ use mathlib.Core.List.{List}
 use borrow.Author.Tests.{lt-ltb, le-ltb, eq-eqb, ne_eqb}
 use lib.ListN.{length}
 use lib.Dec.{eqb}
-use Rattle.format.specs.Layout.{states, edge_count, start_of, staysWord}
-use Rattle.format.specs.Rules.{shortFile, badStates, badEdges, badStart, badStays, headRules}
-use Rattle.format.proofs.Reasons.{KeptTo, unheld-skipped}
-use Rattle.model.specs.Values.{headerOf}
-use Rattle.model.proofs.Answers.{held-refuses, none-accepts}
+use Rattle.format.specs.Layout.{states, edge_count, start_of, stays_word}
+use Rattle.format.specs.Rules.{short_file, bad_states, bad_edges, bad_start, bad_stays, head_rules}
+use Rattle.format.proofs.Reasons.{KeptTo, unheld_skipped}
+use Rattle.model.specs.Values.{header_of}
+use Rattle.model.proofs.Answers.{held_refuses, none_accepts}
 use borrow.Author.Rules.{rules}
 use Rattle.checking.proofs.check_head.Statement.{statement}
 use Rattle.checking.proofs.check_head.Tie as tie
@@ -38,40 +38,40 @@ abbrev checked : tie.Start → List ℕ
 checked c = c.args.file.now
 
 -- past each rule those after it decide
-kept-1 : (c : tie.Else1) → KeptTo 1 (headRules (checked (from1 c)))
-kept-1 c = let file = checked (from1 c) in unheld-skipped _ (shortFile file) 1 _ refl (le-ltb (length file) 24 (omega (arith, c.if1.false)))
+kept_1 : (c : tie.Else1) → KeptTo 1 (head_rules (checked (from1 c)))
+kept_1 c = let file = checked (from1 c) in unheld_skipped _ (short_file file) 1 _ refl (le-ltb (length file) 24 (omega (arith, c.if1.false)))
 
-kept-2 : (c : tie.Else3) → KeptTo 2 (headRules (checked (from2 c)))
-kept-2 c =
+kept_2 : (c : tie.Else3) → KeptTo 2 (head_rules (checked (from2 c)))
+kept_2 c =
     let file = checked (from2 c) in
-    let in-range : badStates file ≡ false = rw (ne_eqb (states file) 0 (omega arith), le-ltb 4096 (states file) (omega arith)) in
-    unheld-skipped _ (badStates file) 2 _ (kept-1 c.before.before.before.before.before) in-range
+    let in-range : bad_states file ≡ false = rw (ne_eqb (states file) 0 (omega arith), le-ltb 4096 (states file) (omega arith)) in
+    unheld_skipped _ (bad_states file) 2 _ (kept_1 c.before.before.before.before.before) in-range
 
-kept-3 : (c : tie.Else4) → KeptTo 3 (headRules (checked (from3 c)))
-kept-3 c =
+kept_3 : (c : tie.Else4) → KeptTo 3 (head_rules (checked (from3 c)))
+kept_3 c =
     let file = checked (from3 c) in
-    unheld-skipped _ (badEdges file) 3 _ (kept-2 c.before) (le-ltb 8192 (edge_count file) (omega arith))
+    unheld_skipped _ (bad_edges file) 3 _ (kept_2 c.before) (le-ltb 8192 (edge_count file) (omega arith))
 
-kept-4 : (c : tie.Else5) → KeptTo 4 (headRules (checked (from4 c)))
-kept-4 c =
+kept_4 : (c : tie.Else5) → KeptTo 4 (head_rules (checked (from4 c)))
+kept_4 c =
     let file = checked (from4 c) in
-    unheld-skipped _ (badStart file) 4 _ (kept-3 c.before) (rw (lt-ltb (start_of file) (states file) (omega arith)))
+    unheld_skipped _ (bad_start file) 4 _ (kept_3 c.before) (rw (lt-ltb (start_of file) (states file) (omega arith)))
 
-kept-5 : (c : tie.Else6) → KeptTo 5 (headRules (checked (from5 c)))
-kept-5 c =
+kept_5 : (c : tie.Else6) → KeptTo 5 (head_rules (checked (from5 c)))
+kept_5 c =
     let file = checked (from5 c) in
-    unheld-skipped _ (badStays file) 5 _ (kept-4 c.before.before) (le-ltb 1 (staysWord file) (omega arith))
+    unheld_skipped _ (bad_stays file) 5 _ (kept_4 c.before.before) (le-ltb 1 (stays_word file) (omega arith))
 
 -- the header that is made of the numbers read is the file's own
-header-told : (file : List ℕ) {n m i r : ℕ} → n ≡ states file → m ≡ edge_count file → i ≡ start_of file → r ≡ staysWord file
-    → record { states = n; edges = m; start = i; stays = eqb r 1; table = 0 } ≡ headerOf file 0
-header-told file en em ei er = λ i. record { states = en i; edges = em i; start = ei i; stays = eqb (er i) 1; table = 0 }
+header_told : (file : List ℕ) {n m i r : ℕ} → n ≡ states file → m ≡ edge_count file → i ≡ start_of file → r ≡ stays_word file
+    → record { states = n; edges = m; start = i; stays = eqb r 1; table = 0 } ≡ header_of file 0
+header_told file en em ei er = λ i. record { states = en i; edges = em i; start = ei i; stays = eqb (er i) 1; table = 0 }
 
 returns : tie.Need-returns
 returns c =
     let start = c.before.before in
     let file = checked start in
-    held-refuses (headRules file) (headerOf file 0) (shortFile file) 1 _ refl (lt-ltb (length file) 24 (omega (arith, c.if1.true)))
+    held_refuses (head_rules file) (header_of file 0) (short_file file) 1 _ refl (lt-ltb (length file) 24 (omega (arith, c.if1.true)))
 
 word-requires : tie.Need-word-requires
 word-requires c κs = search rules
@@ -87,26 +87,26 @@ returns-2 c =
     let first = c.before.before.before.before in
     let start = from1 first in
     let file = checked start in
-    held-refuses (headRules file) (headerOf file 0) (badStates file) 2 _ (kept-1 first) (rw (eq-eqb (states file) 0 (omega arith)))
+    held_refuses (head_rules file) (header_of file 0) (bad_states file) 2 _ (kept_1 first) (rw (eq-eqb (states file) 0 (omega arith)))
 
 returns-3 : tie.Need-returns-3
 returns-3 c =
     let first = c.before.before.before.before.before in
     let start = from1 first in
     let file = checked start in
-    held-refuses (headRules file) (headerOf file 0) (badStates file) 2 _ (kept-1 first) (rw (ne_eqb (states file) 0 (omega arith), lt-ltb 4096 (states file) (omega arith)))
+    held_refuses (head_rules file) (header_of file 0) (bad_states file) 2 _ (kept_1 first) (rw (ne_eqb (states file) 0 (omega arith), lt-ltb 4096 (states file) (omega arith)))
 
 returns-4 : tie.Need-returns-4
 returns-4 c =
     let start = from2 c.before in
     let file = checked start in
-    held-refuses (headRules file) (headerOf file 0) (badEdges file) 3 _ (kept-2 c.before) (lt-ltb 8192 (edge_count file) (omega arith))
+    held_refuses (head_rules file) (header_of file 0) (bad_edges file) 3 _ (kept_2 c.before) (lt-ltb 8192 (edge_count file) (omega arith))
 
 returns-5 : tie.Need-returns-5
 returns-5 c =
     let start = from3 c.before in
     let file = checked start in
-    held-refuses (headRules file) (headerOf file 0) (badStart file) 4 _ (kept-3 c.before) (rw (le-ltb (start_of file) (states file) (omega arith)))
+    held_refuses (head_rules file) (header_of file 0) (bad_start file) 4 _ (kept_3 c.before) (rw (le-ltb (start_of file) (states file) (omega arith)))
 
 word-requires-4 : tie.Need-word-requires-4
 word-requires-4 c κs = search rules
@@ -115,15 +115,15 @@ returns-6 : tie.Need-returns-6
 returns-6 c =
     let start = from4 c.before.before in
     let file = checked start in
-    held-refuses (headRules file) (headerOf file 0) (badStays file) 5 _ (kept-4 c.before.before) (lt-ltb 1 (staysWord file) (omega arith))
+    held_refuses (head_rules file) (header_of file 0) (bad_stays file) 5 _ (kept_4 c.before.before) (lt-ltb 1 (stays_word file) (omega arith))
 
 returns-7 : tie.Need-returns-7
 returns-7 c =
     let file = checked (from5 c) in
     let read = c.before.before.before.before.before.before in
-    none-accepts (headRules file) _ (headerOf file 0)
-    (header-told file read.before.before.word.ensures.0 read.before.word2.ensures.0 read.word3.ensures.0 c.before.word4.ensures.0)
-    (kept-5 c)
+    none_accepts (head_rules file) _ (header_of file 0)
+    (header_told file read.before.before.word.ensures.0 read.before.word2.ensures.0 read.word3.ensures.0 c.before.word4.ensures.0)
+    (kept_5 c)
 
 pub check-head-spec : {M : Type 1} → statement M
 check-head-spec =

@@ -10,15 +10,15 @@ use lib.ListN.{length}
 use Prim.Native.Nat.{ℕ}
 use Rattle.format.specs.Bytes.{long}
 use Rattle.format.specs.Layout.{HasTables}
-use Rattle.format.specs.Rules.{badOffsets, badLength, badRows, badTargets, bad_order, badSpare, Reason, rulesWith}
-use Rattle.lists.proofs.Fails.{false-not}
-use Rattle.format.proofs.Reasons.{KeptTo, unheld-skipped}
+use Rattle.format.specs.Rules.{bad_offsets, bad_length, bad_rows, bad_targets, bad_order, bad_spare, Reason, rules_with}
+use Rattle.lists.proofs.Fails.{false_not}
+use Rattle.format.proofs.Reasons.{KeptTo, unheld_skipped}
 use Rattle.model.specs.declared.Header.{Header}
-use Rattle.model.specs.Values.{headerOf}
-use Rattle.model.proofs.Answers.{held-refuses, none-accepts}
-use Rattle.format.proofs.Kept.{length-kept}
-use Rattle.checking.proofs.HeadLaws.{HeadKept, head-kept, head-decides}
-use Rattle.model.proofs.Laws.{header-numbers}
+use Rattle.model.specs.Values.{header_of}
+use Rattle.model.proofs.Answers.{held_refuses, none_accepts}
+use Rattle.format.proofs.Kept.{length_kept}
+use Rattle.checking.proofs.HeadLaws.{HeadKept, head_kept, head_decides}
+use Rattle.model.proofs.Laws.{header_numbers}
 use Rattle.checking.proofs.check_tables.Statement.{statement}
 use Rattle.checking.proofs.check_tables.Tie as tie
 
@@ -43,62 +43,62 @@ abbrev checked : tie.Start → List ℕ
 checked c = c.args.file.now
 
 -- the total length that it is to have with one mark table
-abbrev totalFor : tie.Start → ℕ
-totalFor c = c.args.total
+abbrev total_for : tie.Start → ℕ
+total_for c = c.args.total
 
 -- the most mark tables that it may have
-abbrev tablesFor : tie.Start → ℕ
-tablesFor c = c.args.tables
+abbrev tables_for : tie.Start → ℕ
+tables_for c = c.args.tables
 
 -- the reasons for its kind of file
 abbrev reasons : tie.Start → List Reason
-reasons c = rulesWith (totalFor c) (tablesFor c) (checked c)
+reasons c = rules_with (total_for c) (tables_for c) (checked c)
 
 -- the test of rule 6
-abbrev offsetsTest : tie.Start → Bool
-offsetsTest c = badOffsets (totalFor c) (tablesFor c) (checked c)
+abbrev offsets_test : tie.Start → Bool
+offsets_test c = bad_offsets (total_for c) (tables_for c) (checked c)
 
 -- the header that it has
 abbrev own : tie.Start → Header
-own c = headerOf (checked c) 0
+own c = header_of (checked c) 0
 
 -- the rules 1 to 5 are kept
-headKept : (c : tie.Start) → HeadKept (checked c) c.args.h
-headKept c = head-kept (checked c) c.args.h c.requires.0
+head_kept_here : (c : tie.Start) → HeadKept (checked c) c.args.h
+head_kept_here c = head_kept (checked c) c.args.h c.requires.0
 
 -- past rule 6 its test is false
-offsets-kept : (c : tie.Else1) → offsetsTest (from6 c) ≡ false
-offsets-kept c = sym c.before.offsets-broken.ensures ∙ c.if1.false
+offsets_kept : (c : tie.Else1) → offsets_test (from6 c) ≡ false
+offsets_kept c = sym c.before.offsets-broken.ensures ∙ c.if1.false
 
 -- past rule 7 its test is false
-own-length-kept : (c : tie.Else2) → badLength (checked (from7 c)) ≡ false
-own-length-kept c =
+own_length_kept : (c : tie.Else2) → bad_length (checked (from7 c)) ≡ false
+own_length_kept c =
     let file = checked (from7 c) in
     rw (eq-eqb (length file) (long file 20) (omega arith))
 
 -- past rule 8 its test is false
-rows-kept : (c : tie.Else3) → badRows (checked (from8 c)) ≡ false
-rows-kept c = sym c.before.rows-broken.ensures ∙ c.if3.false
+rows_kept : (c : tie.Else3) → bad_rows (checked (from8 c)) ≡ false
+rows_kept c = sym c.before.rows-broken.ensures ∙ c.if3.false
 
 -- past each rule those after it decide
-kept-6 : (c : tie.Else1) → KeptTo 6 (reasons (from6 c))
-kept-6 c =
+kept_6 : (c : tie.Else1) → KeptTo 6 (reasons (from6 c))
+kept_6 c =
     let start = from6 c in
-    unheld-skipped _ (offsetsTest start) 6 _ (head-decides (headKept start) (totalFor start) (tablesFor start)) (offsets-kept c)
+    unheld_skipped _ (offsets_test start) 6 _ (head_decides (head_kept_here start) (total_for start) (tables_for start)) (offsets_kept c)
 
-kept-7 : (c : tie.Else2) → KeptTo 7 (reasons (from7 c))
-kept-7 c = unheld-skipped _ (badLength (checked (from7 c))) 7 _ (kept-6 c.before.before) (own-length-kept c)
+kept_7 : (c : tie.Else2) → KeptTo 7 (reasons (from7 c))
+kept_7 c = unheld_skipped _ (bad_length (checked (from7 c))) 7 _ (kept_6 c.before.before) (own_length_kept c)
 
-kept-8 : (c : tie.Else3) → KeptTo 8 (reasons (from8 c))
-kept-8 c = unheld-skipped _ (badRows (checked (from8 c))) 8 _ (kept-7 c.before.before) (rows-kept c)
+kept_8 : (c : tie.Else3) → KeptTo 8 (reasons (from8 c))
+kept_8 c = unheld_skipped _ (bad_rows (checked (from8 c))) 8 _ (kept_7 c.before.before) (rows_kept c)
 
-kept-9 : (c : tie.Else4) → KeptTo 9 (reasons (from9 c))
-kept-9 c =
-    unheld-skipped _ (badTargets (checked (from9 c))) 9 _ (kept-8 c.before.before) (sym c.before.targets-broken.ensures ∙ c.if4.false)
+kept_9 : (c : tie.Else4) → KeptTo 9 (reasons (from9 c))
+kept_9 c =
+    unheld_skipped _ (bad_targets (checked (from9 c))) 9 _ (kept_8 c.before.before) (sym c.before.targets-broken.ensures ∙ c.if4.false)
 
-kept-10 : (c : tie.Else5) → KeptTo 10 (reasons (from10 c))
-kept-10 c =
-    unheld-skipped _ (bad_order (checked (from10 c))) 10 _ (kept-9 c.before.before) (sym c.before.order-broken.ensures ∙ c.if5.false)
+kept_10 : (c : tie.Else5) → KeptTo 10 (reasons (from10 c))
+kept_10 c =
+    unheld_skipped _ (bad_order (checked (from10 c))) 10 _ (kept_9 c.before.before) (sym c.before.order-broken.ensures ∙ c.if5.false)
 
 -- past rule 7 the file has room for the tables of its header
 sized : (c : tie.Else2) →
@@ -106,30 +106,30 @@ sized : (c : tie.Else2) →
     HasTables (checked (from7 c)) h.states h.edges
 sized c =
     let file = checked (from7 c) in
-    let head = headKept (from7 c) in
-    let numbers = header-numbers file head.header in
+    let head = head_kept_here (from7 c) in
+    let numbers = header_numbers file head.header in
     let start = from7 c in
-    let long = length-kept (totalFor start) (tablesFor start) file (false-not (offsetsTest start) (offsets-kept c.before.before)) (false-not (badLength file) (own-length-kept c)) in
+    let long = length_kept (total_for start) (tables_for start) file (false_not (offsets_test start) (offsets_kept c.before.before)) (false_not (bad_length file) (own_length_kept c)) in
     omega arith
 
 offsets-broken-requires : tie.Need-offsets-broken-requires
 offsets-broken-requires c κs =
-    let head = headKept c.before in
-    omega (arith, header-numbers (checked c.before) head.header)
+    let head = head_kept_here c.before in
+    omega (arith, header_numbers (checked c.before) head.header)
 
 returns : tie.Need-returns
 returns c =
     let start = c.before.before.before in
-    held-refuses (reasons start) (own start) (offsetsTest start) 6 _ (head-decides (headKept start) (totalFor start) (tablesFor start)) (sym c.before.offsets-broken.ensures ∙ c.if1.true)
+    held_refuses (reasons start) (own start) (offsets_test start) 6 _ (head_decides (head_kept_here start) (total_for start) (tables_for start)) (sym c.before.offsets-broken.ensures ∙ c.if1.true)
 
 long-requires : tie.Need-long-requires
-long-requires c κs = omega (arith, (headKept (from6 c)).long-enough)
+long-requires c κs = omega (arith, (head_kept_here (from6 c)).long_enough)
 
 returns-2 : tie.Need-returns-2
 returns-2 c =
     let start = from6 c.before.before in
     let file = checked start in
-    held-refuses (reasons start) (own start) (badLength file) 7 _ (kept-6 c.before.before) (rw (ne_eqb (length file) (long file 20) (omega arith)))
+    held_refuses (reasons start) (own start) (bad_length file) 7 _ (kept_6 c.before.before) (rw (ne_eqb (length file) (long file 20) (omega arith)))
 
 rows-broken-requires : tie.Need-rows-broken-requires
 rows-broken-requires c κs = sized c
@@ -138,7 +138,7 @@ returns-3 : tie.Need-returns-3
 returns-3 c =
     let start = from7 c.before.before in
     let file = checked start in
-    held-refuses (reasons start) (own start) (badRows file) 8 _ (kept-7 c.before.before) (sym c.before.rows-broken.ensures ∙ c.if3.true)
+    held_refuses (reasons start) (own start) (bad_rows file) 8 _ (kept_7 c.before.before) (sym c.before.rows-broken.ensures ∙ c.if3.true)
 
 targets-broken-requires : tie.Need-targets-broken-requires
 targets-broken-requires c κs = sized c.before.before
@@ -147,17 +147,17 @@ returns-4 : tie.Need-returns-4
 returns-4 c =
     let start = from8 c.before.before in
     let file = checked start in
-    held-refuses (reasons start) (own start) (badTargets file) 9 _ (kept-8 c.before.before) (sym c.before.targets-broken.ensures ∙ c.if4.true)
+    held_refuses (reasons start) (own start) (bad_targets file) 9 _ (kept_8 c.before.before) (sym c.before.targets-broken.ensures ∙ c.if4.true)
 
 order-broken-requires : tie.Need-order-broken-requires
 order-broken-requires c κs =
-    (sized c.before.before.before.before, rows-kept c.before.before)
+    (sized c.before.before.before.before, rows_kept c.before.before)
 
 returns-5 : tie.Need-returns-5
 returns-5 c =
     let start = from9 c.before.before in
     let file = checked start in
-    held-refuses (reasons start) (own start) (bad_order file) 10 _ (kept-9 c.before.before) (sym c.before.order-broken.ensures ∙ c.if5.true)
+    held_refuses (reasons start) (own start) (bad_order file) 10 _ (kept_9 c.before.before) (sym c.before.order-broken.ensures ∙ c.if5.true)
 
 spare-set-requires : tie.Need-spare-set-requires
 spare-set-requires c κs = (sized c.before.before.before.before.before.before, omega (arith, (from10 c).requires.1))
@@ -166,14 +166,14 @@ returns-6 : tie.Need-returns-6
 returns-6 c =
     let start = from10 c.before.before in
     let file = checked start in
-    held-refuses (reasons start) (own start) (badSpare (tablesFor start) file) 11 _ (kept-10 c.before.before) (sym c.before.spare-set.ensures ∙ c.if6.true)
+    held_refuses (reasons start) (own start) (bad_spare (tables_for start) file) 11 _ (kept_10 c.before.before) (sym c.before.spare-set.ensures ∙ c.if6.true)
 
 returns-7 : tie.Need-returns-7
 returns-7 c =
     let start = from10 c.before.before in
     let file = checked start in
-    none-accepts (reasons start) start.args.h (own start) (headKept start).header
-    (unheld-skipped _ (badSpare (tablesFor start) file) 11 none (kept-10 c.before.before) (sym c.before.spare-set.ensures ∙ c.if6.false))
+    none_accepts (reasons start) start.args.h (own start) (head_kept_here start).header
+    (unheld_skipped _ (bad_spare (tables_for start) file) 11 none (kept_10 c.before.before) (sym c.before.spare-set.ensures ∙ c.if6.false))
 
 pub check-tables-spec : {M : Type 1} → statement M
 check-tables-spec =

@@ -11,13 +11,13 @@ use borrow.Author.Rules.{rules}
 use Rattle.lists.specs.Lists.{pick}
 use Rattle.writer.specs.File.{worth}
 use Rattle.writer.proofs.FileLaws.{worth-below}
-use Rattle.combine_graph.specs.Combined.{pairMark}
+use Rattle.combine_graph.specs.Combined.{pair_mark}
 use Rattle.combine_marks.proofs.mark_byte.Statement.{statement}
 use Rattle.combine_marks.proofs.mark_byte.Tie as tie
 
 -- whether bit j of the byte at a place is set
 abbrev set_at : (p : List ℕ) (n b : ℕ) → ℕ → Bool
-set_at p n b j = pairMark p n (8 * b + j)
+set_at p n b j = pair_mark p n (8 * b + j)
 
 abbrev invariant-loop : tie.invariant-loop
 invariant-loop property k states b byte₀ weight₀ j₀ byte weight j =

@@ -4,16 +4,16 @@ use mathlib.Core.Path.{◌≡◌, sym, ap, ◌∙◌}
 use mathlib.Core.List.{[], ◌∷◌, map}
 use native.Mathlib.Omega.{arith}
 use Rattle.lists.specs.Lists.{below}
-use Rattle.lists.proofs.BelowLaws.{map-below-length, map-below-next}
+use Rattle.lists.proofs.BelowLaws.{map-below-length, map-below_next}
 use Rattle.text.specs.Writing.{Wrote}
-use Rattle.text.proofs.WroteLaws.{wrote-length, wrote_none, wrote_then, wrote_as}
-use Rattle.combine_graph.specs.Combined.{pairMarkByte}
+use Rattle.text.proofs.WroteLaws.{wrote_length, wrote_none, wrote_then, wrote_as}
+use Rattle.combine_graph.specs.Combined.{pair_mark_byte}
 use Rattle.combine_marks.proofs.write_marks.Statement.{statement}
 use Rattle.combine_marks.proofs.write_marks.Tie as tie
 
 abbrev invariant-loop : tie.invariant-loop
 invariant-loop out₀ at property k states count next₀ b₀ out next b =
-    (b ≤ count) × Wrote out₀ at (map (pairMarkByte property states) (below b)) out next
+    (b ≤ count) × Wrote out₀ at (map (pair_mark_byte property states) (below b)) out next
 
 abbrev decreases-loop : tie.decreases-loop
 decreases-loop out₀ at property k states count next₀ b₀ out next b = count - b
@@ -38,16 +38,16 @@ cast-write-byte c = omega (arith, c.before.mark-byte.ensures.1)
 write-byte-requires : tie.Need-write-byte-requires invariant-loop decreases-loop
 write-byte-requires c κs =
     let in-loop = c.before.before in
-    let at-loop = in-loop.before in
-    let told = at-loop.before in
+    let at_loop = in-loop.before in
+    let told = at_loop.before in
     let start = told.before.before.before in
-    let w = at-loop.loop.invariant.1 in
-    let f = pairMarkByte start.args.property.now start.args.states in
+    let w = at_loop.loop.invariant.1 in
+    let f = pair_mark_byte start.args.property.now start.args.states in
     omega (
       arith,
       w.place,
-      wrote-length w,
-      map-below-length f at-loop.loop.b,
+      wrote_length w,
+      map-below-length f at_loop.loop.b,
       in-loop.loop-test.true,
       told.mark-bytes.ensures,
       start.requires.1.1,
@@ -63,25 +63,25 @@ loop-again : tie.Need-loop-preserved invariant-loop decreases-loop
 loop-again c =
     let wrote = c.before.before in
     let byte = wrote.before.before in
-    let at-loop = byte.before.before in
-    let start = at-loop.before.before.before.before in
-    let f = pairMarkByte start.args.property.now start.args.states in (
+    let at_loop = byte.before.before in
+    let start = at_loop.before.before.before.before in
+    let f = pair_mark_byte start.args.property.now start.args.states in (
       omega arith,
-      wrote_as (sym (map-below-next f at-loop.loop.b))
-          (wrote_then at-loop.loop.invariant.1
+      wrote_as (sym (map-below_next f at_loop.loop.b))
+          (wrote_then at_loop.loop.invariant.1
           (wrote_as (ap (λ (x : ℕ). x ∷ []) byte.mark-byte.ensures.0) wrote.write_byte.ensures)),
     )
 
 same_length : tie.Need-same-length invariant-loop decreases-loop
-same_length c = wrote-length c.before.loop.invariant.1
+same_length c = wrote_length c.before.loop.invariant.1
 
 returns : tie.Need-returns invariant-loop decreases-loop
 returns c =
-    let at-loop = c.before in
-    let start = at-loop.before.before.before.before in
-    let f = pairMarkByte start.args.property.now start.args.states in
-    let all : at-loop.loop.b ≡ at-loop.before.mark-bytes.result = omega (arith, c.loop-test.false, at-loop.loop.invariant.0) in
-    wrote_as (ap (λ (n : ℕ). map f (below n)) (all ∙ at-loop.before.mark-bytes.ensures)) at-loop.loop.invariant.1
+    let at_loop = c.before in
+    let start = at_loop.before.before.before.before in
+    let f = pair_mark_byte start.args.property.now start.args.states in
+    let all : at_loop.loop.b ≡ at_loop.before.mark-bytes.result = omega (arith, c.loop-test.false, at_loop.loop.invariant.0) in
+    wrote_as (ap (λ (n : ℕ). map f (below n)) (all ∙ at_loop.before.mark-bytes.ensures)) at_loop.loop.invariant.1
 
 pub write-marks-spec : {M : Type 1} → statement M
 write-marks-spec =

@@ -6,10 +6,10 @@ use borrow.Author.Rules.{rules}
 use lib.ListN.{length}
 use Rattle.format.specs.Bytes.{word}
 use Rattle.text.specs.Writing.{Wrote}
-use Rattle.text.proofs.WroteLaws.{wrote-length, wrote_none, wrote_as}
+use Rattle.text.proofs.WroteLaws.{wrote_length, wrote_none, wrote_as}
 use Rattle.writer.specs.File.{words16}
 use Rattle.combine_row.specs.Row.{copied}
-use Rattle.combine_row.proofs.CopyLaws.{word-before, copied-bytes, wrote-copied}
+use Rattle.combine_row.proofs.CopyLaws.{word_before, copied_bytes, wrote_copied}
 use Rattle.combine_row.proofs.copy_block.Statement.{statement}
 use Rattle.combine_row.proofs.copy_block.Tie as tie
 
@@ -21,16 +21,16 @@ decreases-loop out₀ at from count base other next₀ j₀ out next j = count -
 
 -- what a turn reads stood there at the start, is at least base, and fits with base replaced
 entry : (c : tie.After-word invariant-loop decreases-loop) →
-    let at-loop = c.before.before.before in
-    let a = at-loop.before.before.args in
-    let x = word a.out.now (a.from + 2 * at-loop.loop.j) in
+    let at_loop = c.before.before.before in
+    let a = at_loop.before.before.args in
+    let x = word a.out.now (a.from + 2 * at_loop.loop.j) in
     (c.word.result ≡ x) × (a.base ≤ x) × (a.other + (x - a.base) < 65536)
 entry c =
-    let at-loop = c.before.before.before in
-    let start = at-loop.before.before in
-    let i = start.args.from + 2 * at-loop.loop.j in
-    let fits = start.requires.1 at-loop.loop.j (omega arith) in
-    (c.word.ensures.0 ∙ word-before i (omega arith) at-loop.loop.invariant.1, fits.0, fits.1)
+    let at_loop = c.before.before.before in
+    let start = at_loop.before.before in
+    let i = start.args.from + 2 * at_loop.loop.j in
+    let fits = start.requires.1 at_loop.loop.j (omega arith) in
+    (c.word.ensures.0 ∙ word_before i (omega arith) at_loop.loop.invariant.1, fits.0, fits.1)
 
 -- where all numbers have room, the next one has
 room : (c : tie.In-loop invariant-loop decreases-loop) →
@@ -38,7 +38,7 @@ room : (c : tie.In-loop invariant-loop decreases-loop) →
 room c =
     let a = c.before.before.before.args in
     let w = c.before.loop.invariant.1 in
-    omega (arith, w.place, wrote-length w, copied-bytes a.out.now a.from a.base a.other c.before.loop.j)
+    omega (arith, w.place, wrote_length w, copied_bytes a.out.now a.from a.base a.other c.before.loop.j)
 
 loop-holds : tie.Need-loop-init invariant-loop decreases-loop
 loop-holds c = (omega arith, wrote_none c.before.args.out.now c.before.args.at (omega arith))
@@ -71,14 +71,14 @@ loop-again : tie.Need-loop-preserved invariant-loop decreases-loop
 loop-again c =
     let done = c.before.before in
     let read = done.before.before in
-    let at-loop = read.before.before.before in
-    let a = at-loop.before.before.args in
+    let at_loop = read.before.before.before in
+    let a = at_loop.before.before.args in
     let x = a.other + (read.word.result - a.base) in
     let e = ap (λ t. a.other + (t - a.base)) (entry read).0 in
-    (omega arith, wrote-copied a.out.now a.from a.base a.other at-loop.loop.j x e at-loop.loop.invariant.1 done.write_word.ensures)
+    (omega arith, wrote_copied a.out.now a.from a.base a.other at_loop.loop.j x e at_loop.loop.invariant.1 done.write_word.ensures)
 
 same_length : tie.Need-same-length invariant-loop decreases-loop
-same_length c = wrote-length c.before.loop.invariant.1
+same_length c = wrote_length c.before.loop.invariant.1
 
 returns : tie.Need-returns invariant-loop decreases-loop
 returns c =

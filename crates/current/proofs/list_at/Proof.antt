@@ -2,7 +2,7 @@
 use mathlib.Core.Path.{sym, ◌∙◌}
 use native.Mathlib.Omega.{arith}
 use borrow.Author.Rules.{rules}
-use Rattle.current.proofs.CurrentLaws.{list-place}
+use Rattle.current.proofs.CurrentLaws.{list_place}
 use Rattle.current.proofs.list_at.Statement.{statement}
 use Rattle.current.proofs.list_at.Tie as tie
 
@@ -18,7 +18,7 @@ get-requires c κs = search rules
 returns-2 : tie.Need-returns-2
 returns-2 c =
     let a = c.before.before.before.args in
-    c.get.ensures.0 ∙ sym (list-place a.h.start a.work.now a.place (omega arith))
+    c.get.ensures.0 ∙ sym (list_place a.h.start a.work.now a.place (omega arith))
 
 pub list-at-spec : {M : Type 1} → statement M
 list-at-spec = tie.close (tie.spec returns sub-get get-requires returns-2)

@@ -6,7 +6,7 @@ use native.Mathlib.Omega.{arith}
 use borrow.Author.Count.{below_more}
 use borrow.Author.Rules.{rules}
 use lib.ListN.{get_or}
-use Rattle.current.proofs.CurrentLaws.{loopStart-is, before_last}
+use Rattle.current.proofs.CurrentLaws.{loop_start_is, before_last}
 use Rattle.current.proofs.loop_start.Statement.{statement}
 use Rattle.current.proofs.loop_start.Tie as tie
 
@@ -30,21 +30,21 @@ list-at-requires-2 : tie.Need-list-at-requires-2 invariant-loop decreases-loop
 list-at-requires-2 c κs = omega (arith, c.before.before.number.ensures)
 
 -- a place that does not hold the last state is before the last
-before-end : (c : tie.Then1 invariant-loop decreases-loop) → c.before.before.loop.k < c.before.before.before.before.number.result
-before-end c =
+before_end : (c : tie.Then1 invariant-loop decreases-loop) → c.before.before.loop.k < c.before.before.before.before.number.result
+before_end c =
     let a = c.before.before.before.before.before.before.args in
     before_last (a.h.start ∷ a.work.now) c.before.before.loop.k c.before.before.before.before.number.result _ _ c.before.before.loop.invariant.0
     c.before.list-at2.ensures c.before.before.before.list_at.ensures (omega (arith, c.if1.true))
 
 add-k : tie.Need-overflow-add-k invariant-loop decreases-loop
-add-k c = omega (arith, before-end c)
+add-k c = omega (arith, before_end c)
 
 loop-less : tie.Need-loop-smaller invariant-loop decreases-loop
-loop-less c = omega (arith, before-end c)
+loop-less c = omega (arith, before_end c)
 
 loop-again : tie.Need-loop-preserved invariant-loop decreases-loop
 loop-again c = (
-  omega (arith, before-end c),
+  omega (arith, before_end c),
   below_more _ _ c.before.before.loop.invariant.1 (λ e. omega (arith, c.if1.true, c.before.list-at2.ensures, e)),
 )
 
@@ -54,7 +54,7 @@ returns c =
     let end = c.before.before.before.before.number in
     let last = c.before.before.before.list_at.ensures in
     let (within, before) = c.before.before.loop.invariant in (
-      rw end.ensures at (loopStart-is s.args.h.start s.args.work.now end.result _ (omega (arith, s.requires, end.ensures)) within
+      rw end.ensures at (loop_start_is s.args.h.start s.args.work.now end.result _ (omega (arith, s.requires, end.ensures)) within
           (omega (arith, c.before.list-at2.ensures, c.if1.false, last))
           (λ i less e. before i less (e ∙ sym last))),
       omega (arith, within, end.ensures),

@@ -4,7 +4,7 @@ use mathlib.Core.Path.{◌≡◌, refl, ◌∙◌, ap}
 use mathlib.Core.List.{List, ◌∷◌, ◌++◌}
 use native.Mathlib.Omega.{arith}
 use lib.ListN.{length, take, drop, length-drop}
-use Rattle.current.proofs.CurrentLaws.{front-store, front_length, entries_fit}
+use Rattle.current.proofs.CurrentLaws.{front_store, front_length, entries_fit}
 use Rattle.current.proofs.write_part.Statement.{statement}
 use Rattle.current.proofs.write_part.Tie as tie
 
@@ -55,7 +55,7 @@ loop-again c =
     let a = c.before.before.before.before.before.before.args in
     let xs : List ℕ = a.h.start ∷ a.work.now in (
       omega arith,
-      front-store xs a.part.now _ a.from c.before.before.before.loop.i _ c.before.before.before.loop.invariant.1
+      front_store xs a.part.now _ a.from c.before.before.before.loop.i _ c.before.before.before.loop.invariant.1
           c.list_at.ensures (omega arith) (omega arith),
     )
 

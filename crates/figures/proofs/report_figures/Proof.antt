@@ -3,7 +3,7 @@ use Prim.Native.Nat.{◌-◌, ◌≤◌}
 use mathlib.Core.Path.{◌≡◌, refl, ◌∙◌}
 use native.Mathlib.Omega.{arith}
 use lib.ListN.{length, take, drop, length-set}
-use Rattle.figures.proofs.ReportLaws.{figure-more, figures-written}
+use Rattle.figures.proofs.ReportLaws.{figure_more, figures_written}
 use Rattle.figures.proofs.report_figures.Statement.{statement}
 use Rattle.figures.proofs.report_figures.Tie as tie
 
@@ -40,7 +40,7 @@ loop-again c =
     let at = c.before.before in
     let a = at.before.args in
     let l = at.loop in
-    let more = figure-more a.figures.now a.out.now l.out l.i (omega arith) (omega arith) l.invariant.2 l.invariant.3 in
+    let more = figure_more a.figures.now a.out.now l.out l.i (omega arith) (omega arith) l.invariant.2 l.invariant.3 in
     (omega arith, length-set l.out l.i _ ∙ l.invariant.1, more.0, more.1)
 
 same_length : tie.Need-same-length invariant-loop decreases-loop
@@ -50,7 +50,7 @@ returns : tie.Need-returns invariant-loop decreases-loop
 returns c =
     let l = c.before.loop in
     let a = c.before.before.args in
-    (refl, figures-written a.figures.now a.out.now l.out l.i (omega arith) l.invariant.2 l.invariant.3)
+    (refl, figures_written a.figures.now a.out.now l.out l.i (omega arith) l.invariant.2 l.invariant.3)
 
 pub report-figures-spec : {M : Type 1} → statement M
 report-figures-spec =

@@ -1,5 +1,5 @@
 -- `report_record` meets its contract: three figures, whether there is a best length or not.
-use Rattle.figures.proofs.ReportLaws.{record-known}
+use Rattle.figures.proofs.ReportLaws.{record_known}
 use borrow.Author.Rules.{rules}
 use Rattle.figures.proofs.report_record.Statement.{statement}
 use Rattle.figures.proofs.report_record.Tie as tie
@@ -30,7 +30,7 @@ returns c =
     let done = c.before.before in
     let told = done.before.before.before in
     let a = told.before.before.before.args in
-    (done.report-figures.ensures.0, record-known a.out.now a.r.done told.enum_told.given.1 done.report-figures.ensures.1)
+    (done.report-figures.ensures.0, record_known a.out.now a.r.done told.enum_told.given.1 done.report-figures.ensures.1)
 
 same-length-2 : tie.Need-same-length-2
 same-length-2 c = search rules
@@ -40,7 +40,7 @@ returns-2 c =
     let done = c.before.before in
     let told = done.before.before.before.before in
     let a = told.before.before.before.args in
-    (done.report-figures2.ensures.0, record-known a.out.now a.r.done told.best.given.1 done.report-figures2.ensures.1)
+    (done.report-figures2.ensures.0, record_known a.out.now a.r.done told.best.given.1 done.report-figures2.ensures.1)
 
 pub report-record-spec : {M : Type 1} → statement M
 report-record-spec =

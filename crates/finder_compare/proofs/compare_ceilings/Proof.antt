@@ -7,10 +7,10 @@ use Rattle.finder_compare.proofs.compare_ceilings.Statement.{statement}
 use Rattle.finder_compare.proofs.compare_ceilings.Tie as tie
 
 abbrev invariant-loop : tie.invariant-loop
-invariant-loop m t file markTable tally₀ end ceiling₀ tally ceiling = (ceiling ≤ end) × (length tally ≡ length tally₀)
+invariant-loop m t file mark_table tally₀ end ceiling₀ tally ceiling = (ceiling ≤ end) × (length tally ≡ length tally₀)
 
 abbrev decreases-loop : tie.decreases-loop
-decreases-loop m t file markTable tally₀ end ceiling₀ tally ceiling = end - ceiling
+decreases-loop m t file mark_table tally₀ end ceiling₀ tally ceiling = end - ceiling
 
 cast-end : tie.Need-overflow-cast-end invariant-loop decreases-loop
 cast-end c = search rules

@@ -8,9 +8,9 @@ use borrow.Author.Rules.{rules}
 use Rattle.frontier.specs.Regions.{queued}
 use Rattle.frontier.specs.Search.{State}
 use Rattle.table.specs.Changes.{SameOutside}
-use Rattle.table.proofs.Laws.{sameOutside-refl, sameOutside-trans}
-use Rattle.frontier.proofs.PushLaws.{queue-room, reach-outside}
-use Rattle.frontier.proofs.AdmitLaws.{Admitting, admitting-start, admitting-falls, admitting-step, admitting-done}
+use Rattle.table.proofs.Laws.{same_outside_refl, same_outside_trans}
+use Rattle.frontier.proofs.PushLaws.{queue_room, reach_outside}
+use Rattle.frontier.proofs.AdmitLaws.{Admitting, admitting_start, admitting_falls, admitting_step, admitting_done}
 use Rattle.frontier.proofs.admit.Statement.{statement}
 use Rattle.frontier.proofs.admit.Tie as tie
 
@@ -33,7 +33,7 @@ walk : (c : tie.At-loop invariant-loop decreases-loop) →
 walk c succs limit target origin at l S =
     let a = c.before.before.before.before.args in
     c.loop.invariant.2 succs limit target origin at
-    (subst (λ (x : ℕ). Admitting a.n succs limit target origin a.level at (queued a.n a.tail) x a.work.now) (sym c.before.get.ensures.0) (admitting-start l S))
+    (subst (λ (x : ℕ). Admitting a.n succs limit target origin a.level at (queued a.n a.tail) x a.work.now) (sym c.before.get.ensures.0) (admitting_start l S))
 
 -- the walk at the loop's head, for the search that the contract asks for
 held : (c : tie.At-loop invariant-loop decreases-loop) →
@@ -58,7 +58,7 @@ get-requires : tie.Need-get-requires invariant-loop decreases-loop
 get-requires c κs = search rules
 
 loop-holds : tie.Need-loop-init invariant-loop decreases-loop
-loop-holds c = (sameOutside-refl _ _ _, omega arith, λ succs limit target origin at A. A)
+loop-holds c = (same_outside_refl _ _ _, omega arith, λ succs limit target origin at A. A)
 
 sub-s : tie.Need-overflow-sub-s invariant-loop decreases-loop
 sub-s c = search rules
@@ -66,7 +66,7 @@ sub-s c = search rules
 reach-requires : tie.Need-reach-requires invariant-loop decreases-loop
 reach-requires c κs =
     let A = held c.before.before in
-    (omega arith, (omega (arith, A.within), (omega (arith, A.below, A.state.limited), (A.state.fits, (omega arith, queue-room (c.before.before.loop.cursor - 1) A.state.fits A.state.queue (omega (arith, A.within)))))))
+    (omega arith, (omega (arith, A.within), (omega (arith, A.below, A.state.limited), (A.state.fits, (omega arith, queue_room (c.before.before.loop.cursor - 1) A.state.fits A.state.queue (omega (arith, A.within)))))))
 
 mul-get-2 : tie.Need-overflow-mul-get-2 invariant-loop decreases-loop
 mul-get-2 c = omega arith
@@ -79,24 +79,24 @@ get-requires-2 c κs = let A = held c.before.before.before.before.before.before 
 
 loop-less : tie.Need-loop-smaller invariant-loop decreases-loop
 loop-less c =
-    omega (arith, c.get2.ensures.0, admitting-falls ((head c).loop.cursor - 1) (omega arith) (held (head c)) c.before.before.before.before.reach.ensures.0)
+    omega (arith, c.get2.ensures.0, admitting_falls ((head c).loop.cursor - 1) (omega arith) (held (head c)) c.before.before.before.before.reach.ensures.0)
 
 loop-again : tie.Need-loop-preserved invariant-loop decreases-loop
 loop-again c = (
-  sameOutside-trans (head c).loop.invariant.0 (reach-outside c.before.before.before.before.reach.ensures.0),
+  same_outside_trans (head c).loop.invariant.0 (reach_outside c.before.before.before.before.reach.ensures.0),
   omega (arith, c.before.before.before.before.reach.ensures.1),
   λ succs limit target origin at A.
       let a = (head c).before.before.before.before.args in
       let w = c.before.before.before.before.reach.new.0 in
       subst (λ (x : ℕ). Admitting a.n succs limit target origin a.level at (queued a.n c.before.before.before.before.reach.result) x w) (sym c.get2.ensures.0)
-      (admitting-step ((head c).loop.cursor - 1) (omega arith) ((head c).loop.invariant.2 succs limit target origin at A) c.before.before.before.before.reach.ensures.0),
+      (admitting_step ((head c).loop.cursor - 1) (omega arith) ((head c).loop.invariant.2 succs limit target origin at A) c.before.before.before.before.reach.ensures.0),
 )
 
 same_length : tie.Need-same-length invariant-loop decreases-loop
 same_length c = c.before.loop.invariant.0.same_length
 
 returns : tie.Need-returns invariant-loop decreases-loop
-returns c = (λ succs limit target origin at l S. admitting-done (omega arith) (walk c.before succs limit target origin at l S), (omega (arith, c.before.loop.invariant.1), c.before.loop.invariant.0))
+returns c = (λ succs limit target origin at l S. admitting_done (omega arith) (walk c.before succs limit target origin at l S), (omega (arith, c.before.loop.invariant.1), c.before.loop.invariant.0))
 
 pub admit-spec : {M : Type 1} → statement M
 admit-spec =

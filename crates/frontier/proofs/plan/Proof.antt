@@ -6,10 +6,10 @@ use mathlib.Core.Logic.{⊎_elim, inl, inr}
 use mathlib.Core.List.{List}
 use native.Mathlib.Omega.{arith}
 use lib.ListN.{length}
-use Rattle.lists.proofs.Tests.{lt-or-ge}
+use Rattle.lists.proofs.Tests.{lt_or_ge}
 use Rattle.frontier.specs.Regions.{entry}
 use borrow.Author.Rules.{rules}
-use Rattle.frontier.proofs.BucketLaws.{Planning, planning-none, planning-skip, planning-list, planning-same, planning-done, source-entry, entry-source}
+use Rattle.frontier.proofs.BucketLaws.{Planning, planning_none, planning_skip, planning_list, planning_same, planning_done, source_entry, entry_source}
 use Rattle.frontier.proofs.plan.Statement.{statement}
 use Rattle.frontier.proofs.plan.Tie as tie
 
@@ -21,9 +21,9 @@ abbrev decreases-loop : tie.decreases-loop
 decreases-loop work₀ n limit s₀ work s = n - s
 
 -- a level below 4096 is told by the entry
-level-told : (start level : ℕ) → (1 ≤ start → level + 1 ≡ start) → (start ≡ 0 → 4096 ≤ level) → level < 4096 → start ≡ suc level
-level-told start level is none l =
-    elim (lt-or-ge 0 start) [ inl h ↦ omega (arith, is h) | inr h ↦ absurd (omega (arith, none (omega arith))) ]
+level_told : (start level : ℕ) → (1 ≤ start → level + 1 ≡ start) → (start ≡ 0 → 4096 ≤ level) → level < 4096 → start ≡ suc level
+level_told start level is none l =
+    elim (lt_or_ge 0 start) [ inl h ↦ omega (arith, is h) | inr h ↦ absurd (omega (arith, none (omega arith))) ]
 
 -- the plan at the loop's head, from the table at entry
 held : (c : tie.At-loop invariant-loop decreases-loop) →
@@ -31,7 +31,7 @@ held : (c : tie.At-loop invariant-loop decreases-loop) →
     Planning a.n a.limit c.loop.s a.work.now c.loop.work
 held c =
     let a = c.before.before.before.before.before.before.args in
-    c.loop.invariant.2 a.work.now (planning-none a.n a.limit a.work.now c.before.before.before.clear.new.0 (omega arith) c.before.before.before.clear.ensures)
+    c.loop.invariant.2 a.work.now (planning_none a.n a.limit a.work.now c.before.before.before.clear.new.0 (omega arith) c.before.before.before.clear.ensures)
 
 -- the loop's head, from the end of its turn
 abbrev head : tie.Joined1 invariant-loop decreases-loop → tie.At-loop invariant-loop decreases-loop
@@ -54,13 +54,13 @@ turn c w P =
     let same : start ≡ entry 2 a.n w l.s = c.before.before.before.before.before.before.get.ensures.0 ∙ P.unread l.s (omega arith) inside in
     ⊎_elim
     (λ t.
-    planning-same (cc (t.5, t.2.ensures, put))
-    (planning-list a.n a.limit l.s w l.work inside fits P level (omega arith) (omega arith) (entry-source a.limit (entry 2 a.n w l.s) level (sym same ∙ level-told start level told.0 told.1 (omega arith)) (omega arith))))
+    planning_same (cc (t.5, t.2.ensures, put))
+    (planning_list a.n a.limit l.s w l.work inside fits P level (omega arith) (omega arith) (entry_source a.limit (entry 2 a.n w l.s) level (sym same ∙ level_told start level told.0 told.1 (omega arith)) (omega arith))))
     (λ t.
-    planning-same (cc (t.1, put))
-    (planning-skip a.n a.limit l.s w l.work inside fits P
+    planning_same (cc (t.1, put))
+    (planning_skip a.n a.limit l.s w l.work inside fits P
     (λ b e.
-    let h : (entry 2 a.n w l.s ≡ suc b) × (b < a.limit) = source-entry a.limit (entry 2 a.n w l.s) b e in
+    let h : (entry 2 a.n w l.s ≡ suc b) × (b < a.limit) = source_entry a.limit (entry 2 a.n w l.s) b e in
     omega (arith, told.0 (omega arith)))))
     c.if1.branch
 
@@ -117,7 +117,7 @@ same_length : tie.Need-same-length invariant-loop decreases-loop
 same_length c = (held c.before).outside.same_length
 
 returns : tie.Need-returns invariant-loop decreases-loop
-returns c = planning-done (omega arith) (held c.before)
+returns c = planning_done (omega arith) (held c.before)
 
 pub plan-spec : {M : Type 1} → statement M
 plan-spec =

@@ -6,7 +6,7 @@ use mathlib.Core.List.{List}
 use lib.ListN.{set}
 use Rattle.frontier.specs.Regions.{entry, queued}
 use Rattle.frontier.specs.Search.{before, first, Pushed}
-use Rattle.frontier.proofs.PushLaws.{set-pushed}
+use Rattle.frontier.proofs.PushLaws.{set_pushed}
 use borrow.Author.Rules.{rules}
 use Rattle.frontier.proofs.reach.Statement.{statement}
 use Rattle.frontier.proofs.reach.Tie as tie
@@ -20,8 +20,8 @@ room : (c : tie.Else1) → let a = c.before.before.before.before.args in queued 
 room c = c.before.before.before.before.requires.1.1.1.1.1 (unreached c)
 
 -- the place where the state proves new, from the end
-abbrev else-of : tie.After-slice-known3 → tie.Else1
-else-of c = c.before.before.before.before.before.before.before.before
+abbrev else_of : tie.After-slice-known3 → tie.Else1
+else_of c = c.before.before.before.before.before.before.before.before
 
 mul-get : tie.Need-overflow-mul-get
 mul-get c = search rules
@@ -54,7 +54,7 @@ put-requires-2 : tie.Need-put-requires-2
 put-requires-2 c κs = (omega (arith, room c.before.before.before.before.before), omega arith)
 
 add-result : tie.Need-overflow-add-result
-add-result c = omega (arith, room (else-of c))
+add-result c = omega (arith, room (else_of c))
 
 same-length-2 : tie.Need-same-length-2
 same-length-2 c = search rules
@@ -65,8 +65,8 @@ returns-2 c =
     let q : a.tail ≡ 3 * a.n + queued a.n a.tail = omega arith in
     let e : c.before.before.put2.new.0 ≡ set (set a.work.now (2 * a.n + a.t) (a.level + 1)) (3 * a.n + queued a.n a.tail) a.t = cc in (
       first
-          (unreached (else-of c))
-          (subst (λ (w : List ℕ). Pushed a.n a.t (a.level + 1) (queued a.n a.tail) a.work.now w) (sym e) (set-pushed a.n a.t (a.level + 1) (queued a.n a.tail) a.work.now (omega arith) (room (else-of c)) (omega arith)))
+          (unreached (else_of c))
+          (subst (λ (w : List ℕ). Pushed a.n a.t (a.level + 1) (queued a.n a.tail) a.work.now w) (sym e) (set_pushed a.n a.t (a.level + 1) (queued a.n a.tail) a.work.now (omega arith) (room (else_of c)) (omega arith)))
           (omega arith),
       omega arith,
     )

@@ -9,10 +9,10 @@ use borrow.Author.Tests.{not-true, not-false}
 use lib.ListN.{length, get_or, take}
 use Rattle.lists.specs.Lists.{differentb}
 use Rattle.lasso.specs.Graph.{edges, loopsb}
-use Rattle.model.specs.Model.{graphIn}
-use Rattle.model.proofs.Laws.{valid-sizes}
-use Rattle.paths.proofs.BreakLaws.{unbroken-states, unbroken-path}
-use Rattle.grade_verdicts.proofs.AcceptLaws.{accepts-late, accepts-elsewhere, accepts-repeat, accepts-closes}
+use Rattle.model.specs.Model.{graph_in}
+use Rattle.model.proofs.Laws.{valid_sizes}
+use Rattle.paths.proofs.BreakLaws.{unbroken_states, unbroken_path}
+use Rattle.grade_verdicts.proofs.AcceptLaws.{accepts_late, accepts_elsewhere, accepts_repeat, accepts_closes}
 use Rattle.grade_accepts.proofs.accepts.Statement.{statement}
 use Rattle.grade_accepts.proofs.accepts.Tie as tie
 
@@ -39,7 +39,7 @@ returns : tie.Need-returns
 returns c =
     let counted = c.before.before.before in
     let a = counted.before.before.before.before.args in
-    (sym (accepts-late (graphIn a.file.now a.h) a.list.now a.k (omega (arith, counted.entries.ensures, c.if1.true))), refl)
+    (sym (accepts_late (graph_in a.file.now a.h) a.list.now a.k (omega (arith, counted.entries.ensures, c.if1.true))), refl)
 
 get-requires : tie.Need-get-requires
 get-requires c κs = omega (arith, behind c)
@@ -48,15 +48,15 @@ returns-2 : tie.Need-returns-2
 returns-2 c =
     let got = c.before.before in
     let a = (start got.before).args in
-    (sym (accepts-elsewhere (graphIn a.file.now a.h) a.list.now a.k (λ e. c.if2.true (got.get.ensures.0 ∙ e))), refl)
+    (sym (accepts_elsewhere (graph_in a.file.now a.h) a.list.now a.k (λ e. c.if2.true (got.get.ensures.0 ∙ e))), refl)
 
 all-different-requires : tie.Need-all-different-requires
 all-different-requires c κs =
     let below = c.before.before.before.before in
     let s = start below in
     let a = s.args in
-    let sizes = valid-sizes s.pre.0 in
-    (omega (arith, behind below), (unbroken-states (graphIn a.file.now a.h) a.list.now s.pre.1.1, omega (arith, s.pre.1.0)))
+    let sizes = valid_sizes s.pre.0 in
+    (omega (arith, behind below), (unbroken_states (graph_in a.file.now a.h) a.list.now s.pre.1.1, omega (arith, s.pre.1.0)))
 
 same_length : tie.Need-same-length
 same_length c = search rules
@@ -65,7 +65,7 @@ returns-3 : tie.Need-returns-3
 returns-3 c =
     let tested = c.before.before.before in
     let a = (start (low tested)).args in (
-      sym (accepts-repeat (graphIn a.file.now a.h) a.list.now a.k (sym tested.all-different.ensures.0 ∙ not-true _ c.if3.true)),
+      sym (accepts_repeat (graph_in a.file.now a.h) a.list.now a.k (sym tested.all-different.ensures.0 ∙ not-true _ c.if3.true)),
       tested.all-different.ensures.1,
     )
 
@@ -84,12 +84,12 @@ returns-4 c =
     let below = low tested in
     let s = start below in
     let a = s.args in
-    let g = graphIn a.file.now a.h in
+    let g = graph_in a.file.now a.h in
     let closed : c.loops-at.result ≡ loopsb g a.list.now a.k = c.loops-at.ensures in
-    let path = unbroken-path g a.list.now s.pre.1.1 in
+    let path = unbroken_path g a.list.now s.pre.1.1 in
     let different : differentb (take (edges a.list.now) a.list.now) ≡ true =
     sym tested.all-different.ensures.0 ∙ not-false tested.all-different.result c.before.if3.false in
-    let rest = accepts-closes g a.list.now a.k (omega (arith, behind below)) (omega (arith, behind below)) (starts tested.before.before) path different in
+    let rest = accepts_closes g a.list.now a.k (omega (arith, behind below)) (omega (arith, behind below)) (starts tested.before.before) path different in
     (closed ∙ rest, tested.all-different.ensures.1)
 
 pub accepts-spec : {M : Type 1} → statement M

@@ -5,7 +5,7 @@ use mathlib.Core.Path.{◌≡◌, refl, sym, ◌∙◌, ap, subst}
 use mathlib.Core.List.{List}
 use native.Mathlib.Omega.{arith}
 use lib.ListN.{length, get_or, set, length-set}
-use Rattle.grade_accepts.proofs.FlagLaws.{Flags, no-flags, flags-next, flags-repeat, flags-end}
+use Rattle.grade_accepts.proofs.FlagLaws.{Flags, no_flags, flags_next, flags_repeat, flags_end}
 use Rattle.grade_accepts.proofs.all_different.Statement.{statement}
 use Rattle.grade_accepts.proofs.all_different.Tie as tie
 
@@ -27,24 +27,24 @@ kept : (c : tie.At-loop invariant-loop decreases-loop) → length c.loop.work �
 kept c = c.loop.invariant.1 ∙ (cleared c).clear.ensures.others.same_length
 
 -- the entry that a turn of the loop reads
-entry-is : (c : tie.After-get invariant-loop decreases-loop)
+entry_is : (c : tie.After-get invariant-loop decreases-loop)
     → let at = c.before.before in
     c.get.result ≡ get_or (start (cleared at)).args.list.now at.loop.j 0
-entry-is c = c.get.ensures.0
+entry_is c = c.get.ensures.0
 
 -- its flag
 flag_is : (c : tie.After-get2 invariant-loop decreases-loop)
     → let at = c.before.before.before.before in
     c.get2.result ≡ get_or at.loop.work (get_or (start (cleared at)).args.list.now at.loop.j 0) 0
 flag_is c =
-    c.get2.ensures.0 ∙ ap (λ (s : ℕ). get_or c.before.before.before.before.loop.work s 0) (entry-is c.before.before)
+    c.get2.ensures.0 ∙ ap (λ (s : ℕ). get_or c.before.before.before.before.loop.work s 0) (entry_is c.before.before)
 
 -- that entry has a flag in the table
 in_table : (c : tie.After-get invariant-loop decreases-loop) → c.get.result < length c.before.before.loop.work
 in_table c =
     let at = c.before.before in
     let flags = at.loop.invariant.0 in
-    omega (arith, entry-is c, flags.room, flags.below at.loop.j (omega (arith, c.before.loop-test.true)))
+    omega (arith, entry_is c, flags.room, flags.below at.loop.j (omega (arith, c.before.loop-test.true)))
 
 -- the table after its flag was set
 flagged : (c : tie.After-put invariant-loop decreases-loop)
@@ -53,7 +53,7 @@ flagged : (c : tie.After-put invariant-loop decreases-loop)
     c.put.new.0 ≡ set at.loop.work (get_or (start (cleared at)).args.list.now at.loop.j 0) 1
 flagged c =
     let got = c.before.before.before.before.before in
-    c.put.ensures ∙ ap (λ (s : ℕ). set got.before.before.loop.work s 1) (entry-is got)
+    c.put.ensures ∙ ap (λ (s : ℕ). set got.before.before.loop.work s 1) (entry_is got)
 
 clear-requires : tie.Need-clear-requires invariant-loop decreases-loop
 clear-requires c κs = let s = c.before.before.before in (omega arith, s.requires.1.1)
@@ -66,7 +66,7 @@ loop-holds c =
     let clear = c.before.before in
     let s = start clear in
     let only = clear.clear.ensures in (
-      no-flags s.args.n s.args.list.now _ s.pre.1.0 (omega (arith, s.pre.1.1, only.others.same_length)) (λ i l. only.zeros i (omega arith) l),
+      no_flags s.args.n s.args.list.now _ s.pre.1.0 (omega (arith, s.pre.1.1, only.others.same_length)) (λ i l. only.zeros i (omega arith) l),
       refl,
     )
 
@@ -83,7 +83,7 @@ returns : tie.Need-returns invariant-loop decreases-loop
 returns c =
     let looked = c.before in
     let at = looked.before.before.before.before in (
-      sym (flags-repeat at.loop.invariant.0 (omega (arith, looked.before.before.before.loop-test.true)) (λ e. c.if1.true (flag_is looked ∙ e))),
+      sym (flags_repeat at.loop.invariant.0 (omega (arith, looked.before.before.before.loop-test.true)) (λ e. c.if1.true (flag_is looked ∙ e))),
       kept at,
     )
 
@@ -102,7 +102,7 @@ loop-again c =
     let looked = put.before.before.before in
     let at = looked.before.before.before.before in
     let a = (start (cleared at)).args in
-    let next = flags-next at.loop.invariant.0 (omega (arith, looked.before.before.before.loop-test.true)) (sym (flag_is looked) ∙ put.before.before.if1.false) in (
+    let next = flags_next at.loop.invariant.0 (omega (arith, looked.before.before.before.loop-test.true)) (sym (flag_is looked) ∙ put.before.before.if1.false) in (
       subst (λ (w : List ℕ). Flags a.n a.list.now w (at.loop.j + 1)) (sym (flagged put)) next,
       ap length (flagged put) ∙ length-set at.loop.work _ 1 ∙ at.loop.invariant.1,
     )
@@ -113,7 +113,7 @@ same-length-2 c = kept c.before
 returns-2 : tie.Need-returns-2 invariant-loop decreases-loop
 returns-2 c =
     let at = c.before in
-    (sym (flags-end at.loop.invariant.0 (omega (arith, c.loop-test.false))), kept at)
+    (sym (flags_end at.loop.invariant.0 (omega (arith, c.loop-test.false))), kept at)
 
 pub all-different-spec : {M : Type 1} → statement M
 all-different-spec =

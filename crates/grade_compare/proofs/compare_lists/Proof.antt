@@ -5,10 +5,10 @@ use Rattle.grade_compare.proofs.compare_lists.Statement.{statement}
 use Rattle.grade_compare.proofs.compare_lists.Tie as tie
 
 abbrev invariant-loop : tie.invariant-loop
-invariant-loop m least file markTable t₀ turn₀ turns₀ t turn turns = turns ≤ 1000000
+invariant-loop m least file mark_table t₀ turn₀ turns₀ t turn turns = turns ≤ 1000000
 
 abbrev decreases-loop : tie.decreases-loop
-decreases-loop m least file markTable t₀ turn₀ turns₀ t turn turns = 1000000 - turns
+decreases-loop m least file mark_table t₀ turn₀ turns₀ t turn turns = 1000000 - turns
 
 first-turn-requires : tie.Need-first-turn-requires invariant-loop decreases-loop
 first-turn-requires c κs = omega arith

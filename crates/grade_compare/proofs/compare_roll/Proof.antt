@@ -5,10 +5,10 @@ use Rattle.grade_compare.proofs.compare_roll.Statement.{statement}
 use Rattle.grade_compare.proofs.compare_roll.Tie as tie
 
 abbrev invariant-loop : tie.invariant-loop
-invariant-loop states lists file markTable before lent table₀ code₀ right₀ got₀ table code right got = got ≤ 1000
+invariant-loop states lists file mark_table before lent table₀ code₀ right₀ got₀ table code right got = got ≤ 1000
 
 abbrev decreases-loop : tie.decreases-loop
-decreases-loop states lists file markTable before lent table₀ code₀ right₀ got₀ table code right got = 1000 - got
+decreases-loop states lists file mark_table before lent table₀ code₀ right₀ got₀ table code right got = 1000 - got
 
 room-requires : tie.Need-room-requires invariant-loop decreases-loop
 room-requires c κs = omega arith

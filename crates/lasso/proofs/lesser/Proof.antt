@@ -3,8 +3,8 @@ use borrow.Author.Rules.{rules}
 use native.Mathlib.Omega.{arith}
 use mathlib.Core.Path.{ap, sym}
 use mathlib.Core.Option.{some}
-use Rattle.lasso.specs.Values.{bestOf}
-use Rattle.lists.proofs.Least.{lesser-none}
+use Rattle.lasso.specs.Values.{best_of}
+use Rattle.lists.proofs.Least.{lesser_none}
 use Rattle.lasso.proofs.lesser.Statement.{statement}
 use Rattle.lasso.proofs.lesser.Tie as tie
 
@@ -21,7 +21,7 @@ enum-known-best : tie.Need-enum-known-best
 enum-known-best c = search rules
 
 returns : tie.Need-returns
-returns c = rw c.enum_told.given.1 (sym (lesser-none (bestOf c.before.before.args.best)))
+returns c = rw c.enum_told.given.1 (sym (lesser_none (best_of c.before.before.args.best)))
 
 returns-2 : tie.Need-returns-2
 returns-2 c = rw (c.before.before.before.found.given.1, c.enum-told2.given.1)

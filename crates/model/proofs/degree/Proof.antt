@@ -5,8 +5,8 @@ use mathlib.Core.List.{[], ◌∷◌}
 use native.Mathlib.Omega.{arith}
 use borrow.Author.Rules.{rules}
 use lib.ListN.{length}
-use Rattle.model.specs.Model.{listIf, steps_of}
-use Rattle.model.proofs.Steps.{steps-edges, steps-none}
+use Rattle.model.specs.Model.{list_if, steps_of}
+use Rattle.model.proofs.Steps.{steps_edges, steps_none}
 use Rattle.model.proofs.degree.Statement.{statement}
 use Rattle.model.proofs.degree.Tie as tie
 
@@ -16,16 +16,16 @@ edge-count-requires c κs = search rules
 -- a part that holds no number stands for as many steps as the flag says
 no_edges : (c : tie.Else1) (b : Bool) →
     let a = c.before.before.before.args in
-    a.h.stays ≡ b → length (listIf b (a.s ∷ [])) ≡ length (steps_of a.h a.s a.part.now)
+    a.h.stays ≡ b → length (list_if b (a.s ∷ [])) ≡ length (steps_of a.h a.s a.part.now)
 no_edges c b e =
     let a = c.before.before.before.args in
-    let none = steps-none a.h a.s a.part.now (omega (arith, c.before.IsEdge-count.ensures, c.if1.false)) in
-    sym (ap length none ∙ ap (λ (x : Bool). length (listIf x (a.s ∷ []))) e)
+    let none = steps_none a.h a.s a.part.now (omega (arith, c.before.IsEdge-count.ensures, c.if1.false)) in
+    sym (ap length none ∙ ap (λ (x : Bool). length (list_if x (a.s ∷ []))) e)
 
 returns : tie.Need-returns
 returns c =
     let a = c.before.before.before.args in
-    let some = steps-edges a.h a.s a.part.now (omega (arith, c.before.IsEdge-count.ensures, c.if1.true)) in
+    let some = steps_edges a.h a.s a.part.now (omega (arith, c.before.IsEdge-count.ensures, c.if1.true)) in
     c.before.IsEdge-count.ensures ∙ sym (ap length some)
 
 returns-2 : tie.Need-returns-2

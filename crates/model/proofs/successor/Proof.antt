@@ -7,13 +7,13 @@ use native.Mathlib.Omega.{arith}
 use borrow.Author.Rules.{rules}
 use lib.ListN.{length, get_or}
 use Rattle.format.specs.Bytes.{words}
-use Rattle.model.specs.Model.{listIf, steps_of}
-use Rattle.model.proofs.Steps.{steps-edges, steps-none}
+use Rattle.model.specs.Model.{list_if, steps_of}
+use Rattle.model.proofs.Steps.{steps_edges, steps_none}
 use Rattle.model.proofs.successor.Statement.{statement}
 use Rattle.model.proofs.successor.Tie as tie
 
 -- the only entry of a list of at most one
-only : (b : Bool) (s k : ℕ) → k < length (listIf b (s ∷ [])) → s ≡ get_or (listIf b (s ∷ [])) k 0
+only : (b : Bool) (s k : ℕ) → k < length (list_if b (s ∷ [])) → s ≡ get_or (list_if b (s ∷ [])) k 0
 only true s k l = let first : k ≡ 0 = omega arith in sym (ap (λ (j : ℕ). get_or (s ∷ []) j 0) first)
 only false s k l = absurd (omega arith)
 
@@ -21,7 +21,7 @@ only false s k l = absurd (omega arith)
 some_edges : (c : tie.Else1) → let a = c.before.before.before.args in steps_of a.h a.s a.part.now ≡ words a.part.now
 some_edges c =
     let a = c.before.before.before.args in
-    steps-edges a.h a.s a.part.now (omega (arith, c.before.IsEdge-count.ensures, c.if1.false))
+    steps_edges a.h a.s a.part.now (omega (arith, c.before.IsEdge-count.ensures, c.if1.false))
 
 edge-count-requires : tie.Need-edge-count-requires
 edge-count-requires c κs = search rules
@@ -30,7 +30,7 @@ returns : tie.Need-returns
 returns c =
     let start = c.before.before.before in
     let a = start.args in
-    let alone = steps-none a.h a.s a.part.now (omega (arith, c.before.IsEdge-count.ensures, c.if1.true)) in
+    let alone = steps_none a.h a.s a.part.now (omega (arith, c.before.IsEdge-count.ensures, c.if1.true)) in
     only a.h.stays a.s a.k (subst (λ (ts : List ℕ). a.k < length ts) alone start.requires)
     ∙ sym (ap (λ (ts : List ℕ). get_or ts a.k 0) alone)
 

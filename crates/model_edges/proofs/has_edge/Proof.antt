@@ -9,9 +9,9 @@ use borrow.Author.Rules.{rules}
 use lib.Dec.{T}
 use Rattle.lists.specs.Lists.{memb, ascendingb}
 use Rattle.lasso.specs.Graph.{edgeb}
-use Rattle.model.specs.Model.{graphIn, steps_of}
-use Rattle.model.proofs.Laws.{valid-well-formed}
-use Rattle.model_edges.proofs.Halving.{Between, between-all, between_first, between-after, between-before, between-found, between_none}
+use Rattle.model.specs.Model.{graph_in, steps_of}
+use Rattle.model.proofs.Laws.{valid_well_formed}
+use Rattle.model_edges.proofs.Halving.{Between, between_all, between_first, between_after, between_before, between_found, between_none}
 use Rattle.model_edges.proofs.has_edge.Statement.{statement}
 use Rattle.model_edges.proofs.has_edge.Tie as tie
 
@@ -26,15 +26,15 @@ abbrev steps : tie.After-row-part invariant-loop decreases-loop → List ℕ
 steps c = let a = c.before.before.args in steps_of a.h a.s c.row-part.result.now
 
 -- they ascend
-steps-ascend : (c : tie.After-row-part invariant-loop decreases-loop) → T (ascendingb (steps c))
-steps-ascend c =
+steps_ascend : (c : tie.After-row-part invariant-loop decreases-loop) → T (ascendingb (steps c))
+steps_ascend c =
     let start = c.before.before in
-    subst (λ (ts : List ℕ). T (ascendingb ts)) (sym c.row-part.ensures) ((valid-well-formed start.requires.0).ascending start.args.s)
+    subst (λ (ts : List ℕ). T (ascendingb ts)) (sym c.row-part.ensures) ((valid_well_formed start.requires.0).ascending start.args.s)
 
 -- they decide about the edge
-row-decides : (c : tie.After-row-part invariant-loop decreases-loop)
-    → let a = c.before.before.args in memb a.t (steps c) ≡ edgeb (graphIn a.file.now a.h) a.s a.t
-row-decides c = ap (memb c.before.before.args.t) c.row-part.ensures
+row_decides : (c : tie.After-row-part invariant-loop decreases-loop)
+    → let a = c.before.before.args in memb a.t (steps c) ≡ edgeb (graph_in a.file.now a.h) a.s a.t
+row_decides c = ap (memb c.before.before.args.t) c.row-part.ensures
 
 -- the row's part, from the loop
 abbrev row : tie.At-loop invariant-loop decreases-loop → tie.After-row-part invariant-loop decreases-loop
@@ -55,8 +55,8 @@ loop-holds c =
     let part = counted.before in
     let t = part.before.before.args.t in
     ⊎_elim
-    (λ w. between_first t (steps part) (steps-ascend part) (omega (arith, w.0.taken, counted.degree.ensures)) _ (omega (arith, w.1)))
-    (λ w. between-all t (steps part) (steps-ascend part) _ (omega (arith, w.1, counted.degree.ensures)))
+    (λ w. between_first t (steps part) (steps_ascend part) (omega (arith, w.0.taken, counted.degree.ensures)) _ (omega (arith, w.1)))
+    (λ w. between_all t (steps part) (steps_ascend part) _ (omega (arith, w.1, counted.degree.ensures)))
     c.if1.branch
 
 sub-middle : tie.Need-overflow-sub-middle invariant-loop decreases-loop
@@ -72,8 +72,8 @@ returns : tie.Need-returns invariant-loop decreases-loop
 returns c =
     let looked = c.before in
     let at = looked.before.before.before in
-    sym (between-found at.loop.invariant _ (omega (arith, looked.before.before.loop-test.true)) (sym looked.successor.ensures ∙ c.if2.true))
-    ∙ row-decides (row at)
+    sym (between_found at.loop.invariant _ (omega (arith, looked.before.before.loop-test.true)) (sym looked.successor.ensures ∙ c.if2.true))
+    ∙ row_decides (row at)
 
 add_low : tie.Need-overflow-add-low invariant-loop decreases-loop
 add_low c = omega arith
@@ -85,7 +85,7 @@ loop-again : tie.Need-loop-preserved invariant-loop decreases-loop
 loop-again c =
     let looked = c.before.before in
     let at = looked.before.before.before in
-    between-after at.loop.invariant _ (omega (arith, looked.before.before.loop-test.true)) (omega (arith, looked.successor.ensures, c.if3.true))
+    between_after at.loop.invariant _ (omega (arith, looked.before.before.loop-test.true)) (omega (arith, looked.successor.ensures, c.if3.true))
 
 loop-less-2 : tie.Need-loop-smaller-2 invariant-loop decreases-loop
 loop-less-2 c = omega (arith, c.before.before.before.before.loop-test.true)
@@ -94,13 +94,13 @@ loop-again-2 : tie.Need-loop-preserved-2 invariant-loop decreases-loop
 loop-again-2 c =
     let looked = c.before.before in
     let at = looked.before.before.before in
-    between-before at.loop.invariant _ (omega (arith, looked.before.before.loop-test.true))
+    between_before at.loop.invariant _ (omega (arith, looked.before.before.loop-test.true))
     (omega (arith, looked.successor.ensures, c.if3.false, c.before.if2.false))
 
 returns-2 : tie.Need-returns-2 invariant-loop decreases-loop
 returns-2 c =
     let at = c.before in
-    sym (between_none at.loop.invariant (omega (arith, c.loop-test.false))) ∙ row-decides (row at)
+    sym (between_none at.loop.invariant (omega (arith, c.loop-test.false))) ∙ row_decides (row at)
 
 pub has-edge-spec : {M : Type 1} → statement M
 has-edge-spec =

@@ -6,17 +6,17 @@ use native.Mathlib.Omega.{arith}
 use lib.ListN.{get_or}
 use Rattle.lists.specs.Lists.{anyb, below}
 use Rattle.lasso.specs.Graph.{edges, loopsb}
-use Rattle.lists.proofs.Range.{Left, left_below, left-next, left-none}
-use Rattle.model.specs.Model.{graphIn}
-use Rattle.model.proofs.Laws.{valid-well-formed}
-use Rattle.paths.proofs.BreakLaws.{started-unbroken}
-use Rattle.paths.proofs.LoopTests.{open_at, first-decides}
+use Rattle.lists.proofs.Range.{Left, left_below, left_next, left_none}
+use Rattle.model.specs.Model.{graph_in}
+use Rattle.model.proofs.Laws.{valid_well_formed}
+use Rattle.paths.proofs.BreakLaws.{started_unbroken}
+use Rattle.paths.proofs.LoopTests.{open_at, first_decides}
 use Rattle.paths.proofs.closes.Statement.{statement}
 use Rattle.paths.proofs.closes.Tie as tie
 
 abbrev invariant-loop : tie.invariant-loop
 invariant-loop file h list end last k₀ k =
-    let loops = loopsb (graphIn file h) list in Left loops (anyb loops (below (edges list))) (edges list) k
+    let loops = loopsb (graph_in file h) list in Left loops (anyb loops (below (edges list))) (edges list) k
 
 abbrev decreases-loop : tie.decreases-loop
 decreases-loop file h list end last k₀ k = end - k
@@ -50,7 +50,7 @@ loops-at-requires c κs =
     let at = c.before.before.before in
     let s = start at in
     let a = s.args in
-    let unbroken = started-unbroken (graphIn a.file.now a.h) (valid-well-formed s.pre.0) a.list.now s.pre.1.1.0 s.pre.1.1.1 in
+    let unbroken = started_unbroken (graph_in a.file.now a.h) (valid_well_formed s.pre.0) a.list.now s.pre.1.1.0 s.pre.1.1.1 in
     (s.pre.0, (unbroken, omega (arith, c.before.before.loop-test.true)))
 
 returns : tie.Need-returns invariant-loop decreases-loop
@@ -58,9 +58,9 @@ returns c =
     let here = c.before in
     let at = here.before.before.before in
     let a = (start at).args in
-    let g = graphIn a.file.now a.h in
+    let g = graph_in a.file.now a.h in
     let closed : c.loops-at.result ≡ loopsb g a.list.now at.loop.k = c.loops-at.ensures in
-    let first = first-decides g a.list.now at.loop.k (omega (arith, here.before.before.loop-test.true)) (held here) in
+    let first = first_decides g a.list.now at.loop.k (omega (arith, here.before.before.loop-test.true)) (held here) in
     closed ∙ sym (at.loop.invariant.decides ∙ first)
 
 add-k : tie.Need-overflow-add-k invariant-loop decreases-loop
@@ -73,13 +73,13 @@ loop-again : tie.Need-loop-preserved invariant-loop decreases-loop
 loop-again c =
     let at = c.before.before.before in
     let a = (start at).args in
-    let apart = open_at (graphIn a.file.now a.h) a.list.now at.loop.k
+    let apart = open_at (graph_in a.file.now a.h) a.list.now at.loop.k
     (λ e. c.if1.false (c.before.get2.ensures.0 ∙ sym e ∙ sym at.before.get.ensures.0)) in
-    left-next at.loop.invariant (omega (arith, c.before.before.loop-test.true)) apart
+    left_next at.loop.invariant (omega (arith, c.before.before.loop-test.true)) apart
 
 returns-2 : tie.Need-returns-2 invariant-loop decreases-loop
 returns-2 c =
-    sym (left-none c.before.loop.invariant (omega (arith, c.loop-test.false)))
+    sym (left_none c.before.loop.invariant (omega (arith, c.loop-test.false)))
 
 pub closes-spec : {M : Type 1} → statement M
 closes-spec =

@@ -5,14 +5,14 @@ use native.Mathlib.Omega.{arith}
 use borrow.Author.Tests.{not-true, not-false}
 use lib.ListN.{length, get_or}
 use Rattle.lasso.specs.Graph.{edgeb}
-use Rattle.model.specs.Model.{graphIn}
-use Rattle.model.proofs.Laws.{valid-well-formed}
-use Rattle.paths.proofs.BreakLaws.{Unbroken, empty-unbroken, broken-at-first, unbroken-start, unbroken-next, broken-next, unbroken-end}
+use Rattle.model.specs.Model.{graph_in}
+use Rattle.model.proofs.Laws.{valid_well_formed}
+use Rattle.paths.proofs.BreakLaws.{Unbroken, empty_unbroken, broken_at_first, unbroken_start, unbroken_next, broken_next, unbroken_end}
 use Rattle.paths.proofs.first_break.Statement.{statement}
 use Rattle.paths.proofs.first_break.Tie as tie
 
 abbrev invariant-loop : tie.invariant-loop
-invariant-loop file h list first j₀ j = Unbroken (graphIn file h) list j
+invariant-loop file h list first j₀ j = Unbroken (graph_in file h) list j
 
 abbrev decreases-loop : tie.decreases-loop
 decreases-loop file h list first j₀ j = length list - j
@@ -26,17 +26,17 @@ abbrev entered : tie.At-loop invariant-loop decreases-loop → tie.Else1 invaria
 entered c = c.before.before.before.before
 
 -- the edge that a turn of the loop looks for
-edge-tested : (c : tie.After-has-edge invariant-loop decreases-loop)
+edge_tested : (c : tie.After-has-edge invariant-loop decreases-loop)
     → let at = c.before.before.before.before in
     let a = (start (entered at)).args in
-    edgeb (graphIn a.file.now a.h) (get_or a.list.now at.loop.j 0) (get_or a.list.now (at.loop.j + 1) 0) ≡ c.has-edge.result
-edge-tested c =
+    edgeb (graph_in a.file.now a.h) (get_or a.list.now at.loop.j 0) (get_or a.list.now (at.loop.j + 1) 0) ≡ c.has-edge.result
+edge_tested c =
     sym (rw (c.before.before.get2.ensures.0, c.before.get3.ensures.0) at c.has-edge.ensures)
 
 returns : tie.Need-returns invariant-loop decreases-loop
 returns c =
     let a = c.before.before.before.args in
-    empty-unbroken (graphIn a.file.now a.h) a.list.now c.if1.true
+    empty_unbroken (graph_in a.file.now a.h) a.list.now c.if1.true
 
 get-requires : tie.Need-get-requires invariant-loop decreases-loop
 get-requires c κs = omega (arith, c.if1.false)
@@ -45,13 +45,13 @@ returns-2 : tie.Need-returns-2 invariant-loop decreases-loop
 returns-2 c =
     let got = c.before.before in
     let a = (start got.before).args in
-    broken-at-first (graphIn a.file.now a.h) a.list.now (omega (arith, got.before.if1.false)) (omega (arith, got.get.ensures.0, c.if2.true))
+    broken_at_first (graph_in a.file.now a.h) a.list.now (omega (arith, got.before.if1.false)) (omega (arith, got.get.ensures.0, c.if2.true))
 
 loop-holds : tie.Need-loop-init invariant-loop decreases-loop
 loop-holds c =
     let got = c.before.before in
     let a = (start got.before).args in
-    unbroken-start (graphIn a.file.now a.h) a.list.now (omega (arith, got.before.if1.false)) (omega (arith, got.get.ensures.0, c.if2.false))
+    unbroken_start (graph_in a.file.now a.h) a.list.now (omega (arith, got.before.if1.false)) (omega (arith, got.get.ensures.0, c.if2.false))
 
 add-loop : tie.Need-overflow-add-loop invariant-loop decreases-loop
 add-loop c = omega (arith, c.loop.invariant.within)
@@ -76,7 +76,7 @@ add-place c = omega (arith, c.before.before.before.before.loop-test.true)
 returns-3 : tie.Need-returns-3 invariant-loop decreases-loop
 returns-3 c =
     let at = c.before.before.before.before.before in
-    broken-next at.loop.invariant (omega (arith, c.before.before.before.before.loop-test.true)) (edge-tested c.before ∙ not-true _ c.if3.true)
+    broken_next at.loop.invariant (omega (arith, c.before.before.before.before.loop-test.true)) (edge_tested c.before ∙ not-true _ c.if3.true)
 
 add-j : tie.Need-overflow-add-j invariant-loop decreases-loop
 add-j c = omega arith
@@ -87,10 +87,10 @@ loop-less c = omega arith
 loop-again : tie.Need-loop-preserved invariant-loop decreases-loop
 loop-again c =
     let at = c.before.before.before.before.before in
-    unbroken-next at.loop.invariant (valid-well-formed (start (entered at)).pre) (omega arith) (edge-tested c.before ∙ not-false _ c.if3.false)
+    unbroken_next at.loop.invariant (valid_well_formed (start (entered at)).pre) (omega arith) (edge_tested c.before ∙ not-false _ c.if3.false)
 
 returns-4 : tie.Need-returns-4 invariant-loop decreases-loop
-returns-4 c = unbroken-end c.before.loop.invariant (omega (arith, c.loop-test.false))
+returns-4 c = unbroken_end c.before.loop.invariant (omega (arith, c.loop-test.false))
 
 pub first-break-spec : {M : Type 1} → statement M
 first-break-spec =

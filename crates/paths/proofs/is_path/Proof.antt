@@ -5,10 +5,10 @@ use borrow.Author.Tests.{eq-eqb, ne_eqb}
 use lib.ListN.{get_or}
 use Rattle.lasso.specs.Graph.{pathb}
 use Rattle.lists.proofs.Tests.{T_true}
-use Rattle.model.specs.Model.{graphIn}
-use Rattle.model.proofs.Laws.{valid-well-formed}
-use Rattle.paths.specs.Breaks.{breakOf}
-use Rattle.paths.proofs.BreakLaws.{unbroken-path, broken-no-path}
+use Rattle.model.specs.Model.{graph_in}
+use Rattle.model.proofs.Laws.{valid_well_formed}
+use Rattle.paths.specs.Breaks.{break_of}
+use Rattle.paths.proofs.BreakLaws.{unbroken_path, broken_no_path}
 use Rattle.paths.proofs.is_path.Statement.{statement}
 use Rattle.paths.proofs.is_path.Tie as tie
 
@@ -42,9 +42,9 @@ returns-2 : tie.Need-returns-2
 returns-2 c =
     let found = c.before.before in
     let a = (start found.before).args in
-    let g = graphIn a.file.now a.h in
-    let unbroken = sym found.first-break.ensures ∙ ap breakOf c.enum_told.given.1 in
-    let path = T_true (pathb g a.list.now) (unbroken-path g a.list.now unbroken) in
+    let g = graph_in a.file.now a.h in
+    let unbroken = sym found.first-break.ensures ∙ ap break_of c.enum_told.given.1 in
+    let path = T_true (pathb g a.list.now) (unbroken_path g a.list.now unbroken) in
     sym (rw (eq-eqb (get_or a.list.now 0 0) a.h.start (starts found.before), path))
 
 returns-3 : tie.Need-returns-3
@@ -52,10 +52,10 @@ returns-3 c =
     let found = c.before.before in
     let s = start found.before in
     let a = s.args in
-    let g = graphIn a.file.now a.h in
-    let broken = sym found.first-break.ensures ∙ ap breakOf c.enum-told2.given.1 in
-    let no-path = broken-no-path g (valid-well-formed s.pre.0) a.list.now (starts found.before) _ broken in
-    sym (rw (eq-eqb (get_or a.list.now 0 0) a.h.start (starts found.before), no-path))
+    let g = graph_in a.file.now a.h in
+    let broken = sym found.first-break.ensures ∙ ap break_of c.enum-told2.given.1 in
+    let no_path = broken_no_path g (valid_well_formed s.pre.0) a.list.now (starts found.before) _ broken in
+    sym (rw (eq-eqb (get_or a.list.now 0 0) a.h.start (starts found.before), no_path))
 
 pub is-path-spec : {M : Type 1} → statement M
 is-path-spec =

@@ -9,18 +9,18 @@ use mathlib.Core.List.{List}
 use lib.ListN.{length, get_or, drop, drop_of_length-le}
 use Rattle.lists.specs.Lists.{keep, pick}
 use Rattle.format.specs.Bytes.{word, words, bitb}
-use Rattle.format.proofs.Words.{words-length, words-at}
-use Rattle.lists.proofs.KeepLaws.{keep-from}
+use Rattle.format.proofs.Words.{words-length, words_at}
+use Rattle.lists.proofs.KeepLaws.{keep_from}
 use Rattle.property.proofs.count_holding.Statement.{statement}
 use Rattle.property.proofs.count_holding.Tie as tie
 
 -- how many masks from place k on hold the letter
-abbrev holdingFrom : List ℕ → ℕ → ℕ → ℕ
-holdingFrom masks letter k = length (keep (λ (m : ℕ). bitb m letter) (drop k (words masks)))
+abbrev holding_from : List ℕ → ℕ → ℕ → ℕ
+holding_from masks letter k = length (keep (λ (m : ℕ). bitb m letter) (drop k (words masks)))
 
 abbrev invariant-loop : tie.invariant-loop
 invariant-loop masks letter count held₀ k₀ held k =
-    (k ≤ count) × (held ≤ k) × (held + holdingFrom masks letter k ≡ holdingFrom masks letter 0)
+    (k ≤ count) × (held ≤ k) × (held + holding_from masks letter k ≡ holding_from masks letter 0)
 
 abbrev decreases-loop : tie.decreases-loop
 decreases-loop masks letter count held₀ k₀ held k = count - k
@@ -29,7 +29,7 @@ decreases-loop masks letter count held₀ k₀ held k = count - k
 turn : (c : tie.After-mask-holds invariant-loop decreases-loop) →
     let at = c.before.before.before in
     let a = at.before.before.args in
-    holdingFrom a.masks.now a.letter at.loop.k ≡ pick c.mask-holds.result 1 0 + holdingFrom a.masks.now a.letter (at.loop.k + 1)
+    holding_from a.masks.now a.letter at.loop.k ≡ pick c.mask-holds.result 1 0 + holding_from a.masks.now a.letter (at.loop.k + 1)
 turn c =
     let at = c.before.before.before in
     let a = at.before.before.args in
@@ -37,9 +37,9 @@ turn c =
     let k = at.loop.k in
     let less : k < length (words masks) = omega (arith, words-length masks, c.before.before.loop-test.true) in
     let same : bitb (get_or (words masks) k 0) a.letter ≡ c.mask-holds.result =
-    ap (λ (m : ℕ). bitb m a.letter) (words-at masks k less ∙ sym c.before.word.ensures.0) ∙ sym c.mask-holds.ensures in
-    keep-from (λ (m : ℕ). bitb m a.letter) (words masks) k less
-    ∙ ap (λ (b : Bool). pick b 1 0 + holdingFrom masks a.letter (k + 1)) same
+    ap (λ (m : ℕ). bitb m a.letter) (words_at masks k less ∙ sym c.before.word.ensures.0) ∙ sym c.mask-holds.ensures in
+    keep_from (λ (m : ℕ). bitb m a.letter) (words masks) k less
+    ∙ ap (λ (b : Bool). pick b 1 0 + holding_from masks a.letter (k + 1)) same
 
 loop-holds : tie.Need-loop-init invariant-loop decreases-loop
 loop-holds c = omega arith
@@ -74,7 +74,7 @@ returns c =
     let a = at.before.before.args in
     let masks = a.masks.now in
     let past : length (words masks) ≤ at.loop.k = omega (arith, words-length masks, c.loop-test.false) in
-    let nothing : holdingFrom masks a.letter at.loop.k ≡ 0 =
+    let nothing : holding_from masks a.letter at.loop.k ≡ 0 =
     ap (λ (ws : List ℕ). length (keep (λ (m : ℕ). bitb m a.letter) ws)) (drop_of_length-le (words masks) {i = at.loop.k} past) in
     omega (arith, nothing, at.loop.invariant.2)
 

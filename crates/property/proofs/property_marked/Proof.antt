@@ -5,14 +5,14 @@ use native.Mathlib.Omega.{arith}
 use lib.ListN.{get_or}
 use Rattle.format.specs.Bytes.{bitb}
 use Rattle.format.specs.Layout.{states, edge_count, table_at}
-use Rattle.property.proofs.PropertyLaws.{property-facts, property-numbers}
+use Rattle.property.proofs.PropertyLaws.{property_facts, property_numbers}
 use Rattle.property.proofs.property_marked.Statement.{statement}
 use Rattle.property.proofs.property_marked.Tie as tie
 
 table-at-requires : tie.Need-table-at-requires
 table-at-requires c κs =
     let v = c.before.requires.0 in
-    omega (arith, property-numbers v, property-facts v)
+    omega (arith, property_numbers v, property_facts v)
 
 -- the marks begin where mark table 0 does
 place : (c : tie.After-table-at) →
@@ -21,14 +21,14 @@ place : (c : tie.After-table-at) →
 place c =
     let start = c.before.before in
     let h = start.args.h in
-    let numbers = property-numbers start.requires.0 in
+    let numbers = property_numbers start.requires.0 in
     let by-header : c.table-at.result ≡ table_at h.states h.edges 0 = c.table-at.ensures in
     by-header ∙ ap₂ (λ (n m : ℕ). table_at n m 0) numbers.0 numbers.1
 
 bit-requires : tie.Need-bit-requires
 bit-requires c κs =
     let v = c.before.before.requires.0 in
-    omega (arith, place c, property-numbers v, property-facts v)
+    omega (arith, place c, property_numbers v, property_facts v)
 
 returns : tie.Need-returns
 returns c =

@@ -18,23 +18,23 @@ abbrev decreases-loop : tie.decreases-loop
 decreases-loop from buffer₀ count₀ buffer count = length buffer - count
 
 -- the part that is lent to a read keeps its length
-part-kept : (c : tie.After-read-once invariant-loop decreases-loop) → let l = c.before.before.before.loop in
+part_kept : (c : tie.After-read-once invariant-loop decreases-loop) → let l = c.before.before.before.loop in
     length c.read-once.new.1.0 ≡ length (mid_of l.count (length l.buffer - l.count) l.buffer)
-part-kept c = search rules
+part_kept c = search rules
 
 -- and so does the buffer
 kept : (c : tie.After-read-once invariant-loop decreases-loop) → let l = c.before.before.before.loop in
     length (put_mid l.count (length l.buffer - l.count) l.buffer c.read-once.new.1.0) ≡ length l.buffer
 kept c =
     let l = c.before.before.before.loop in
-    same_len_mid {X = ℕ} l.count (length l.buffer - l.count) l.buffer c.read-once.new.1.0 (part-kept c)
+    same_len_mid {X = ℕ} l.count (length l.buffer - l.count) l.buffer c.read-once.new.1.0 (part_kept c)
 
 -- the bytes that were read have room after those before
 room : (c : tie.After-read-once invariant-loop decreases-loop) → let l = c.before.before.before.loop in
     l.count + c.read-once.result.count ≤ length l.buffer
 room c =
     let l = c.before.before.before.loop in
-    omega (arith, l.invariant.0, c.read-once.ensures.0, part-kept c, mid_len l.count (length l.buffer) l.buffer (omega arith))
+    omega (arith, l.invariant.0, c.read-once.ensures.0, part_kept c, mid_len l.count (length l.buffer) l.buffer (omega arith))
 
 loop-holds : tie.Need-loop-init invariant-loop decreases-loop
 loop-holds c = (omega arith, refl)

@@ -1,8 +1,8 @@
 -- `round::add_start_distances` meets its contract. The loop's invariant: the sums for the first s states are added.
 use Prim.Native.Nat.{◌-◌, ◌≤◌}
 use native.Mathlib.Omega.{arith}
-use Rattle.table.proofs.Laws.{sameOutside-widen}
-use Rattle.round.proofs.TableLaws.{Added, added_none, added-fits, added_more}
+use Rattle.table.proofs.Laws.{same_outside_widen}
+use Rattle.round.proofs.TableLaws.{Added, added_none, added_fits, added_more}
 use Rattle.round.proofs.add_start_distances.Statement.{statement}
 use Rattle.round.proofs.add_start_distances.Tie as tie
 
@@ -31,7 +31,7 @@ sum-entry-requires : tie.Need-sum-entry-requires invariant-loop decreases-loop
 sum-entry-requires c κs =
     let at = c.before.before.before.before.before in
     let s = at.loop.s in
-    omega (arith, added-fits c.before.before.before.before.loop-test.true (at.before.before.requires.1 s (omega arith)) at.loop.invariant.1)
+    omega (arith, added_fits c.before.before.before.before.loop-test.true (at.before.before.requires.1 s (omega arith)) at.loop.invariant.1)
 
 mul-put : tie.Need-overflow-mul-put invariant-loop decreases-loop
 mul-put c = omega arith
@@ -63,7 +63,7 @@ same_length c = c.before.loop.invariant.1.others.same_length
 returns : tie.Need-returns invariant-loop decreases-loop
 returns c =
     let added = c.before.loop.invariant.1 in
-    (λ s l. added.sums s (omega arith), sameOutside-widen _ _ (omega arith) (omega arith) added.others)
+    (λ s l. added.sums s (omega arith), same_outside_widen _ _ (omega arith) (omega arith) added.others)
 
 pub add-start-distances-spec : {M : Type 1} → statement M
 add-start-distances-spec =

@@ -1,7 +1,7 @@
 -- `round::sum_entry` meets its contract: by cases, with one case per answer.
 use borrow.Author.Rules.{rules}
 use native.Mathlib.Omega.{arith}
-use Rattle.round.proofs.Laws.{sum-entry, sum-entry-none}
+use Rattle.round.proofs.Laws.{sum-entry, sum-entry_none}
 use Rattle.round.proofs.sum_entry.Statement.{statement}
 use Rattle.round.proofs.sum_entry.Tie as tie
 
@@ -11,7 +11,7 @@ returns c = search rules
 returns-2 : tie.Need-returns-2
 returns-2 c =
     let start = c.before.before in
-    (sum-entry-none start.args.a start.args.b (omega arith), omega arith)
+    (sum-entry_none start.args.a start.args.b (omega arith), omega arith)
 
 add-result : tie.Need-overflow-add-result
 add-result c = search rules

@@ -5,7 +5,7 @@ use mathlib.Core.Bool.{true}
 use borrow.Author.Tests.{eq-eqb, ne_eqb}
 use lib.Dec.{eqb}
 use Rattle.format.specs.Bytes.{long}
-use Rattle.format.specs.Layout.{states, edge_count, rows_at, edges_at, marksAt}
+use Rattle.format.specs.Layout.{states, edge_count, rows_at, edges_at, marks_at}
 use borrow.Author.Rules.{rules}
 use Rattle.rules_offsets.proofs.offsets_broken.Statement.{statement}
 use Rattle.rules_offsets.proofs.offsets_broken.Tie as tie
@@ -25,20 +25,20 @@ rows_right : (c : tie.Else1) → eqb (long (from1 c).args.file.now 8) rows_at �
 rows_right c = let file = (from1 c).args.file.now in eq-eqb (long file 8) rows_at (omega arith)
 
 -- past the second test the offset of the edge table is right
-edges-right : (c : tie.Else2) →
+edges_right : (c : tie.Else2) →
     let file = (from2 c).args.file.now in
     eqb (long file 12) (edges_at (states file)) ≡ true
-edges-right c =
+edges_right c =
     let file = (from2 c).args.file.now in
     eq-eqb (long file 12) (edges_at (states file)) (omega arith)
 
 -- past the third test the offset of the marks is right
-marks-right : (c : tie.Else3) →
+marks_right : (c : tie.Else3) →
     let file = (from3 c).args.file.now in
-    eqb (long file 16) (marksAt (states file) (edge_count file)) ≡ true
-marks-right c =
+    eqb (long file 16) (marks_at (states file) (edge_count file)) ≡ true
+marks_right c =
     let file = (from3 c).args.file.now in
-    eq-eqb (long file 16) (marksAt (states file) (edge_count file)) (omega arith)
+    eq-eqb (long file 16) (marks_at (states file) (edge_count file)) (omega arith)
 
 edges-at-requires : tie.Need-edges-at-requires
 edges-at-requires c κs = search rules
@@ -70,8 +70,8 @@ returns-3 c =
     let file = (from2 c.before.before).args.file.now in
     rw (
       rows_right c.before.before.before.before,
-      edges-right c.before.before,
-      ne_eqb (long file 16) (marksAt (states file) (edge_count file)) (omega arith),
+      edges_right c.before.before,
+      ne_eqb (long file 16) (marks_at (states file) (edge_count file)) (omega arith),
     )
 
 total-fits-requires : tie.Need-total-fits-requires
@@ -82,8 +82,8 @@ returns-4 c =
     let third = c.before in
     rw (
       rows_right third.before.before.before.before,
-      edges-right third.before.before,
-      marks-right third,
+      edges_right third.before.before,
+      marks_right third,
       c.total-fits.ensures,
     )
 

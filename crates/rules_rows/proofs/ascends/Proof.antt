@@ -6,7 +6,7 @@ use mathlib.Core.Path.{◌≡◌, refl, sym, ◌∙◌}
 use lib.ListN.{drop}
 use Rattle.lists.specs.Lists.{ascendingb}
 use Rattle.format.specs.Bytes.{words}
-use Rattle.format.proofs.Words.{words-length, ascending-end, part-rises, part_falls}
+use Rattle.format.proofs.Words.{words-length, ascending_end, part_rises, part_falls}
 use Rattle.rules_rows.proofs.ascends.Statement.{statement}
 use Rattle.rules_rows.proofs.ascends.Tie as tie
 
@@ -53,13 +53,13 @@ loop-again : tie.Need-loop-preserved invariant-loop decreases-loop
 loop-again c =
     let at = c.before.before.before.before in
     let part = at.before.before.args.part.now in
-    (search rules, at.loop.invariant.1 ∙ part-rises part at.loop.k (omega arith) (omega arith))
+    (search rules, at.loop.invariant.1 ∙ part_rises part at.loop.k (omega arith) (omega arith))
 
 returns-2 : tie.Need-returns-2 invariant-loop decreases-loop
 returns-2 c =
     let at = c.before in
     let part = at.before.before.args.part.now in
-    sym (at.loop.invariant.1 ∙ ascending-end (words part) at.loop.k (omega (arith, words-length part)))
+    sym (at.loop.invariant.1 ∙ ascending_end (words part) at.loop.k (omega (arith, words-length part)))
 
 pub ascends-spec : {M : Type 1} → statement M
 ascends-spec =

@@ -8,8 +8,8 @@ use mathlib.Core.List.{List}
 use borrow.Author.Tests.{lt-ltb, le-ltb}
 use lib.Dec.{ltb}
 use Rattle.format.specs.Layout.{states, target}
-use Rattle.format.specs.Rules.{badTargets}
-use Rattle.lists.proofs.Range.{Left, left_below, left-found, left-next, left-none}
+use Rattle.format.specs.Rules.{bad_targets}
+use Rattle.lists.proofs.Range.{Left, left_below, left_found, left_next, left_none}
 use Rattle.rules_rows.proofs.targets_broken.Statement.{statement}
 use Rattle.rules_rows.proofs.targets_broken.Tie as tie
 
@@ -18,18 +18,18 @@ abbrev outside : List ℕ → ℕ → Bool
 outside f e = not (ltb (target f e) (states f))
 
 abbrev invariant-loop : tie.invariant-loop
-invariant-loop file n m base e₀ e = Left (outside file) (badTargets file) m e
+invariant-loop file n m base e₀ e = Left (outside file) (bad_targets file) m e
 
 abbrev decreases-loop : tie.decreases-loop
 decreases-loop file n m base e₀ e = m - e
 
 -- the target that a turn of the loop reads
-target-read : (c : tie.After-entry-at invariant-loop decreases-loop) →
+target_read : (c : tie.After-entry-at invariant-loop decreases-loop) →
     let start = c.before.before.before.before.before in
     c.entry_at.result ≡ target start.args.file.now c.before.before.loop.e
-target-read c =
+target_read c =
     let base = c.before.before.before in
-    rw (base.edges-at.ensures, base.before.before.requires.states-are) at c.entry_at.ensures.0
+    rw (base.edges_at.ensures, base.before.before.requires.states_are) at c.entry_at.ensures.0
 
 edges-at-requires : tie.Need-edges-at-requires invariant-loop decreases-loop
 edges-at-requires c κs = search rules
@@ -44,8 +44,8 @@ returns : tie.Need-returns invariant-loop decreases-loop
 returns c =
     let file = c.before.before.before.before.before.before.args.file.now in
     let at = c.before.before.before in
-    sym (left-found at.loop.invariant c.before.before.loop-test.true
-    (rw (le-ltb (target file at.loop.e) (states file) (omega (arith, target-read c.before)))))
+    sym (left_found at.loop.invariant c.before.before.loop-test.true
+    (rw (le-ltb (target file at.loop.e) (states file) (omega (arith, target_read c.before)))))
 
 add-e : tie.Need-overflow-add-e invariant-loop decreases-loop
 add-e c = search rules
@@ -57,11 +57,11 @@ loop-again : tie.Need-loop-preserved invariant-loop decreases-loop
 loop-again c =
     let file = c.before.before.before.before.before.before.args.file.now in
     let at = c.before.before.before in
-    left-next at.loop.invariant c.before.before.loop-test.true
-    (rw (lt-ltb (target file at.loop.e) (states file) (omega (arith, target-read c.before))))
+    left_next at.loop.invariant c.before.before.loop-test.true
+    (rw (lt-ltb (target file at.loop.e) (states file) (omega (arith, target_read c.before))))
 
 returns-2 : tie.Need-returns-2 invariant-loop decreases-loop
-returns-2 c = sym (left-none c.before.loop.invariant c.loop-test.false)
+returns-2 c = sym (left_none c.before.loop.invariant c.loop-test.false)
 
 pub targets-broken-spec : {M : Type 1} → statement M
 targets-broken-spec =

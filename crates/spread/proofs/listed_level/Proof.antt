@@ -6,7 +6,7 @@ use mathlib.Core.Logic.{inl, inr}
 use mathlib.Core.Option.{some}
 use native.Mathlib.Omega.{arith}
 use borrow.Author.Rules.{rules}
-use Rattle.lists.proofs.Tests.{lt-or-ge}
+use Rattle.lists.proofs.Tests.{lt_or_ge}
 use Rattle.frontier.specs.Buckets.{sources}
 use Rattle.spread.specs.Bounds.{ListedAt}
 use Rattle.spread.proofs.listed_level.Statement.{statement}
@@ -29,12 +29,12 @@ is-listed-requires c κs =
 
 returns : tie.Need-returns invariant-loop decreases-loop
 returns c =
-    let at-loop = c.before.before.before in
-    let a = at-loop.before.before.args in
+    let at_loop = c.before.before.before in
+    let a = at_loop.before.before.args in
     record {
-      within = at-loop.loop.invariant.0;
-      listed = λ less. subst (ListedAt a.n a.limit at-loop.loop.level a.s a.work.now) c.if1.true c.before.is-listed.ensures;
-      none_before = at-loop.loop.invariant.1;
+      within = at_loop.loop.invariant.0;
+      listed = λ less. subst (ListedAt a.n a.limit at_loop.loop.level a.s a.work.now) c.if1.true c.before.is-listed.ensures;
+      none_before = at_loop.loop.invariant.1;
     }
 
 add-level : tie.Need-overflow-add-level invariant-loop decreases-loop
@@ -45,26 +45,26 @@ loop-less c = omega (arith, c.before.before.loop-test.true)
 
 loop-again : tie.Need-loop-preserved invariant-loop decreases-loop
 loop-again c =
-    let at-loop = c.before.before.before in
-    let g = at-loop.before.before.args in
-    let other = subst (ListedAt g.n g.limit at-loop.loop.level g.s g.work.now) c.if1.false c.before.is-listed.ensures in (
+    let at_loop = c.before.before.before in
+    let g = at_loop.before.before.args in
+    let other = subst (ListedAt g.n g.limit at_loop.loop.level g.s g.work.now) c.if1.false c.before.is-listed.ensures in (
       omega (arith, c.before.before.loop-test.true),
       λ a l origin P e.
-          elim (lt-or-ge a at-loop.loop.level) [
-            | inl less ↦ at-loop.loop.invariant.1 a less origin P e
+          elim (lt_or_ge a at_loop.loop.level) [
+            | inl less ↦ at_loop.loop.invariant.1 a less origin P e
             | inr more ↦
-                let here : a ≡ at-loop.loop.level = omega arith in
+                let here : a ≡ at_loop.loop.level = omega arith in
                 other origin P (subst (λ (x : ℕ). sources g.n g.limit origin g.s ≡ some x) here e)
           ],
     )
 
 returns-2 : tie.Need-returns-2 invariant-loop decreases-loop
 returns-2 c =
-    let at-loop = c.before in
+    let at_loop = c.before in
     record {
       within = omega arith;
       listed = λ less. absurd (omega arith);
-      none_before = λ a l. at-loop.loop.invariant.1 a (omega (arith, c.loop-test.false));
+      none_before = λ a l. at_loop.loop.invariant.1 a (omega (arith, c.loop-test.false));
     }
 
 pub listed-level-spec : {M : Type 1} → statement M

@@ -6,12 +6,12 @@ use mathlib.Core.List.{List}
 use native.Mathlib.Omega.{arith}
 use borrow.Author.Rules.{rules}
 use Rattle.lasso.specs.Graph.{Graph}
-use Rattle.model.specs.Model.{graphIn}
-use Rattle.model.proofs.Laws.{valid-sizes, valid-well-formed}
+use Rattle.model.specs.Model.{graph_in}
+use Rattle.model.proofs.Laws.{valid_sizes, valid_well_formed}
 use Rattle.frontier.specs.Buckets.{Planned, HasPlan}
 use Rattle.edge_search.specs.Promises.{ApartInPlan, Spread}
 use Rattle.spread.specs.Bounds.{Bounds}
-use Rattle.spread.proofs.BoundLaws.{apart-in-plan, planned-down, found_before, found-itself}
+use Rattle.spread.proofs.BoundLaws.{apart_in_plan, planned_down, found_before, found_itself}
 use Rattle.spread.proofs.search_planned.Statement.{statement}
 use Rattle.spread.proofs.search_planned.Tie as tie
 
@@ -21,7 +21,7 @@ start c = c.before.before.before.before
 
 -- the model
 abbrev graph : tie.Start → Graph
-graph s = graphIn s.args.file.now s.args.h
+graph s = graph_in s.args.file.now s.args.h
 
 -- the bound, from some table that the plan was made from
 bound_of : (c : tie.After-search-bound) →
@@ -35,7 +35,7 @@ planned : (c : tie.After-search-bound) (origin : List ℕ) →
     Planned a.h.states a.limit origin a.work.now → Planned a.h.states c.search-bound.result origin a.work.now
 planned c origin P =
     let a = (start c).args in
-    planned-down a.h.states a.limit c.search-bound.result origin (bound_of c).within P
+    planned_down a.h.states a.limit c.search-bound.result origin (bound_of c).within P
 
 -- the target is apart for the plan up to the bound
 apart : (c : tie.After-search-bound) →
@@ -44,7 +44,7 @@ apart : (c : tie.After-search-bound) →
 apart c =
     let s = start c in
     let plan = s.pre.1.1.1 in
-    apart-in-plan (graph s) s.args.target (valid-well-formed s.pre.0) (planned c plan.origin plan.planned) (bound_of c).apart
+    apart_in_plan (graph s) s.args.target (valid_well_formed s.pre.0) (planned c plan.origin plan.planned) (bound_of c).apart
 
 -- from where the search up to the bound has ended, where the bound is known
 abbrev bounded : tie.After-search-edges2 → tie.After-search-bound
@@ -93,7 +93,7 @@ enum-told-2 c = search rules
 add-length : tie.Need-overflow-add-length
 add-length c =
     let b = bounded c.before.before.before.before in
-    omega (arith, (bound_of b).within, (start b).pre.1.0, (valid-sizes (start b).pre.0).states-range.1)
+    omega (arith, (bound_of b).within, (start b).pre.1.0, (valid_sizes (start b).pre.0).states_range.1)
 
 same-length-2 : tie.Need-same-length-2
 same-length-2 c = search rules
@@ -120,7 +120,7 @@ returns-3 c = λ origin P.
     let left : List ℕ = done.search-edges2.new.1.1.0 in
     let told = c.enum-told2.given in
     let nothing = subst (Spread (graph (start b)) b.search-bound.result a.target origin left) told.1 (searched done origin P) in
-    found-itself left (b.search-bound.ensures origin P) (valid-well-formed (start b).pre.0)
+    found_itself left (b.search-bound.ensures origin P) (valid_well_formed (start b).pre.0)
     (omega (arith, done.before.before.if1.false)) _ nothing
 
 pub search-planned-spec : {M : Type 1} → statement M

@@ -1,14 +1,14 @@
 -- `spread` meets its contract: the plan, and the search that it is made for.
 use borrow.Author.Rules.{rules}
 use native.Mathlib.Omega.{arith}
-use Rattle.model.proofs.Laws.{valid-sizes}
+use Rattle.model.proofs.Laws.{valid_sizes}
 use Rattle.spread.proofs.spread.Statement.{statement}
 use Rattle.spread.proofs.spread.Tie as tie
 
 plan-requires : tie.Need-plan-requires
 plan-requires c κs =
     let s = c.before.before.before in
-    ((valid-sizes s.requires.0).states-range.1, s.requires.1)
+    ((valid_sizes s.requires.0).states_range.1, s.requires.1)
 
 search-planned-requires : tie.Need-search-planned-requires
 search-planned-requires c κs =

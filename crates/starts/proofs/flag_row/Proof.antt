@@ -7,10 +7,10 @@ use lib.ListN.{get_or, set}
 use native.Mathlib.Omega.{arith}
 use borrow.Author.Tests.{leb-false}
 use borrow.Author.Rules.{rules}
-use Rattle.model.specs.Model.{graphIn, steps_of}
+use Rattle.model.specs.Model.{graph_in, steps_of}
 use Rattle.starts.specs.Flags.{Flagging}
-use Rattle.model.proofs.Laws.{row-state}
-use Rattle.starts.proofs.StartsFlags.{LowBefore, flagging-none, low-put, low-pass, row-flagged}
+use Rattle.model.proofs.Laws.{row_state}
+use Rattle.starts.proofs.StartsFlags.{LowBefore, flagging_none, low_put, low_pass, row_flagged}
 use Rattle.starts.proofs.flag_row.Statement.{statement}
 use Rattle.starts.proofs.flag_row.Tie as tie
 
@@ -25,27 +25,27 @@ abbrev start : tie.At-loop invariant-loop decreases-loop → tie.Start invariant
 start c = c.before.before.before.before.before.before.before
 
 -- the successor is a state
-successor-state : (c : tie.After-successor invariant-loop decreases-loop) → c.successor.result < (start c.before.before).args.h.states
-successor-state c =
+successor_state : (c : tie.After-successor invariant-loop decreases-loop) → c.successor.result < (start c.before.before).args.h.states
+successor_state c =
     let s = start c.before.before in
-    row-state s.args.u c.before.before.loop.k s.pre.0 c.before.before.before.before.row-part.ensures (omega arith) c.successor.ensures
+    row_state s.args.u c.before.before.loop.k s.pre.0 c.before.before.before.before.row-part.ensures (omega arith) c.successor.ensures
 
 -- one more successor is passed
-successor-passed : (c : tie.Joined1 invariant-loop decreases-loop) →
+successor_passed : (c : tie.Joined1 invariant-loop decreases-loop) →
     let l = c.before.before.before.before.before in
     Flagging (start l).args.h.states (LowBefore (steps_of (start l).args.h (start l).args.u l.before.before.row-part.result.now) (start l).args.work.now l.before.before.before.get.result (l.loop.k + 1)) (start l).args.work.now c.if1.work
-successor-passed c =
+successor_passed c =
     let l = c.before.before.before.before.before in
     let t = c.before.before.before.successor.result in
     let at : get_or (steps_of (start l).args.h (start l).args.u l.before.before.row-part.result.now) l.loop.k 0 ≡ t = sym c.before.before.before.successor.ensures in
-    let state : t < (start l).args.h.states = successor-state c.before.before.before in
+    let state : t < (start l).args.h.states = successor_state c.before.before.before in
     elim c.if1.branch [
       | inl w ↦
           let e : c.if1.work ≡ set l.loop.work ((start l).args.h.states + t) 1 = w.5 ∙ w.2.ensures in
-          rw e (low-put t at state (start l).requires.1.0 l.loop.invariant.1)
+          rw e (low_put t at state (start l).requires.1.0 l.loop.invariant.1)
       | inr w ↦
           let e : c.if1.work ≡ l.loop.work = w.1 in
-          rw e (low-pass t at state (omega (arith, leb-false, w.0.left, c.before.get2.ensures.0)) l.loop.invariant.1)
+          rw e (low_pass t at state (omega (arith, leb-false, w.0.left, c.before.get2.ensures.0)) l.loop.invariant.1)
     ]
 
 get-requires : tie.Need-get-requires invariant-loop decreases-loop
@@ -58,19 +58,19 @@ degree-requires : tie.Need-degree-requires invariant-loop decreases-loop
 degree-requires c κs = search rules
 
 loop-holds : tie.Need-loop-init invariant-loop decreases-loop
-loop-holds c = (omega arith, flagging-none _ _ (λ t l. omega (arith, l.before)))
+loop-holds c = (omega arith, flagging_none _ _ (λ t l. omega (arith, l.before)))
 
 successor-requires : tie.Need-successor-requires invariant-loop decreases-loop
 successor-requires c κs = search rules
 
 get-requires-2 : tie.Need-get-requires-2 invariant-loop decreases-loop
-get-requires-2 c κs = omega (arith, successor-state c.before, c.before.before.before.loop.invariant.1.same.same_length)
+get-requires-2 c κs = omega (arith, successor_state c.before, c.before.before.before.loop.invariant.1.same.same_length)
 
 add-put : tie.Need-overflow-add-put invariant-loop decreases-loop
-add-put c = omega (arith, successor-state c.before.before.before.before, c.before.before.before.before.before.before.loop.invariant.1.same.same_length)
+add-put c = omega (arith, successor_state c.before.before.before.before, c.before.before.before.before.before.before.loop.invariant.1.same.same_length)
 
 put-requires : tie.Need-put-requires invariant-loop decreases-loop
-put-requires c κs = omega (arith, successor-state c.before.before.before.before, c.before.before.before.before.before.before.loop.invariant.1.same.same_length)
+put-requires c κs = omega (arith, successor_state c.before.before.before.before, c.before.before.before.before.before.before.loop.invariant.1.same.same_length)
 
 add-k : tie.Need-overflow-add-k invariant-loop decreases-loop
 add-k c = omega arith
@@ -79,7 +79,7 @@ loop-less : tie.Need-loop-smaller invariant-loop decreases-loop
 loop-less c = omega arith
 
 loop-again : tie.Need-loop-preserved invariant-loop decreases-loop
-loop-again c = (omega arith, successor-passed c)
+loop-again c = (omega arith, successor_passed c)
 
 same_length : tie.Need-same-length invariant-loop decreases-loop
 same_length c = c.before.loop.invariant.1.same.same_length
@@ -89,7 +89,7 @@ returns c =
     let s = start c.before in
     let row = c.before.before.before.row-part.ensures in
     let d = c.before.before.before.before.get.ensures.0 in
-    row-flagged (graphIn s.args.file.now s.args.h) s.args.u row (omega (arith, c.before.before.degree.ensures)) d c.before.loop.invariant.1
+    row_flagged (graph_in s.args.file.now s.args.h) s.args.u row (omega (arith, c.before.before.degree.ensures)) d c.before.loop.invariant.1
 
 pub flag-row-spec : {M : Type 1} → statement M
 flag-row-spec =

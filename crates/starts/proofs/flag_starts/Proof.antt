@@ -5,16 +5,16 @@ use mathlib.Core.Path.{◌≡◌, ◌∙◌, refl}
 use mathlib.Core.Logic.{inl, inr}
 use native.Mathlib.Omega.{arith}
 use borrow.Author.Tests.{eqb-true}
-use Rattle.model.specs.Model.{graphIn}
-use Rattle.model.proofs.Laws.{valid-well-formed}
+use Rattle.model.specs.Model.{graph_in}
+use Rattle.model.proofs.Laws.{valid_well_formed}
 use Rattle.table.specs.Changes.{Cleared}
 use Rattle.starts.specs.Flags.{Flagging, FlagsRow}
-use Rattle.starts.proofs.StartsFlags.{EnteredBefore, flagging-none, entered-row, entered-pass, all-flagged}
+use Rattle.starts.proofs.StartsFlags.{EnteredBefore, flagging_none, entered_row, entered_pass, all_flagged}
 use Rattle.starts.proofs.flag_starts.Statement.{statement}
 use Rattle.starts.proofs.flag_starts.Tie as tie
 
 abbrev invariant-loop : tie.invariant-loop
-invariant-loop file h work₀ n u₀ work u = (u ≤ n) × Flagging n (EnteredBefore (graphIn file h) work₀ u) work₀ work
+invariant-loop file h work₀ n u₀ work u = (u ≤ n) × Flagging n (EnteredBefore (graph_in file h) work₀ u) work₀ work
 
 abbrev decreases-loop : tie.decreases-loop
 decreases-loop file h work₀ n u₀ work u = n - u
@@ -27,22 +27,22 @@ cleared : (c : tie.At-loop invariant-loop decreases-loop) → Cleared (start c).
 cleared c = c.before.before.before.clear.ensures
 
 -- one more state is passed
-state-passed : (c : tie.Joined1 invariant-loop decreases-loop) →
+state_passed : (c : tie.Joined1 invariant-loop decreases-loop) →
     let l = c.before.before.before.before in
     let w = l.before.before.before.clear.new.0 in
-    Flagging (start l).args.h.states (EnteredBefore (graphIn (start l).args.file.now (start l).args.h) w (l.loop.u + 1)) w c.if1.work
-state-passed c =
+    Flagging (start l).args.h.states (EnteredBefore (graph_in (start l).args.file.now (start l).args.h) w (l.loop.u + 1)) w c.if1.work
+state_passed c =
     let l = c.before.before.before.before in
     let s = start l in
     elim c.if1.branch [
       | inl w ↦
           let e = w.5 in
-          let row : FlagsRow (graphIn s.args.file.now s.args.h) s.args.h.states l.loop.u l.loop.work c.if1.work =
+          let row : FlagsRow (graph_in s.args.file.now s.args.h) s.args.h.states l.loop.u l.loop.work c.if1.work =
           rw e w.2.ensures in
-          entered-row (valid-well-formed s.pre.0) refl l.loop.invariant.1 row
+          entered_row (valid_well_formed s.pre.0) refl l.loop.invariant.1 row
       | inr w ↦
           let e : c.if1.work ≡ l.loop.work = w.1 in
-          rw e (entered-pass (omega arith) (omega (arith, eqb-true, w.0.left, c.before.get.ensures.0)) l.loop.invariant.1)
+          rw e (entered_pass (omega arith) (omega (arith, eqb-true, w.0.left, c.before.get.ensures.0)) l.loop.invariant.1)
     ]
 
 mul-clear : tie.Need-overflow-mul-clear invariant-loop decreases-loop
@@ -52,7 +52,7 @@ clear-requires : tie.Need-clear-requires invariant-loop decreases-loop
 clear-requires c κs = omega arith
 
 loop-holds : tie.Need-loop-init invariant-loop decreases-loop
-loop-holds c = (omega arith, flagging-none _ _ (λ t l. omega (arith, l.before)))
+loop-holds c = (omega arith, flagging_none _ _ (λ t l. omega (arith, l.before)))
 
 get-requires : tie.Need-get-requires invariant-loop decreases-loop
 get-requires c κs = omega arith
@@ -67,7 +67,7 @@ loop-less : tie.Need-loop-smaller invariant-loop decreases-loop
 loop-less c = omega arith
 
 loop-again : tie.Need-loop-preserved invariant-loop decreases-loop
-loop-again c = (omega arith, state-passed c)
+loop-again c = (omega arith, state_passed c)
 
 same_length : tie.Need-same-length invariant-loop decreases-loop
 same_length c = c.before.loop.invariant.1.same.same_length ∙ (cleared c.before).others.same_length
@@ -75,7 +75,7 @@ same_length c = c.before.loop.invariant.1.same.same_length ∙ (cleared c.before
 returns : tie.Need-returns invariant-loop decreases-loop
 returns c =
     let s = start c.before in
-    all-flagged (valid-well-formed s.pre.0) refl (omega arith) (cleared c.before).others c.before.loop.invariant.1
+    all_flagged (valid_well_formed s.pre.0) refl (omega arith) (cleared c.before).others c.before.loop.invariant.1
 
 pub flag-starts-spec : {M : Type 1} → statement M
 flag-starts-spec =

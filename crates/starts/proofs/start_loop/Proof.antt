@@ -8,16 +8,16 @@ use borrow.Author.Tests.{eqb-true, eqb-false, ltb-true}
 use borrow.Author.Rules.{rules}
 use Rattle.lasso.specs.Graph.{Graph}
 use Rattle.lasso.specs.Distance.{dist}
-use Rattle.model.specs.Model.{graphIn}
-use Rattle.model.proofs.Laws.{valid-sizes, valid-well-formed}
-use Rattle.table.proofs.Laws.{sameOutside-refl}
+use Rattle.model.specs.Model.{graph_in}
+use Rattle.model.proofs.Laws.{valid_sizes, valid_well_formed}
+use Rattle.table.proofs.Laws.{same_outside_refl}
 use Rattle.frontier.specs.Regions.{entry_of}
 use Rattle.lists.specs.Limit.{under}
-use Rattle.walks.specs.Through.{loopLength}
-use Rattle.starts.specs.LoopStarts.{startLoop}
-use Rattle.starts.proofs.StartLaws.{startLoop-iff}
-use Rattle.candidates.proofs.DistanceLaws.{start-entry}
-use Rattle.starts.proofs.StartsEntries.{startLoop-unreached, startLoop-far, startLoop-reached}
+use Rattle.walks.specs.Through.{loop_length}
+use Rattle.starts.specs.LoopStarts.{start_loop}
+use Rattle.starts.proofs.StartLaws.{start_loop_iff}
+use Rattle.candidates.proofs.DistanceLaws.{start_entry}
+use Rattle.starts.proofs.StartsEntries.{start_loop_unreached, start_loop_far, start_loop_reached}
 use Rattle.starts.proofs.start_loop.Statement.{statement}
 use Rattle.starts.proofs.start_loop.Tie as tie
 
@@ -25,35 +25,35 @@ abbrev start : tie.After-get → tie.Start
 start c = c.before.before.before.before
 
 abbrev graph : tie.After-get → Graph
-graph c = graphIn (start c).args.file.now (start c).args.h
+graph c = graph_in (start c).args.file.now (start c).args.h
 
 -- what was read is the entry of the distance from the initial state
-distance-entry : (c : tie.After-get) → c.get.result ≡ entry_of (dist (graph c) (graph c).start (start c).args.s)
-distance-entry c =
+the_distance_entry : (c : tie.After-get) → c.get.result ≡ entry_of (dist (graph c) (graph c).start (start c).args.s)
+the_distance_entry c =
     let s = start c in
-    let size = (valid-sizes s.pre.0.valid).states-are in
-    c.get.ensures.0 ∙ start-entry s.pre.0.start-distances s.args.s (omega arith)
+    let size = (valid_sizes s.pre.0.valid).states_are in
+    c.get.ensures.0 ∙ start_entry s.pre.0.start_distances s.args.s (omega arith)
 
 -- the loop length is asked for within the rest of the length
-loop-within : (c : tie.Else2) →
+loop_within_lem : (c : tie.Else2) →
     let at = c.before.before.before in
-    startLoop (graph at) (start at).args.transitions.0 (start at).args.s ≡ under (suc (c.before.number.result + 1 - at.get.result)) (loopLength (graph at) (start at).args.s)
-loop-within c =
+    start_loop (graph at) (start at).args.transitions.0 (start at).args.s ≡ under (suc (c.before.number.result + 1 - at.get.result)) (loop_length (graph at) (start at).args.s)
+loop_within_lem c =
     let at = c.before.before.before in
     let reached : 1 ≤ at.get.result = omega (arith, eqb-false) in
-    rw c.before.number.ensures (startLoop-reached (graph at) (start at).args.transitions.0 (start at).args.s at.get.result (distance-entry at) reached)
+    rw c.before.number.ensures (start_loop_reached (graph at) (start at).args.transitions.0 (start at).args.s at.get.result (the_distance_entry at) reached)
 
 -- a length was found: it is the loop length, and it is at most 4,096
-loop-found : (c : tie.After-known-told) →
+loop_found : (c : tie.After-known-told) →
     let at = c.before.before.before.before.before.before.before.before.before.before in
-    (startLoop (graph at) (start at).args.transitions.0 (start at).args.s ≡ some c.before.answer.given.0.0) × (c.before.answer.given.0.0 ≤ 4096)
-loop-found c =
+    (start_loop (graph at) (start at).args.transitions.0 (start at).args.s ≡ some c.before.answer.given.0.0) × (c.before.answer.given.0.0 ≤ 4096)
+loop_found c =
     let e = c.before.before.before.before.before in
     let s = start e.before.before.before.before.before in
-    let within = loop-within e.before.before ∙ (rw c.before.answer.given.1 at e.loop-length.ensures.0) in
+    let within = loop_within_lem e.before.before ∙ (rw c.before.answer.given.1 at e.loop-length.ensures.0) in
     let valid = s.pre.0.valid in
-    let bound = (startLoop-iff (valid-well-formed valid) s.args.transitions.0 s.args.s c.before.answer.given.0.0).0 within in
-    (within, omega (arith, bound.3, (valid-sizes valid).states-range))
+    let bound = (start_loop_iff (valid_well_formed valid) s.args.transitions.0 s.args.s c.before.answer.given.0.0).0 within in
+    (within, omega (arith, bound.3, (valid_sizes valid).states_range))
 
 get-requires : tie.Need-get-requires
 get-requires c κs = search rules
@@ -62,7 +62,7 @@ same_length : tie.Need-same-length
 same_length c = search rules
 
 returns : tie.Need-returns
-returns c = ((startLoop-unreached (graph c.before) (start c.before).args.transitions.0 (start c.before).args.s (omega (arith, eqb-true, distance-entry c.before)), omega arith), sameOutside-refl _ _ _)
+returns c = ((start_loop_unreached (graph c.before) (start c.before).args.transitions.0 (start c.before).args.s (omega (arith, eqb-true, the_distance_entry c.before)), omega arith), same_outside_refl _ _ _)
 
 number-requires : tie.Need-number-requires
 number-requires c κs = search rules
@@ -73,7 +73,7 @@ same-length-2 c = search rules
 returns-2 : tie.Need-returns-2
 returns-2 c =
     let at = c.before.before.before in
-    ((startLoop-far (valid-well-formed (start at).requires.0.valid) _ _ (distance-entry at) (omega (arith, ltb-true, c.before.number.ensures)), omega arith), sameOutside-refl _ _ _)
+    ((start_loop_far (valid_well_formed (start at).requires.0.valid) _ _ (the_distance_entry at) (omega (arith, ltb-true, c.before.number.ensures)), omega arith), same_outside_refl _ _ _)
 
 add-loop-length : tie.Need-overflow-add-loop-length
 add-loop-length c = search rules
@@ -91,7 +91,7 @@ enum-known-answer : tie.Need-enum-known-answer
 enum-known-answer c = search rules
 
 add-result : tie.Need-overflow-add-result
-add-result c = omega (arith, loop-found c)
+add-result c = omega (arith, loop_found c)
 
 enum_told : tie.Need-enum-told
 enum_told c = search rules
@@ -101,7 +101,7 @@ same-length-3 c = search rules
 
 returns-3 : tie.Need-returns-3
 returns-3 c =
-    let (within, low) = loop-found c in
+    let (within, low) = loop_found c in
     ((omega (arith, ap entry_of within), omega arith), c.before.before.before.before.before.loop-length.ensures.1)
 
 same-length-4 : tie.Need-same-length-4
@@ -111,7 +111,7 @@ returns-4 : tie.Need-returns-4
 returns-4 c =
     let e = c.before.before.before.before in
     let nothing = rw c.enum_told.given.1 at e.loop-length.ensures.0 in
-    ((omega (arith, ap entry_of (loop-within e.before.before ∙ nothing)), omega arith), e.loop-length.ensures.1)
+    ((omega (arith, ap entry_of (loop_within_lem e.before.before ∙ nothing)), omega arith), e.loop-length.ensures.1)
 
 pub start-loop-spec : {M : Type 1} → statement M
 start-loop-spec =

@@ -3,7 +3,7 @@ use Prim.Native.Nat.{◌≤◌, ◌-◌}
 use mathlib.Core.Path.{◌≡◌}
 use native.Mathlib.Omega.{arith}
 use Rattle.table.specs.Changes.{Cleared}
-use Rattle.table.proofs.Laws.{cleared-none, cleared_more}
+use Rattle.table.proofs.Laws.{cleared_none, cleared_more}
 use Rattle.table.proofs.clear.Statement.{statement}
 use Rattle.table.proofs.clear.Tie as tie
 
@@ -14,7 +14,7 @@ abbrev decreases-loop : tie.decreases-loop
 decreases-loop table₀ from to i₀ table i = to - i
 
 loop-holds : tie.Need-loop-init invariant-loop decreases-loop
-loop-holds c = (omega arith, omega arith, cleared-none c.args.from c.args.table.now)
+loop-holds c = (omega arith, omega arith, cleared_none c.args.from c.args.table.now)
 
 mul-table : tie.Need-overflow-mul-table invariant-loop decreases-loop
 mul-table c = omega arith

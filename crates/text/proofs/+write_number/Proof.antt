@@ -6,8 +6,8 @@ use native.Mathlib.Omega.{arith}
 use borrow.Fn.Kinds.{In}
 use borrow.Fn.PlainCycle.{Measures, is, falls, and}
 use lib.ListN.{length}
-use Rattle.text.proofs.WroteLaws.{wrote-length, wrote_then, wrote_as}
-use Rattle.text.proofs.DecimalLaws.{decimal-small, decimal-large, decimal-length}
+use Rattle.text.proofs.WroteLaws.{wrote_length, wrote_then, wrote_as}
+use Rattle.text.proofs.DecimalLaws.{decimal_small, decimal_large, decimal-length}
 use Rattle.text.proofs.write_number.Reads as write-number
 use Rattle.text.proofs.write_number.Kinds as write-number-kinds
 use Rattle.text.proofs.+write_number.Lts-write_number as write-number-lts
@@ -54,7 +54,7 @@ write-number-write-byte-requires : (t : ℕ) → write-number-lts.Need-write-byt
 ) (write-number-at t) write-number.Post
 write-number-write-byte-requires t c κs =
     let s = c.before.before.before in
-    omega (arith, s.requires.1, ap length (decimal-small s.args.n (omega (arith, c.before.if1.true))))
+    omega (arith, s.requires.1, ap length (decimal_small s.args.n (omega (arith, c.before.if1.true))))
 
 write-number-same-length : (t : ℕ) → write-number-lts.Need-same-length (
   write-byte-reads.Asked,
@@ -62,7 +62,7 @@ write-number-same-length : (t : ℕ) → write-number-lts.Need-same-length (
   write-number-below t,
   write-number.Post,
 ) (write-number-at t) write-number.Post
-write-number-same-length t c = wrote-length c.before.before.write_byte.ensures
+write-number-same-length t c = wrote_length c.before.before.write_byte.ensures
 
 write-number-returns : (t : ℕ) → write-number-lts.Need-returns (
   write-byte-reads.Asked,
@@ -72,7 +72,7 @@ write-number-returns : (t : ℕ) → write-number-lts.Need-returns (
 ) (write-number-at t) write-number.Post
 write-number-returns t c =
     let then = c.before.before.before.before in
-    wrote_as (sym (decimal-small then.before.before.args.n (omega (arith, then.if1.true)))) c.before.before.write_byte.ensures
+    wrote_as (sym (decimal_small then.before.before.args.n (omega (arith, then.if1.true)))) c.before.before.write_byte.ensures
 
 write-number-write-number-requires : (t : ℕ) → write-number-lts.Need-write-number-requires (
   write-byte-reads.Asked,
@@ -110,7 +110,7 @@ write-number-write-byte-requires-2 t c κs =
     let done = c.before.before.before in
     let s = done.before.before.before.before in
     let w = done.write-number.ensures in
-    omega (arith, s.requires.1, decimal-length s.args.n (omega (arith, done.before.before.if1.false)), w.place, wrote-length w)
+    omega (arith, s.requires.1, decimal-length s.args.n (omega (arith, done.before.before.if1.false)), w.place, wrote_length w)
 
 write-number-same-length-2 : (t : ℕ) → write-number-lts.Need-same-length-2 (
   write-byte-reads.Asked,
@@ -119,7 +119,7 @@ write-number-same-length-2 : (t : ℕ) → write-number-lts.Need-same-length-2 (
   write-number.Post,
 ) (write-number-at t) write-number.Post
 write-number-same-length-2 t c =
-    wrote-length c.before.before.write-byte2.ensures ∙ wrote-length c.before.before.before.before.before.before.write-number.ensures
+    wrote_length c.before.before.write-byte2.ensures ∙ wrote_length c.before.before.before.before.before.before.write-number.ensures
 
 write-number-returns-2 : (t : ℕ) → write-number-lts.Need-returns-2 (
   write-byte-reads.Asked,
@@ -130,7 +130,7 @@ write-number-returns-2 : (t : ℕ) → write-number-lts.Need-returns-2 (
 write-number-returns-2 t c =
     let done = c.before.before.before.before.before.before in
     let else = done.before.before in
-    wrote_as (sym (decimal-large else.before.before.args.n (omega (arith, else.if1.false)))) (wrote_then done.write-number.ensures c.before.before.write-byte2.ensures)
+    wrote_as (sym (decimal_large else.before.before.args.n (omega (arith, else.if1.false)))) (wrote_then done.write-number.ensures c.before.before.write-byte2.ensures)
 
 pub +write-number-spec : {M : Type 1} → statement M
 +write-number-spec = close μ-write-number λ t. write-number-lts.spec (

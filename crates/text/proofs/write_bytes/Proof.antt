@@ -5,7 +5,7 @@ use native.Mathlib.Omega.{arith}
 use lib.ListN.{length, take}
 use lib.Seq.{length-take-le, take_all}
 use Rattle.text.specs.Writing.{Wrote}
-use Rattle.text.proofs.WroteLaws.{wrote-length, wrote_none, wrote_then, wrote_as}
+use Rattle.text.proofs.WroteLaws.{wrote_length, wrote_none, wrote_then, wrote_as}
 use Rattle.lists.proofs.CollectLaws.{take_next}
 use Rattle.text.proofs.write_bytes.Statement.{statement}
 use Rattle.text.proofs.write_bytes.Tie as tie
@@ -24,10 +24,10 @@ shared-slice-read-byte c = omega arith
 
 write-byte-requires : tie.Need-write-byte-requires invariant-loop decreases-loop
 write-byte-requires c κs =
-    let at-loop = c.before.before.before in
-    let a = at-loop.before.before.before.args in
-    let w = at-loop.loop.invariant.1 in
-    omega (arith, w.place, wrote-length w, length-take-le at-loop.loop.i a.bytes.now (omega arith))
+    let at_loop = c.before.before.before in
+    let a = at_loop.before.before.before.args in
+    let w = at_loop.loop.invariant.1 in
+    omega (arith, w.place, wrote_length w, length-take-le at_loop.loop.i a.bytes.now (omega arith))
 
 add-i : tie.Need-overflow-add-i invariant-loop decreases-loop
 add-i c = omega arith
@@ -38,14 +38,14 @@ loop-less c = omega arith
 loop-again : tie.Need-loop-preserved invariant-loop decreases-loop
 loop-again c =
     let done = c.before.before in
-    let at-loop = done.before.before.before.before in
-    let a = at-loop.before.before.before.args in (
+    let at_loop = done.before.before.before.before in
+    let a = at_loop.before.before.before.args in (
       omega arith,
-      wrote_as (sym (take_next a.bytes.now at-loop.loop.i 0 (omega arith))) (wrote_then at-loop.loop.invariant.1 done.write_byte.ensures),
+      wrote_as (sym (take_next a.bytes.now at_loop.loop.i 0 (omega arith))) (wrote_then at_loop.loop.invariant.1 done.write_byte.ensures),
     )
 
 same_length : tie.Need-same-length invariant-loop decreases-loop
-same_length c = wrote-length c.before.loop.invariant.1
+same_length c = wrote_length c.before.loop.invariant.1
 
 returns : tie.Need-returns invariant-loop decreases-loop
 returns c =

@@ -1,7 +1,7 @@
 -- `write_figure` meets its contract: the word, the number and the line feed are written one after the other.
 use native.Mathlib.Omega.{arith}
 use borrow.Author.Rules.{rules}
-use Rattle.text.proofs.WroteLaws.{wrote-length, wrote_then}
+use Rattle.text.proofs.WroteLaws.{wrote_length, wrote_then}
 use Rattle.text.proofs.FigureLaws.{figure-length}
 use Rattle.text.proofs.write_figure.Statement.{statement}
 use Rattle.text.proofs.write_figure.Tie as tie
@@ -19,7 +19,7 @@ write-number-requires c κs =
     let word = c.before.before.before in
     let s = start word in
     let w = word.write_bytes.ensures in
-    omega (arith, s.pre, figure-length s.args.word.now s.args.n, w.place, wrote-length w)
+    omega (arith, s.pre, figure-length s.args.word.now s.args.n, w.place, wrote_length w)
 
 write-byte-requires : tie.Need-write-byte-requires
 write-byte-requires c κs =
@@ -27,7 +27,7 @@ write-byte-requires c κs =
     let word = number.before.before.before.before in
     let s = start word in
     let w = wrote_then word.write_bytes.ensures number.write-number.ensures in
-    omega (arith, s.pre, figure-length s.args.word.now s.args.n, word.write_bytes.ensures.place, number.write-number.ensures.place, wrote-length w)
+    omega (arith, s.pre, figure-length s.args.word.now s.args.n, word.write_bytes.ensures.place, number.write-number.ensures.place, wrote_length w)
 
 same_length : tie.Need-same-length
 same_length c = search rules

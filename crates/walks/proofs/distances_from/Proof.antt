@@ -6,11 +6,11 @@ use mathlib.Core.Path.{◌≡◌, ◌∙◌, ap}
 use native.Mathlib.Omega.{arith}
 use native.Mathlib.Nat.{le_refl}
 use lib.ListN.{length}
-use Rattle.model.specs.Model.{graphIn}
-use Rattle.model.proofs.Laws.{succs-none, valid-sizes, valid-well-formed}
+use Rattle.model.specs.Model.{graph_in}
+use Rattle.model.proofs.Laws.{succs_none, valid_sizes, valid_well_formed}
 use Rattle.edge_search.specs.declared.SpreadAnswer.TheVariants.{Nothing}
 use Rattle.walks.specs.Through.{DistancesWithin}
-use Rattle.walks.proofs.ThroughSteps.{started-distances}
+use Rattle.walks.proofs.ThroughSteps.{started_distances}
 use Rattle.walks.proofs.distances_from.Statement.{statement}
 use Rattle.walks.proofs.distances_from.Tie as tie
 
@@ -18,18 +18,18 @@ use Rattle.walks.proofs.distances_from.Tie as tie
 searched : (c : tie.After-slice-known3) →
     let search = c.before.before.search-edges in
     let a = c.before.before.before.before.before.before.before.before.before.before.args in
-    (count : ℕ) × (search.result ≡ Nothing count) × DistancesWithin (graphIn a.file.now a.h) a.x a.limit a.work.now search.new.1.1.0 count
+    (count : ℕ) × (search.result ≡ Nothing count) × DistancesWithin (graph_in a.file.now a.h) a.x a.limit a.work.now search.new.1.1.0 count
 searched c =
     let p = c.before.before.before.before.before.before in
     let s = p.before.before.before.before in
     let made = p.start-at.ensures in
     let search = c.before.before.search-edges in
-    started-distances {g = graphIn s.args.file.now s.args.h} _ (valid-well-formed s.requires.0) s.requires.1.0 s.requires.1.1.0 search.result made.started (λ t h apart. search.ensures.1.same_after (5 * s.args.h.states + t) (omega arith) ∙ made.fifth t h apart) (search.ensures.0 made.origin made.planned)
+    started_distances {g = graph_in s.args.file.now s.args.h} _ (valid_well_formed s.requires.0) s.requires.1.0 s.requires.1.1.0 search.result made.started (λ t h apart. search.ensures.1.same_after (5 * s.args.h.states + t) (omega arith) ∙ made.fifth t h apart) (search.ensures.0 made.origin made.planned)
 
 start-at-requires : tie.Need-start-at-requires
 start-at-requires c κs =
     let s = c.before.before.before in
-    ((valid-sizes s.requires.0).states-range.1, s.requires.1)
+    ((valid_sizes s.requires.0).states_range.1, s.requires.1)
 
 search-edges-requires : tie.Need-search-edges-requires
 search-edges-requires c κs =
@@ -45,7 +45,7 @@ search-edges-requires c κs =
           (
             record { origin = made.origin; planned = made.planned },
             λ origin planned e.
-                absurd (omega (arith, ap length e, ap length (succs-none a.file.now a.h a.h.states (le_refl a.h.states)))),
+                absurd (omega (arith, ap length e, ap length (succs_none a.file.now a.h a.h.states (le_refl a.h.states)))),
           ),
         ),
       ),

@@ -1,6 +1,6 @@
 -- `from_marks` meets its contract: a search from the levels that the marked states keep.
 use borrow.Author.Rules.{rules}
-use Rattle.walks.proofs.ThroughSteps.{kept-spread}
+use Rattle.walks.proofs.ThroughSteps.{kept_spread}
 use Rattle.walks.proofs.from_marks.Statement.{statement}
 use Rattle.walks.proofs.from_marks.Tie as tie
 
@@ -21,7 +21,7 @@ returns : tie.Need-returns
 returns c =
     let a = (start c).args in
     let search = c.before.before.spread in
-    kept-spread a.limit a.target _ search.result c.before.before.before.before.before.before.keep-marked.ensures search.ensures
+    kept_spread a.limit a.target _ search.result c.before.before.before.before.before.before.keep-marked.ensures search.ensures
 
 pub from-marks-spec : {M : Type 1} → statement M
 from-marks-spec = tie.close (tie.spec keep-marked-requires spread-requires same_length returns)

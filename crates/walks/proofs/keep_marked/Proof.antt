@@ -6,19 +6,19 @@ use mathlib.Core.Path.{sym, ◌∙◌}
 use mathlib.Core.Logic.{⊎_elim}
 use native.Mathlib.Omega.{arith}
 use borrow.Author.Tests.{not-true, not-false}
-use Rattle.model.specs.Model.{graphIn}
-use Rattle.walks.proofs.ThroughSteps.{KeptBelow, kept-none, kept-marked, kept-unmarked, kept-all}
+use Rattle.model.specs.Model.{graph_in}
+use Rattle.walks.proofs.ThroughSteps.{KeptBelow, kept_none, kept_marked, kept_unmarked, kept_all}
 use Rattle.walks.proofs.keep_marked.Statement.{statement}
 use Rattle.walks.proofs.keep_marked.Tie as tie
 
 abbrev invariant-loop : tie.invariant-loop
-invariant-loop file h work₀ n s₀ work s = (s ≤ n) × KeptBelow (graphIn file h).marked n s work₀ work
+invariant-loop file h work₀ n s₀ work s = (s ≤ n) × KeptBelow (graph_in file h).marked n s work₀ work
 
 abbrev decreases-loop : tie.decreases-loop
 decreases-loop file h work₀ n s₀ work s = n - s
 
 loop-holds : tie.Need-loop-init invariant-loop decreases-loop
-loop-holds c = (omega arith, kept-none _ _ _)
+loop-holds c = (omega arith, kept_none _ _ _)
 
 is-marked-requires : tie.Need-is-marked-requires invariant-loop decreases-loop
 is-marked-requires c κs = search rules
@@ -42,8 +42,8 @@ loop-again : tie.Need-loop-preserved invariant-loop decreases-loop
 loop-again c =
     let kept = c.before.before.before.loop.invariant.1 in (
       omega arith,
-      ⊎_elim (λ w. rw (w.5, w.2.ensures) (kept-unmarked (omega arith) (omega arith) kept (sym c.before.is-marked.ensures ∙ not-true _ w.0.taken)))
-          (λ w. rw w.1 (kept-marked kept (sym c.before.is-marked.ensures ∙ not-false _ w.0.left)))
+      ⊎_elim (λ w. rw (w.5, w.2.ensures) (kept_unmarked (omega arith) (omega arith) kept (sym c.before.is-marked.ensures ∙ not-true _ w.0.taken)))
+          (λ w. rw w.1 (kept_marked kept (sym c.before.is-marked.ensures ∙ not-false _ w.0.left)))
           c.if1.branch,
     )
 
@@ -53,7 +53,7 @@ same_length c = c.before.loop.invariant.1.outside.same_length
 returns : tie.Need-returns invariant-loop decreases-loop
 returns c =
     let a = c.before.before.before.before.args in
-    kept-all (graphIn a.file.now a.h) (omega arith) c.before.loop.invariant.1
+    kept_all (graph_in a.file.now a.h) (omega arith) c.before.loop.invariant.1
 
 pub keep-marked-spec : {M : Type 1} → statement M
 keep-marked-spec =

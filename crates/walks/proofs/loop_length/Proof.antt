@@ -1,9 +1,9 @@
 -- `loop_length` meets its contract: the distances from x, and then the search from the marked states back
 -- to x.
 use borrow.Author.Rules.{rules}
-use Rattle.table.proofs.Laws.{sameOutside-trans}
-use Rattle.spread.proofs.SearchLaws.{spread-sameOutside}
-use Rattle.walks.proofs.ThroughLaws.{loopLength-answer}
+use Rattle.table.proofs.Laws.{same_outside_trans}
+use Rattle.spread.proofs.SearchLaws.{spread_same_outside}
+use Rattle.walks.proofs.ThroughLaws.{loop_length_answer}
 use Rattle.walks.proofs.loop_length.Statement.{statement}
 use Rattle.walks.proofs.loop_length.Tie as tie
 
@@ -25,7 +25,7 @@ returns c =
     let a = (start c).args in
     let away = c.before.before.before.before.before.before.distances-from.ensures in
     let back = c.before.before.from-marks in
-    (loopLength-answer away _ back.result back.ensures, sameOutside-trans away.outside (spread-sameOutside _ _ a.limit a.x back.result back.ensures))
+    (loop_length_answer away _ back.result back.ensures, same_outside_trans away.outside (spread_same_outside _ _ a.limit a.x back.result back.ensures))
 
 pub loop-length-spec : {M : Type 1} → statement M
 loop-length-spec = tie.close (tie.spec distances-from-requires from-marks-requires same_length returns)

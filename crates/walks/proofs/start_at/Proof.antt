@@ -1,7 +1,7 @@
 -- `start_at` meets its contract: two cleared regions, and x in front of the list of level 0.
 use borrow.Author.Rules.{rules}
 use native.Mathlib.Omega.{arith}
-use Rattle.walks.proofs.ThroughSteps.{cleared-planned}
+use Rattle.walks.proofs.ThroughSteps.{cleared_planned}
 use Rattle.walks.proofs.start_at.Statement.{statement}
 use Rattle.walks.proofs.start_at.Tie as tie
 
@@ -35,7 +35,7 @@ same_length c = search rules
 returns : tie.Need-returns
 returns c =
     rw c.before.before.list-source.ensures
-    (cleared-planned _ _ _ _ _ _ (omega arith) (omega arith) (omega arith) (omega arith) c.before.before.before.before.before.before.before.before.before.before.clear.ensures c.before.before.before.before.before.before.clear2.ensures)
+    (cleared_planned _ _ _ _ _ _ (omega arith) (omega arith) (omega arith) (omega arith) c.before.before.before.before.before.before.before.before.before.before.clear.ensures c.before.before.before.before.before.before.clear2.ensures)
 
 pub start-at-spec : {M : Type 1} → statement M
 start-at-spec =

@@ -5,14 +5,14 @@ use lib.ListN.{length}
 use native.Mathlib.Omega.{arith}
 use borrow.Author.Tests.{eqb-true, eqb-false, not-true, not-false}
 use borrow.Author.Rules.{rules}
-use Rattle.model.specs.Model.{graphIn}
-use Rattle.model.proofs.Laws.{Sizes, valid-sizes, valid-well-formed}
-use Rattle.ways.proofs.BackLaws.{Settled, settled-none, settled-all, step-state, step-flagged, step-leads, step-dropped}
+use Rattle.model.specs.Model.{graph_in}
+use Rattle.model.proofs.Laws.{Sizes, valid_sizes, valid_well_formed}
+use Rattle.ways.proofs.BackLaws.{Settled, settled_none, settled_all, step_state, step_flagged, step_leads, step_dropped}
 use Rattle.ways.proofs.keep_ways.Statement.{statement}
 use Rattle.ways.proofs.keep_ways.Tie as tie
 
 abbrev invariant-loop : tie.invariant-loop
-invariant-loop file h work₀ count n i₀ work i = (i ≤ count) × Settled (graphIn file h) n count work₀ work i
+invariant-loop file h work₀ count n i₀ work i = (i ≤ count) × Settled (graph_in file h) n count work₀ work i
 
 abbrev decreases-loop : tie.decreases-loop
 decreases-loop file h work₀ count n i₀ work i = i
@@ -26,7 +26,7 @@ long c = c.loop.invariant.1.outside.same_length
 
 -- there are at most 4,096 states
 sizes : (c : tie.At-loop invariant-loop decreases-loop) → Sizes (start c).args.file.now (start c).args.h
-sizes c = valid-sizes (start c).requires.0
+sizes c = valid_sizes (start c).requires.0
 
 -- the queue holds at most n states
 fits : (c : tie.At-loop invariant-loop decreases-loop) → (start c).args.count ≤ (start c).args.h.states
@@ -37,11 +37,11 @@ state : (c : tie.After-get invariant-loop decreases-loop) → c.get.result < (st
 state c =
     let l = c.before.before.before in
     let s = start l in
-    step-state (graphIn s.args.file.now s.args.h) s.args.h.states s.args.count l.loop.i (l.loop.i - 1) s.args.work.now l.loop.work
-    (valid-well-formed s.pre.0) refl s.pre.1.1 (omega (arith, c.before.before.loop-test.true)) l.loop.invariant.0 l.loop.invariant.1 c.get.result c.get.ensures.0
+    step_state (graph_in s.args.file.now s.args.h) s.args.h.states s.args.count l.loop.i (l.loop.i - 1) s.args.work.now l.loop.work
+    (valid_well_formed s.pre.0) refl s.pre.1.1 (omega (arith, c.before.before.loop-test.true)) l.loop.invariant.0 l.loop.invariant.1 c.get.result c.get.ensures.0
 
 loop-holds : tie.Need-loop-init invariant-loop decreases-loop
-loop-holds c = (omega arith, settled-none _ _ _ _)
+loop-holds c = (omega arith, settled_none _ _ _ _)
 
 sub-i : tie.Need-overflow-sub-i invariant-loop decreases-loop
 sub-i c = search rules
@@ -98,8 +98,8 @@ loop-again c =
     let s = start l in
     let e = c.before.before.put.ensures in (
       omega (arith, l.loop.invariant.0),
-      rw e (step-dropped (graphIn s.args.file.now s.args.h) s.args.h.states s.args.count l.loop.i (l.loop.i - 1) s.args.work.now l.loop.work
-          (valid-well-formed s.pre.0) refl s.pre.1.1 (omega (arith, r.before.before.loop-test.true)) l.loop.invariant.0 l.loop.invariant.1 r.get.result r.get.ensures.0
+      rw e (step_dropped (graph_in s.args.file.now s.args.h) s.args.h.states s.args.count l.loop.i (l.loop.i - 1) s.args.work.now l.loop.work
+          (valid_well_formed s.pre.0) refl s.pre.1.1 (omega (arith, r.before.before.loop-test.true)) l.loop.invariant.0 l.loop.invariant.1 r.get.result r.get.ensures.0
           (omega arith) (omega (arith, eqb-true, c.before.before.before.before.before.before.before.before.before.if1.true, c.before.before.before.before.before.before.before.before.before.before.get2.ensures.0)) _ (omega (arith, c.before.before.before.before.before.before.before.get3.ensures.0))
           (rw (not-true c.before.before.before.before.before.leads-on.result c.before.before.before.before.if2.true) at c.before.before.before.before.before.leads-on.ensures)),
     )
@@ -113,8 +113,8 @@ loop-again-2 c =
     let l = r.before.before.before in
     let s = start l in (
       omega (arith, l.loop.invariant.0),
-      step-leads (graphIn s.args.file.now s.args.h) s.args.h.states s.args.count l.loop.i (l.loop.i - 1) s.args.work.now l.loop.work
-          (valid-well-formed s.pre.0) refl s.pre.1.1 (omega (arith, r.before.before.loop-test.true)) l.loop.invariant.0 l.loop.invariant.1 r.get.result r.get.ensures.0
+      step_leads (graph_in s.args.file.now s.args.h) s.args.h.states s.args.count l.loop.i (l.loop.i - 1) s.args.work.now l.loop.work
+          (valid_well_formed s.pre.0) refl s.pre.1.1 (omega (arith, r.before.before.loop-test.true)) l.loop.invariant.0 l.loop.invariant.1 r.get.result r.get.ensures.0
           _ (omega (arith, c.before.before.before.get3.ensures.0)) (rw (not-false c.before.leads-on.result c.if2.false) at c.before.leads-on.ensures),
     )
 
@@ -127,8 +127,8 @@ loop-again-3 c =
     let l = r.before.before.before in
     let s = start l in (
       omega (arith, l.loop.invariant.0),
-      step-flagged (graphIn s.args.file.now s.args.h) s.args.h.states s.args.count l.loop.i (l.loop.i - 1) s.args.work.now l.loop.work
-          (valid-well-formed s.pre.0) refl s.pre.1.1 (omega (arith, r.before.before.loop-test.true)) l.loop.invariant.0 l.loop.invariant.1 r.get.result r.get.ensures.0
+      step_flagged (graph_in s.args.file.now s.args.h) s.args.h.states s.args.count l.loop.i (l.loop.i - 1) s.args.work.now l.loop.work
+          (valid_well_formed s.pre.0) refl s.pre.1.1 (omega (arith, r.before.before.loop-test.true)) l.loop.invariant.0 l.loop.invariant.1 r.get.result r.get.ensures.0
           (omega (arith, eqb-false, c.if1.false, c.before.get2.ensures.0)),
     )
 
@@ -138,7 +138,7 @@ same_length c = long c.before
 returns : tie.Need-returns invariant-loop decreases-loop
 returns c =
     let l = c.before in
-    settled-all (start l).requires.1.1 (omega (arith, c.loop-test.false)) l.loop.invariant.1
+    settled_all (start l).requires.1.1 (omega (arith, c.loop-test.false)) l.loop.invariant.1
 
 pub keep-ways-spec : {M : Type 1} → statement M
 keep-ways-spec =

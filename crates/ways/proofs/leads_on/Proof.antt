@@ -6,9 +6,9 @@ use native.Mathlib.Omega.{arith}
 use borrow.Author.Tests.{eqb-true, eqb-false}
 use borrow.Author.Rules.{rules}
 use Rattle.frontier.specs.Regions.{entry}
-use Rattle.lists.proofs.Tests.{NoneOf, noneOf-more}
-use Rattle.model.specs.Model.{graphIn, steps_of}
-use Rattle.model.proofs.Laws.{row-edge, row-none, row-state}
+use Rattle.lists.proofs.Tests.{NoneOf, none_of_more}
+use Rattle.model.specs.Model.{graph_in, steps_of}
+use Rattle.model.proofs.Laws.{row_edge, row_none, row_state}
 use Rattle.ways.proofs.leads_on.Statement.{statement}
 use Rattle.ways.proofs.leads_on.Tie as tie
 
@@ -26,10 +26,10 @@ abbrev start : tie.At-loop invariant-loop decreases-loop → tie.Start invariant
 start c = c.before.before.before.before.before
 
 -- the successor is a state
-successor-state : (c : tie.After-successor invariant-loop decreases-loop) → c.successor.result < (start c.before.before).args.h.states
-successor-state c =
+successor_state : (c : tie.After-successor invariant-loop decreases-loop) → c.successor.result < (start c.before.before).args.h.states
+successor_state c =
     let s = start c.before.before in
-    row-state s.args.s c.before.before.loop.k s.pre.0 c.before.before.before.before.row-part.ensures (omega arith) c.successor.ensures
+    row_state s.args.s c.before.before.loop.k s.pre.0 c.before.before.before.before.row-part.ensures (omega arith) c.successor.ensures
 
 row-part-requires : tie.Need-row-part-requires invariant-loop decreases-loop
 row-part-requires c κs = search rules
@@ -47,17 +47,17 @@ mul-get : tie.Need-overflow-mul-get invariant-loop decreases-loop
 mul-get c = search rules
 
 add-get : tie.Need-overflow-add-get invariant-loop decreases-loop
-add-get c = omega (arith, successor-state c)
+add-get c = omega (arith, successor_state c)
 
 get-requires : tie.Need-get-requires invariant-loop decreases-loop
-get-requires c κs = omega (arith, successor-state c)
+get-requires c κs = omega (arith, successor_state c)
 
 returns : tie.Need-returns invariant-loop decreases-loop
 returns c =
     let l = c.before.before.before.before in
     let s = start l in (
       c.before.before.successor.result,
-      row-edge (graphIn s.args.file.now s.args.h) s.args.s l.loop.k l.before.before.row-part.ensures (omega arith) c.before.before.successor.ensures,
+      row_edge (graph_in s.args.file.now s.args.h) s.args.s l.loop.k l.before.before.row-part.ensures (omega arith) c.before.before.successor.ensures,
       omega (arith, eqb-true, c.if1.true, c.before.get.ensures.0),
     )
 
@@ -72,7 +72,7 @@ loop-again c =
     let l = c.before.before.before.before in
     let a = (start l).args in (
       omega arith,
-      noneOf-more (Has a.h.states a.work.now a.next) (steps_of a.h a.s l.before.before.row-part.result.now) l.loop.k c.before.before.successor.result
+      none_of_more (Has a.h.states a.work.now a.next) (steps_of a.h a.s l.before.before.row-part.result.now) l.loop.k c.before.before.successor.result
           l.loop.invariant.1 c.before.before.successor.ensures (λ e. absurd (omega (arith, eqb-false, c.if1.false, c.before.get.ensures.0, e))),
     )
 
@@ -81,7 +81,7 @@ returns-2 c =
     let l = c.before in
     let a = (start l).args in
     λ (t, edge, e).
-    row-none (Has a.h.states a.work.now a.next) (graphIn a.file.now a.h) a.s l.loop.k t l.before.before.row-part.ensures (omega (arith, l.before.degree.ensures)) l.loop.invariant.1 edge e
+    row_none (Has a.h.states a.work.now a.next) (graph_in a.file.now a.h) a.s l.loop.k t l.before.before.row-part.ensures (omega (arith, l.before.degree.ensures)) l.loop.invariant.1 edge e
 
 pub leads-on-spec : {M : Type 1} → statement M
 leads-on-spec =

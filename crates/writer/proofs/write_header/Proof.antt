@@ -5,9 +5,9 @@ use mathlib.Core.List.{List, [], ◌∷◌, ◌++◌}
 use native.Mathlib.Omega.{arith}
 use borrow.Author.Rules.{rules}
 use Rattle.text.specs.Writing.{Wrote}
-use Rattle.text.proofs.WroteLaws.{wrote-length, wrote_then, wrote_as}
-use Rattle.format.specs.Layout.{rows_at, edges_at, marksAt}
-use Rattle.writer.specs.File.{words16, halves, headerWords}
+use Rattle.text.proofs.WroteLaws.{wrote_length, wrote_then, wrote_as}
+use Rattle.format.specs.Layout.{rows_at, edges_at, marks_at}
+use Rattle.writer.specs.File.{words16, halves, header_words}
 use Rattle.writer.proofs.write_header.Statement.{statement}
 use Rattle.writer.proofs.write_header.Tie as tie
 
@@ -48,21 +48,21 @@ counts c =
     wrote_then (wrote_then (wrote_then (first (second (third c))).write_word.ensures (second (third c)).write-word2.ensures) (third c).write-word3.ensures) c.write-word4.ensures
 
 -- and after them the offsets of the row table, of the edge table and of the marks
-to-marks : (c : tie.After-write-long3)
+to_marks : (c : tie.After-write-long3)
     → let a = (start (fourth (rows (edges c)))).args in
-    Wrote a.out.now 0 (words16 (a.n ∷ a.m ∷ a.start ∷ 0 ∷ halves rows_at ++ halves (edges_at a.n) ++ halves (marksAt a.n a.m))) c.write-long3.new.0 c.write-long3.result
-to-marks c =
+    Wrote a.out.now 0 (words16 (a.n ∷ a.m ∷ a.start ∷ 0 ∷ halves rows_at ++ halves (edges_at a.n) ++ halves (marks_at a.n a.m))) c.write-long3.new.0 c.write-long3.result
+to_marks c =
     wrote_then
     (wrote_then
     (wrote_then (counts (fourth (rows (edges c)))) (rows (edges c)).write-long.ensures)
-    (long (edges c).before.edges-at.ensures (edges c).write-long2.ensures))
-    (long c.before.marks-at.ensures c.write-long3.ensures)
+    (long (edges c).before.edges_at.ensures (edges c).write-long2.ensures))
+    (long c.before.marks_at.ensures c.write-long3.ensures)
 
 -- and the total length
 whole : (c : tie.After-write-long4)
     → let a = (start (fourth (rows (edges (marks c))))).args in
-    Wrote a.out.now 0 (words16 (headerWords a.n a.m a.start)) c.write-long4.new.0 c.write-long4.result
-whole c = wrote_then (to-marks (marks c)) (long c.before.total_of.ensures c.write-long4.ensures)
+    Wrote a.out.now 0 (words16 (header_words a.n a.m a.start)) c.write-long4.new.0 c.write-long4.result
+whole c = wrote_then (to_marks (marks c)) (long c.before.total_of.ensures c.write-long4.ensures)
 
 write-word-requires : tie.Need-write-word-requires
 write-word-requires c κs = search rules
@@ -98,11 +98,11 @@ write-long-requires-4 : tie.Need-write-long-requires-4
 write-long-requires-4 c κs =
     let m = c.before.before.before.before in
     let s = start (fourth (rows (edges m))) in
-    let w = to-marks m in
-    omega (arith, s.pre, w.place, wrote-length w, c.total_of.ensures)
+    let w = to_marks m in
+    omega (arith, s.pre, w.place, wrote_length w, c.total_of.ensures)
 
 same_length : tie.Need-same-length
-same_length c = wrote-length (whole c.before.before)
+same_length c = wrote_length (whole c.before.before)
 
 returns : tie.Need-returns
 returns c = whole c.before.before

@@ -7,10 +7,10 @@ use Rattle.finder_compare.proofs.checks.check_list.Statement.{statement}
 use Rattle.finder_compare.proofs.checks.check_list.Tie as tie
 
 abbrev invariant-loop : tie.invariant-loop
-invariant-loop t roll file markTable list entries tally₀ turn₀ tally turn = (turn ≤ 9 * entries + 15) × (length tally ≡ length tally₀)
+invariant-loop t roll file mark_table list entries tally₀ turn₀ tally turn = (turn ≤ 9 * entries + 15) × (length tally ≡ length tally₀)
 
 abbrev decreases-loop : tie.decreases-loop
-decreases-loop t roll file markTable list entries tally₀ turn₀ tally turn = 9 * entries + 15 - turn
+decreases-loop t roll file mark_table list entries tally₀ turn₀ tally turn = 9 * entries + 15 - turn
 
 loop-holds : tie.Need-loop-init invariant-loop decreases-loop
 loop-holds c = search rules

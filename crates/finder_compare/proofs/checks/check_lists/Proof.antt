@@ -7,10 +7,10 @@ use Rattle.finder_compare.proofs.checks.check_lists.Statement.{statement}
 use Rattle.finder_compare.proofs.checks.check_lists.Tie as tie
 
 abbrev invariant-loop : tie.invariant-loop
-invariant-loop t roll file markTable tally₀ place₀ tally place = (place ≤ length roll) × (length tally ≡ length tally₀)
+invariant-loop t roll file mark_table tally₀ place₀ tally place = (place ≤ length roll) × (length tally ≡ length tally₀)
 
 abbrev decreases-loop : tie.decreases-loop
-decreases-loop t roll file markTable tally₀ place₀ tally place = length roll - place
+decreases-loop t roll file mark_table tally₀ place₀ tally place = length roll - place
 
 loop-holds : tie.Need-loop-init invariant-loop decreases-loop
 loop-holds c = search rules

@@ -7,10 +7,10 @@ use Rattle.finder_compare.proofs.checks.check_random.Statement.{statement}
 use Rattle.finder_compare.proofs.checks.check_random.Tie as tie
 
 abbrev invariant-loop : tie.invariant-loop
-invariant-loop m t roll file markTable tally₀ x₀ turn₀ tally x turn = (turn ≤ 6) × (length tally ≡ length tally₀)
+invariant-loop m t roll file mark_table tally₀ x₀ turn₀ tally x turn = (turn ≤ 6) × (length tally ≡ length tally₀)
 
 abbrev decreases-loop : tie.decreases-loop
-decreases-loop m t roll file markTable tally₀ x₀ turn₀ tally x turn = 6 - turn
+decreases-loop m t roll file mark_table tally₀ x₀ turn₀ tally x turn = 6 - turn
 
 check-next-requires : tie.Need-check-next-requires invariant-loop decreases-loop
 check-next-requires c κs = search rules

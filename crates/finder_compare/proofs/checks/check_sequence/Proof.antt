@@ -7,10 +7,10 @@ use Rattle.finder_compare.proofs.checks.check_sequence.Statement.{statement}
 use Rattle.finder_compare.proofs.checks.check_sequence.Tie as tie
 
 abbrev invariant-loop : tie.invariant-loop
-invariant-loop t roll file markTable tally₀ s₀ got₀ tally s got = (got ≤ 1000) × (length tally ≡ length tally₀)
+invariant-loop t roll file mark_table tally₀ s₀ got₀ tally s got = (got ≤ 1000) × (length tally ≡ length tally₀)
 
 abbrev decreases-loop : tie.decreases-loop
-decreases-loop t roll file markTable tally₀ s₀ got₀ tally s got = 1000 - got
+decreases-loop t roll file mark_table tally₀ s₀ got₀ tally s got = 1000 - got
 
 check-search-requires : tie.Need-check-search-requires invariant-loop decreases-loop
 check-search-requires c κs = search rules

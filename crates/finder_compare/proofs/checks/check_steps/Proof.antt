@@ -7,10 +7,10 @@ use Rattle.finder_compare.proofs.checks.check_steps.Statement.{statement}
 use Rattle.finder_compare.proofs.checks.check_steps.Tie as tie
 
 abbrev invariant-loop : tie.invariant-loop
-invariant-loop t within ceiling file markTable tally₀ end turn₀ tally turn = (turn ≤ 9 * (end + 1)) × (length tally ≡ length tally₀)
+invariant-loop t within ceiling file mark_table tally₀ end turn₀ tally turn = (turn ≤ 9 * (end + 1)) × (length tally ≡ length tally₀)
 
 abbrev decreases-loop : tie.decreases-loop
-decreases-loop t within ceiling file markTable tally₀ end turn₀ tally turn = 9 * (end + 1) - turn
+decreases-loop t within ceiling file mark_table tally₀ end turn₀ tally turn = 9 * (end + 1) - turn
 
 rounds-requires : tie.Need-rounds-requires invariant-loop decreases-loop
 rounds-requires c κs = search rules

@@ -2,7 +2,7 @@
 use Prim.Native.Nat.{ℕ, ◌+◌}
 use mathlib.Core.Path.{◌≡◌, subst}
 use native.Mathlib.Omega.{arith}
-use Rattle.format.specs.Layout.{rowEntry}
+use Rattle.format.specs.Layout.{row_entry}
 use Rattle.format.proofs.Words.{words_row}
 use borrow.Author.Rules.{rules}
 use Rattle.format.proofs.layout.edge_part.Statement.{statement}
@@ -26,10 +26,10 @@ row-entry-requires-2 c κs = search rules
 -- the row ends where the next one starts
 ends : (c : tie.After-row-entry2) →
     let a = c.before.before.before.args in
-    c.row-entry2.result ≡ rowEntry a.file.now (a.s + 1)
+    c.row-entry2.result ≡ row_entry a.file.now (a.s + 1)
 ends c =
     let a = c.before.before.before.args in
-    subst (λ (n : ℕ). c.row-entry2.result ≡ rowEntry a.file.now n) (omega arith) c.row-entry2.ensures.0
+    subst (λ (n : ℕ). c.row-entry2.result ≡ row_entry a.file.now n) (omega arith) c.row-entry2.ensures.0
 
 mul-to : tie.Need-overflow-mul-to
 mul-to c = search (rules, ends c)

@@ -22,7 +22,7 @@ add-result c = omega (arith, one_table c.before.before.args.t c.mark-bytes.resul
 returns : tie.Need-returns
 returns c =
     let a = c.before.before.args in
-    ap₂ (λ (at bytes : ℕ). at + a.t * bytes) c.before.marks-at.ensures c.mark-bytes.ensures
+    ap₂ (λ (at bytes : ℕ). at + a.t * bytes) c.before.marks_at.ensures c.mark-bytes.ensures
 
 pub table-at-spec : {M : Type 1} → statement M
 table-at-spec = tie.close (tie.spec marks-at-requires mark-bytes-requires mul-result add-result returns)

@@ -14,12 +14,12 @@ lesser-requires : tie.Need-lesser-requires
 lesser-requires c κs = search rules
 
 -- a record with a given count and best
-with-best : ℕ → Option ℕ → Record
-with-best n b = record { done = n; best = b }
+with_best : ℕ → Option ℕ → Record
+with_best n b = record { done = n; best = b }
 
 returns : tie.Need-returns
-unfolding with-best
-returns c = ap (with-best (c.before.before.args.self.done + 1)) c.lesser.ensures
+unfolding with_best
+returns c = ap (with_best (c.before.before.args.self.done + 1)) c.lesser.ensures
 
 pub with-round-spec : {M : Type 1} → statement M
 with-round-spec = tie.close (tie.spec add-t4 lesser-requires returns)
