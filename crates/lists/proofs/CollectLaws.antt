@@ -23,6 +23,7 @@ module _ {A B : Type 0} where
 
   -- the part of each entry is collected
   pub collect_mem : (f : A → List B) (xs : List A) (x : A) (u : B) → Memᴰ x xs → Memᴰ u (f x) → Memᴰ u (collect f xs)
+  collect_mem f [] x u x4 h = elim x4 [ ]
   collect_mem f (y ∷ ys) x u (Memᴰ.head e) h = Memᴰ.append_left (collect f ys) (subst (λ z. Memᴰ u (f z)) e h)
   collect_mem f (y ∷ ys) x u (Memᴰ.tail m) h = Memᴰ.append_right (f y) (collect_mem f ys x u m h)
 

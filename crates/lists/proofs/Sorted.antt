@@ -21,6 +21,7 @@ Sorted R (x ∷ xs) = All (R x) xs × Sorted R xs
 module _ {A : Type 0} where
   -- what every entry has, an entry has
   pub all_mem : (P : A → Type 0) (x : A) (xs : List A) → All P xs → Memᴰ x xs → P x
+  all_mem P x [] h x3 = elim x3 [ ]
   all_mem P x (y ∷ ys) h (Memᴰ.head e) = subst P (sym e) h.0
   all_mem P x (y ∷ ys) h (Memᴰ.tail m) = all_mem P x ys h.1 m
 

@@ -194,6 +194,7 @@ some_anyb p (mathlib.Core.List.Memᴰ.tail {x = y} {xs = ys} m) h = or_r (p y) (
 
 -- the entries of up_from a n are at least a and below a + n
 pub up_from_range : (a n : ℕ) {x : ℕ} → Memᴰ x (up_from a n) → (a ≤ x) × (x < a + n)
+up_from_range a zero x3 = elim x3 [ ]
 up_from_range a (suc n) (mathlib.Core.List.Memᴰ.head e) = omega arith
 up_from_range a (suc n) (mathlib.Core.List.Memᴰ.tail m) = omega (arith, up_from_range (suc a) n m)
 
