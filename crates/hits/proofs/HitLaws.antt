@@ -1,4 +1,4 @@
--- Laws of hits: what hitLevel and hitLength find is the least over walks from sources; a single source gives distances;
+-- Laws of hits: what hit_level and hit_length find is the least over walks from sources; a single source gives distances;
 -- sources at or above the limit do not matter below it.
 use Prim.Native.Nat.{ℕ, suc, ◌+◌, ◌≤◌, ◌<◌}
 use mathlib.Core.Path.{◌≡◌, sym, ◌∙◌, ap}

@@ -58,7 +58,7 @@ walk_short_fuel {g} {s} {t} {m} wf l (suc fuel) b w =
 pub walk_short : {g : Graph} {s t m : ℕ} → WellFormed g → s < g.size → Walk g s t m → Short g s t m
 walk_short {m = m} wf l w = walk_short_fuel wf l m (omega arith) w
 
--- m is one of the lengths from a on that dist and distPlus seek among, and a walk from s to t has it
+-- m is one of the lengths from a on that dist and dist_plus seek among, and a walk from s to t has it
 abbrev Found : Graph → ℕ → ℕ → ℕ → ℕ → Type 0
 Found g a s t m = Passes (λ k. reachb g k s t) a g.size m
 

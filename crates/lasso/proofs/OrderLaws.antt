@@ -150,6 +150,7 @@ following_mem p (r ∷ rs) xs e = Memᴰ.tail (go (sameb p r) (λ q. following_m
 
 -- the first list has nothing before it
 pub head_least : (rs : List (List ℕ)) (xs : List ℕ) → Sorted Before rs → Memᴰ xs rs → ((zs : List ℕ) → Memᴰ zs rs → Before zs xs → ⊥) → head? rs ≡ some xs
+head_least [] xs s x3 h = elim x3 [ ]
 head_least (r ∷ rs) xs s (Memᴰ.head e) h = ap some (sym e)
 head_least (r ∷ rs) xs s (Memᴰ.tail m) h = absurd (h r (Memᴰ.head refl) (all_mem (Before r) xs rs s.0 m))
 
@@ -159,6 +160,7 @@ later_apart r xs rs a m e = before_irrefl r (subst (λ (z : List ℕ). Before r 
 
 -- the following list is the one with nothing between
 pub following_least : (rs : List (List ℕ)) (xs ys : List ℕ) → Sorted Before rs → Memᴰ xs rs → Memᴰ ys rs → Before xs ys → ((zs : List ℕ) → Memᴰ zs rs → Before xs zs → Before zs ys → ⊥) → following xs rs ≡ some ys
+following_least [] xs ys s x5 _ b h = elim x5 [ ]
 following_least (r ∷ rs) xs ys s (Memᴰ.head e) (Memᴰ.head k) b h = absurd (before_irrefl r (subst (λ (z : List ℕ). Before z r) e (subst (Before xs) k b)))
 following_least (r ∷ rs) xs ys s (Memᴰ.head e) (Memᴰ.tail n) b h =
     rw (following_here xs r rs e)
@@ -171,6 +173,7 @@ following_least (r ∷ rs) xs ys s (Memᴰ.tail m) (Memᴰ.tail n) b h =
 
 -- nothing follows the list with nothing after it
 pub following_none : (rs : List (List ℕ)) (xs : List ℕ) → Sorted Before rs → Memᴰ xs rs → ((zs : List ℕ) → Memᴰ zs rs → Before xs zs → ⊥) → following xs rs ≡ none
+following_none [] xs s x3 h = elim x3 [ ]
 following_none (r ∷ []) xs s (Memᴰ.head e) h = following_here xs r [] e
 following_none (r ∷ q ∷ rs) xs s (Memᴰ.head e) h = absurd (h q (Memᴰ.tail (Memᴰ.head refl)) (subst (λ (z : List ℕ). Before z q) (sym e) s.0.0))
 following_none (r ∷ rs) xs s (Memᴰ.tail m) h =

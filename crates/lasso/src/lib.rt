@@ -6,11 +6,11 @@ ghost use Rattle.lasso.specs.Rounds.{with_round};
 ghost use Rattle.lasso.specs.Values.{record_of, best_of, found_of};
 
 // A count of transitions: the length of a path.
-#[derive(Drop)]
+#[derive(Clone, Copy)]
 pub struct Transitions(pub u16);
 
 // A count of path entries: what a table that holds a path must have room for.
-#[derive(Drop)]
+#[derive(Clone, Copy)]
 pub struct Entries(pub usize);
 
 impl Transitions {
@@ -30,21 +30,21 @@ impl Transitions {
 }
 
 // The length that a round found: none, or a length.
-#[derive(Drop)]
+#[derive(Clone, Copy)]
 pub enum LengthFound {
     None,
     Length(Transitions),
 }
 
 // The best length so far: none, or a length.
-#[derive(Drop)]
+#[derive(Clone, Copy)]
 pub enum Best {
     None,
     Length(Transitions),
 }
 
 // The number of rounds done, and the best length that they found.
-#[derive(Drop)]
+#[derive(Clone, Copy)]
 pub struct RoundRecord {
     pub done: u16,
     pub best: Best,

@@ -1,4 +1,4 @@
--- Laws for callers: viaMark and loopLength are least over all walks through a mark; distances and then a search on from the
+-- Laws for callers: via_mark and loop_length are least over all walks through a mark; distances and then a search on from the
 -- marked states find them.
 use Prim.Native.Nat.{ℕ, zero, suc, ◌+◌, ◌≤◌, ◌<◌}
 use mathlib.Core.Path.{◌≡◌, refl, sym, ◌∙◌, ap, subst}
@@ -49,7 +49,7 @@ module _ {g : Graph} (wf : WellFormed g) (x : ℕ) (l : x < g.size) where
           let d : (i : ℕ) × (dist g x q ≡ some i) × (i ≤ a) = dist_le wf l v in
           (d.0 + m, (q, d.0, m, walk_end_state wf l v, rw (T_true (g.marked q) t) d.1, w, refl), omega arith)
 
-  -- viaMark is the least length of a walk from x through a mark to t
+  -- via_mark is the least length of a walk from x through a mark to t
   pub via_mark_least : (t : ℕ) → IsLeast (ViaMark g x (λ q m. Walk g q t m)) (via_mark g x t)
   via_mark_least t = timed_via (λ q m. Walk g q t m) (via_mark g x t) (hit_level_least wf (marked_dist g x) t)
 
@@ -63,12 +63,12 @@ module _ {g : Graph} (wf : WellFormed g) (x : ℕ) (l : x < g.size) where
       (via_mark_least t))
       (dist_least wf x t l)
 
-  -- loopLength is the least length of a walk from x through a mark back to x with an edge after the mark
+  -- loop_length is the least length of a walk from x through a mark back to x with an edge after the mark
   loop_length-after : IsLeast (ViaMark g x (λ q m. (1 ≤ m) × Walk g q x m)) (loop_length g x)
   loop_length-after =
       timed_via (λ q m. (1 ≤ m) × Walk g q x m) (loop_length g x) (hit_length_least wf (marked_dist g x) x)
 
-  -- loopLength is the least length of a closed walk from x with an edge and a mark: if the mark is at its end, it is at its
+  -- loop_length is the least length of a closed walk from x with an edge and a mark: if the mark is at its end, it is at its
   -- start too
   pub loop_length_least : IsLeast (λ k. (1 ≤ k) × ViaMark g x (λ q m. Walk g q x m) k) (loop_length g x)
   loop_length_least =
