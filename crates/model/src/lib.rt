@@ -10,7 +10,7 @@ use format::{bit, mark_bytes, row, table_at, word};
 
 // The fields of an accepted file that its readers need, and the mark table by which they read it. `stays`: a state without
 // edges has an implied step to itself.
-#[derive(Drop)]
+#[derive(Clone, Copy)]
 pub struct Header {
     pub states: usize,
     pub edges: usize,
