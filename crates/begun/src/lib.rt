@@ -14,7 +14,7 @@ use rounds::run_rounds;
 
 // What the rounds come to: stopped with the record, or all done, with the length of the shortest accepting paths, if
 // there is one within the ceiling, and the number of rounds.
-#[derive(Drop)]
+#[derive(Clone, Copy)]
 pub enum Begun {
     Stopped(RoundRecord),
     NoneWithin(u16),
@@ -23,7 +23,7 @@ pub enum Begun {
 
 // What all rounds of the whole model come to: the number of rounds, and the length of the shortest accepting paths, if there
 // is one.
-#[derive(Drop)]
+#[derive(Clone, Copy)]
 pub enum AllRounds {
     None(u16),
     Length(Transitions, u16),

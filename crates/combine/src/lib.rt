@@ -15,7 +15,7 @@ use numbers::{limit, reason};
 use property::{check_property, has_zero_mask};
 
 // The answer of a combination: the number of the reason to refuse it, or the number of bytes written.
-#[derive(Drop)]
+#[derive(Clone, Copy)]
 pub enum CombineAnswer {
     Refused(u16),
     Written(usize),

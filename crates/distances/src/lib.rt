@@ -14,7 +14,7 @@ use model::{Checked, Header};
 use numbers::{limit, reason};
 
 // The answer of a distance call: refused with a number, or the number of entries written.
-#[derive(Drop)]
+#[derive(Clone, Copy)]
 pub enum DistancesAnswer {
     Refused(u16),
     Written(u16),

@@ -13,7 +13,7 @@ use table::get;
 
 // The answer of a search: the length at which an edge into the target was found, or that there is none, with the
 // number of states reached.
-#[derive(Drop)]
+#[derive(Clone, Copy)]
 pub enum SpreadAnswer {
     Length(usize),
     Nothing(usize),

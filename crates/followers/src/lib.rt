@@ -17,21 +17,21 @@ use passed::Passed;
 use tested::{Tested, may_follow};
 
 // What may stand at the next place: a state, or nothing.
-#[derive(Drop)]
+#[derive(Clone, Copy)]
 pub enum Follower {
     State(usize),
     Nothing,
 }
 
 // What may stand there, and what is known of the list then.
-#[derive(Drop)]
+#[derive(Clone, Copy)]
 pub struct Found {
     pub follower: Follower,
     pub passed: Passed,
 }
 
 // The state that may stand there, and what is known of the list then.
-#[derive(Drop)]
+#[derive(Clone, Copy)]
 pub struct Chosen {
     pub state: usize,
     pub passed: Passed,

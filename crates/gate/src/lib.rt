@@ -12,7 +12,7 @@ use table::clear;
 
 // What a search names beside the file and the tables that it is lent: the mark table, the length that no list may exceed,
 // and the rounds that it is allowed.
-#[derive(Drop)]
+#[derive(Clone, Copy)]
 pub struct Ask {
     pub table: u16,
     pub ceiling: Transitions,

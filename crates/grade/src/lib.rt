@@ -16,7 +16,7 @@ use model::{Checked, Header};
 use paths::{FirstBreak, first_break};
 
 // What the grader says of a list with a claimed k: it is no accepting path, it is one, it is one of least length.
-#[derive(Drop)]
+#[derive(Clone, Copy)]
 pub enum Verdict {
     False,
     Accepting,
@@ -24,7 +24,7 @@ pub enum Verdict {
 }
 
 // The answer of the grader: refused with a number, or the verdict and the first place where the list breaks.
-#[derive(Drop)]
+#[derive(Clone, Copy)]
 pub enum GradeAnswer {
     Refused(u16),
     Graded(Verdict, FirstBreak),

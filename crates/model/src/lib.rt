@@ -35,7 +35,7 @@ impl Header {
 }
 
 // The answer of the check: the number of the first broken rule, or the header.
-#[derive(Drop)]
+#[derive(Clone, Copy)]
 pub enum Checked {
     Refused(u16),
     Accept(Header),

@@ -19,7 +19,7 @@ use numbers::{limit, reason};
 use paths::is_lasso;
 
 // The answer of next: refused with a number, found with the length and the loop's start, or no more.
-#[derive(Drop)]
+#[derive(Clone, Copy)]
 pub enum NextAnswer {
     Refused(u16),
     Found(Transitions, u16),

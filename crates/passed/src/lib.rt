@@ -6,7 +6,7 @@ ghost use Rattle.passed.specs.Passed.{Moved};
 
 // What is known of a list up to a place: the places of its last loop start and of its last mark, plus 1, or 0; how many
 // tests after that loop start were done by a search; and whether the tables after it are there.
-#[derive(Drop)]
+#[derive(Clone, Copy)]
 pub struct Passed {
     pub start: usize,
     pub mark: usize,

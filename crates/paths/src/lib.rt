@@ -16,7 +16,7 @@ use model_edges::has_edge;
 use table::get;
 
 // The first place where a list breaks, counted from 0: none, or a place, which may be as great as a list is long.
-#[derive(Drop)]
+#[derive(Clone, Copy)]
 pub enum FirstBreak {
     None,
     At(usize),

@@ -21,7 +21,7 @@ use numbers::{limit, reason};
 
 // The answer of a search: refused with a number; stopped with the record after the rounds that the allowance admits;
 // found with the length, the loop's start and the rounds; or none within the ceiling with the rounds.
-#[derive(Drop)]
+#[derive(Clone, Copy)]
 pub enum SearchAnswer {
     Refused(u16),
     Stopped(RoundRecord),

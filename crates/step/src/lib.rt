@@ -14,7 +14,7 @@ use numbers::reason;
 use rounds::next_round;
 
 // The answer of a step: refused with a number, or the record, the same or after one more round.
-#[derive(Drop)]
+#[derive(Clone, Copy)]
 pub enum StepAnswer {
     Refused(u16),
     Finished(RoundRecord),

@@ -42,7 +42,7 @@ fn ensure_tables(
 }
 
 // The answer of a test: whether the state may stand there, and what is known of the list then.
-#[derive(Drop)]
+#[derive(Clone, Copy)]
 pub struct Tested {
     pub yes: bool,
     pub passed: Passed,
