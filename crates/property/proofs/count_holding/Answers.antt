@@ -11,7 +11,7 @@ use Rattle.format.proofs.Words.{words-length, words_at}
 use Rattle.lists.proofs.KeepLaws.{keep_from}
 use Rattle.property.proofs.count_holding.Invariants.{holding_from}
 use Rattle.property.proofs.count_holding.Goals as goal
-use Rattle.property.proofs.count_holding.Goals.{After-mask_holds}
+use Rattle.property.proofs.count_holding.Goals.{then-mask_holds, else-mask_holds, After-mask_holds}
 
 -- the test of a turn is that of the mask at place k, and tells how many are left behind it
 turn : (c : After-mask_holds) →
@@ -32,8 +32,10 @@ turn c =
 pub loop-k-preserved : goal.loop-k-preserved
 loop-k-preserved c =
     let told = turn (goal.at.loop-k-preserved c).After-mask_holds in
-    ⊎_elim (λ w. let one = rw w.0.taken at told in (omega arith, omega (arith, w.1), omega (arith, one, w.1)))
-    (λ w. let none = rw w.0.left at told in (omega arith, omega (arith, w.1), omega (arith, none, w.1))) c.if-mask_holds.branch
+    elim c.if-mask_holds.branch [
+      | then-mask_holds w ↦ let one = rw w.if-mask_holds.true at told in (omega arith, omega arith, omega (arith, one))
+      | else-mask_holds w ↦ let none = rw w.if-mask_holds.false at told in (omega arith, omega arith, omega (arith, none))
+    ]
 
 pub returns : goal.returns
 returns c =
