@@ -1,4 +1,6 @@
 // The distances from the start, in region 0 of the working table, and the candidates.
+#![tactic(auto)]
+
 ghost use Rattle.std.specs.Prelude.{◌≡◌, ◌*◌, ◌≤◌, ◌<◌, length, get_or};
 ghost use Rattle.lasso.specs.Rounds.{candidateb, candidates};
 ghost use Rattle.model.specs.Values.{Valid};

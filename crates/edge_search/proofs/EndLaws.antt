@@ -35,7 +35,7 @@ run_hit j k H (next e r) q = run_hit (suc j) k (step H e refl) r (omega arith)
 pub hit_timed : {g : Graph} {source : ℕ → Option ℕ} {k t : ℕ} → Hit g.size g.succs source k t → Timed g.size source (λ s m. Walk g s t m) k
 hit_timed {k = k} {t = t} (start l e) = (t, k, 0, l, e, walk_here t, omega arith)
 hit_timed {g} {source} (step {j = j} {s = s} H e q) =
-    let x : Timed g.size source (λ u m. Walk g u s m) j = hit_timed H in
+    let x : Timed g.size source (λ u m. Walk g u s m) j = hit_timed {g = g} {source = source} {k = j} {t = s} H in
     (x.0, x.1, x.2 + 1, x.3, x.4, walk_append x.5 (walk_edge e), omega arith)
 
 -- a walk from a source is a hit

@@ -1,5 +1,7 @@
 // The search by the edges of the file, breadth-first by levels, from listed sources. The working table has the regions of
 // the frontier.
+#![tactic(auto)]
+
 ghost use Rattle.std.specs.Prelude.{◌*◌, ◌≤◌, ◌<◌, length};
 ghost use Rattle.model.specs.Values.{Valid};
 ghost use Rattle.model.specs.Model.{graph_in};

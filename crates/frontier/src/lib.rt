@@ -4,6 +4,7 @@
 // An entry 0 stands for nothing; a level l stands as l + 1, a state s in a list of sources as s + 1. Between searches the
 // listing has other uses for some: the list in 0, the stems in 1, flags of ends in 4, the tables after a loop start in 2 and 5.
 #![tactic(auto)]
+
 ghost use Rattle.std.specs.Prelude.{◌≡◌, ◌+◌, ◌*◌, ◌≤◌, ◌<◌, length};
 ghost use Rattle.numbers.specs.Limits.{most_states};
 ghost use Rattle.table.specs.Changes.{SameOutside};

@@ -1,5 +1,7 @@
 // A search, breadth-first by levels, from sources that are told by their levels in the table. The working table
 // has the regions of the frontier.
+#![tactic(auto)]
+
 ghost use Rattle.std.specs.Prelude.{◌*◌, ◌≤◌, ◌<◌, length};
 ghost use Rattle.numbers.specs.Limits.{most_states};
 ghost use Rattle.model.specs.Values.{Valid};

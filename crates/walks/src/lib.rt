@@ -1,5 +1,7 @@
 // Distances from a state, and walks through a mark: one search, or two, of which the second goes on from the marked
 // states at the levels that the first gave them.
+#![tactic(auto)]
+
 ghost use Rattle.std.specs.Prelude.{◌*◌, ◌≤◌, ◌<◌, length};
 ghost use Rattle.numbers.specs.Limits.{most_states};
 ghost use Rattle.model.specs.Values.{Valid};

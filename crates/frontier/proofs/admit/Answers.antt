@@ -40,13 +40,13 @@ loop-cursor-init c = (same_outside_refl _ _ _, omega arith, λ succs limit targe
 pub reach-end-requires : goal.reach-end-requires
 reach-end-requires c =
     let A = held (goal.at.reach-end-requires c).At-loop-cursor in record {
-  n_le_most_states = omega arith;
-  t_lt_n = omega (arith, A.within);
-  level_le_n = omega (arith, A.below, A.state.limited);
-  n_in_bounds = A.state.fits;
-  n_bound = omega arith;
-  tail_bound = queue_room (c.loop-cursor.cursor - 1) A.state.fits A.state.queue (omega (arith, A.within));
-}
+      n_le_most_states = omega arith;
+      t_lt_n = omega (arith, A.within);
+      level_le_n = omega (arith, A.below, A.state.limited);
+      n_in_bounds = A.state.fits;
+      n_bound = omega arith;
+      tail_bound = queue_room (c.loop-cursor.cursor - 1) A.state.fits A.state.queue (omega (arith, A.within));
+    }
 
 pub overflow_add-n-in-loop-cursor : goal.overflow_add-n-in-loop-cursor
 overflow_add-n-in-loop-cursor c = omega (arith, (held (goal.at.overflow_add-n-in-loop-cursor c).At-loop-cursor).within)
@@ -58,8 +58,7 @@ pub loop-cursor-smaller : goal.loop-cursor-smaller
 loop-cursor-smaller c = omega (arith, c.get-cursor-in-loop-cursor.ensures.value, admitting_falls ((head c).loop-cursor.cursor - 1) (omega arith) (held (head c)) c.reach-end.ensures.change)
 
 pub loop-cursor-preserved : goal.loop-cursor-preserved
-loop-cursor-preserved c =
-    (
+loop-cursor-preserved c = (
   same_outside_trans (head c).loop-cursor.invariant.0 (reach_outside c.reach-end.ensures.change),
   omega (arith, c.reach-end.ensures.grows),
   λ succs limit target origin at A.
@@ -75,7 +74,7 @@ shape_of-work c = c.loop-cursor.invariant.0.same_length
 pub returns : goal.returns
 returns c =
     record {
-  change = λ succs limit target origin at l S. admitting_done (omega arith) (walk (goal.at.returns c).At-loop-cursor succs limit target origin at l S);
-  grows = omega (arith, c.loop-cursor.invariant.1);
-  same = c.loop-cursor.invariant.0;
-}
+      change = λ succs limit target origin at l S. admitting_done (omega arith) (walk (goal.at.returns c).At-loop-cursor succs limit target origin at l S);
+      grows = omega (arith, c.loop-cursor.invariant.1);
+      same = c.loop-cursor.invariant.0;
+    }

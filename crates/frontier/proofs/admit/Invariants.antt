@@ -1,6 +1,6 @@
 -- `admit` walks along the level's list. The invariant: whatever the search, the sources from the cursor on are in.
 -- The measure is the cursor, which falls since the list descends.
-use Prim.Native.Nat.{ℕ, ◌*◌, ◌-◌, ◌≤◌}
+use Prim.Native.Nat.{ℕ, ◌*◌, ◌≤◌}
 use mathlib.Core.List.{List}
 use Rattle.frontier.specs.Regions.{queued}
 use Rattle.table.specs.Changes.{SameOutside}

@@ -1,6 +1,6 @@
-use Prim.Native.Nat.{ℕ, suc, ◌+◌, ◌*◌, ◌-◌, ◌≤◌, ◌<◌}
+use Prim.Native.Nat.{ℕ, suc, ◌+◌, ◌*◌, ◌≤◌, ◌<◌}
 use mathlib.Core.Path.{◌≡◌, sym, ◌∙◌}
-use mathlib.Core.Logic.{⊎_elim, inl, inr}
+use mathlib.Core.Logic.{inl, inr}
 use mathlib.Core.List.{List}
 use native.Mathlib.Omega.{arith}
 use lib.ListN.{length}
@@ -8,7 +8,7 @@ use Rattle.lists.proofs.Tests.{lt_or_ge}
 use Rattle.frontier.specs.Regions.{entry}
 use Rattle.frontier.proofs.BucketLaws.{Planning, planning_none, planning_skip, planning_list, planning_same, planning_done, source_entry, entry_source}
 use Rattle.frontier.proofs.plan.Goals as goal
-use Rattle.frontier.proofs.plan.Goals.{At-loop-s, Joined-level-limit}
+use Rattle.frontier.proofs.plan.Goals.{At-loop-s, Joined-level-limit, then-level-limit, else-level-limit}
 
 -- a level below 4096 is told by the entry
 level_told : (start level : ℕ) → (1 ≤ start → level + 1 ≡ start) → (start ≡ 0 → 4096 ≤ level) → level < 4096 → start ≡ suc level
@@ -42,17 +42,15 @@ turn c w P =
     let inside : l.s < a.n = omega arith in
     let fits : 6 * a.n ≤ length l.work = omega arith in
     let same : start ≡ entry 2 a.n w l.s = c.get-start.ensures.value ∙ P.unread l.s (omega arith) inside in
-    ⊎_elim
-    (λ t.
-    planning_same (cc (t.5, t.2.ensures, put))
-    (planning_list a.n a.limit l.s w l.work inside fits P level (omega arith) (omega arith) (entry_source a.limit (entry 2 a.n w l.s) level (sym same ∙ level_told start level told.level told.none (omega arith)) (omega arith))))
-    (λ t.
-    planning_same (cc (t.1, put))
-    (planning_skip a.n a.limit l.s w l.work inside fits P
-    (λ b e.
-    let h : (entry 2 a.n w l.s ≡ suc b) × (b < a.limit) = source_entry a.limit (entry 2 a.n w l.s) b e in
-    omega (arith, told.level (omega arith)))))
-    c.if-level-limit.branch
+    elim c.if-level-limit.branch [
+      | then-level-limit t ↦ planning_same (cc (t.work-is, t.list_source.ensures, put))
+          (planning_list a.n a.limit l.s w l.work inside fits P level (omega arith) (omega arith) (entry_source a.limit (entry 2 a.n w l.s) level (sym same ∙ level_told start level told.level told.none (omega arith)) (omega arith)))
+      | else-level-limit t ↦ planning_same (cc (t.work-is, put))
+          (planning_skip a.n a.limit l.s w l.work inside fits P
+          (λ b e.
+          let h : (entry 2 a.n w l.s ≡ suc b) × (b < a.limit) = source_entry a.limit (entry 2 a.n w l.s) b e in
+          omega (arith, told.level (omega arith))))
+    ]
 
 pub loop-s-preserved : goal.loop-s-preserved
 loop-s-preserved c = (omega arith, omega (arith, (turn c _ (held (head c))).outside.same_length, (head c).clear.ensures.others.same_length), λ w P. turn c w ((head c).loop-s.invariant.2 w P))

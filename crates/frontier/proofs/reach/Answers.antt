@@ -25,16 +25,16 @@ else_of c = (goal.at.After-slice_known-3-1 c).Else-get-ne0
 pub returns-then-get-ne0 : goal.returns-then-get-ne0
 returns-then-get-ne0 c =
     record {
-  change = before (omega (arith, c.get.ensures.value)) refl refl;
-  grows = omega arith;
-}
+      change = before (omega (arith, c.get.ensures.value)) refl refl;
+      grows = omega arith;
+    }
 
 pub put-requires-2 : goal.put-requires-2
 put-requires-2 c =
     record {
-  at_in_bounds = omega (arith, room (goal.at.put-requires-2 c).Else-get-ne0);
-  value_bound = omega arith;
-}
+      at_in_bounds = omega (arith, room (goal.at.put-requires-2 c).Else-get-ne0);
+      value_bound = omega arith;
+    }
 
 pub overflow_add-result : goal.overflow_add-result
 overflow_add-result c = omega (arith, room (else_of c))
@@ -44,9 +44,9 @@ returns c =
     let a = c.args in
     let q : a.tail ≡ 3 * a.n + queued a.n a.tail = omega arith in
     let e : c.put-2.new.table ≡ set (set a.work.now (2 * a.n + a.t) (a.level + 1)) (3 * a.n + queued a.n a.tail) a.t = cc in record {
-  change = first
+      change = first
           (unreached (else_of c))
           (subst (λ (w : List ℕ). Pushed a.n a.t (a.level + 1) (queued a.n a.tail) a.work.now w) (sym e) (set_pushed a.n a.t (a.level + 1) (queued a.n a.tail) a.work.now (omega arith) (room (else_of c)) (omega arith)))
           (omega arith);
-  grows = omega arith;
-}
+      grows = omega arith;
+    }
