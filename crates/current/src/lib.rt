@@ -1,5 +1,7 @@
 // The current list: the state at a place, and writing the list to the answer table. Region 0 of the working table holds
 // its entries from place 1 on; the entry at place 0 is the start.
+#![tactic(auto)]
+
 ghost use Rattle.std.specs.Prelude.{◌≡◌, ◌∷◌, ◌++◌, ◌+◌, ◌≤◌, ◌<◌, length, drop};
 ghost use Rattle.lasso.specs.Graph.{loop_start};
 ghost use Rattle.current.specs.Current.{state_at, list_in, over_front};

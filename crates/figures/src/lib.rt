@@ -1,5 +1,7 @@
 // The figures of answers, for callers that have no enums: a kind, and figures at the front of a lent table. A refusal is its
 // number, and has no figures; every other answer is a kind above 100.
+#![tactic(auto)]
+
 ghost use Rattle.std.specs.Prelude.{◌≡◌, ◌≤◌, length};
 ghost use Rattle.std.proofs.Math.Option.{some};
 ghost use Rattle.lasso.specs.Values.{record_of};

@@ -1,6 +1,8 @@
 // The gate of every call but combine: reason 22, for the calls that name a mark table; the reasons 1 to 12, which concern the file and
 // the working table; reason 21, for the calls that take a ceiling; and the way out, by which every call that passed the
 // gate leaves the working table.
+#![tactic(auto)]
+
 ghost use Rattle.std.specs.Prelude.{◌≡◌, length};
 ghost use Rattle.gate.specs.Gate.{gate_of, work_entered, high_ceiling, Zeroed};
 

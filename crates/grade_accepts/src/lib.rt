@@ -1,4 +1,6 @@
 // Whether a list that breaks nowhere is an accepting path with a claimed k.
+#![tactic(auto)]
+
 ghost use Rattle.std.specs.Prelude.{◌≡◌, ◌*◌, ◌≤◌, length, take};
 ghost use Rattle.std.proofs.Math.Option.{none};
 ghost use Rattle.lists.specs.Lists.{differentb};

@@ -1,4 +1,6 @@
 // Whether a model file has an edge: it is looked for in the row of its source.
+#![tactic(auto)]
+
 ghost use Rattle.std.specs.Prelude.{◌≡◌, ◌<◌};
 ghost use Rattle.lasso.specs.Graph.{edgeb};
 ghost use Rattle.model.specs.Model.{graph_in};

@@ -1,5 +1,7 @@
 // Tests of a given list: the first place where it breaks, whether it is a path, whether it closes at a mark, whether it is
 // a lasso of a length.
+#![tactic(auto)]
+
 ghost use Rattle.std.specs.Prelude.{◌≡◌, ◌&&◌, ◌≤◌, ◌<◌, length, get_or, T, eqb};
 ghost use Rattle.std.proofs.Math.Option.{none};
 ghost use Rattle.lists.specs.Lists.{anyb, below};

@@ -1,4 +1,6 @@
 // One round. Region 0 of the working table holds the distances from the start throughout.
+#![tactic(auto)]
+
 ghost use Rattle.std.specs.Prelude.{◌≡◌, suc, ◌+◌, ◌*◌, ◌≤◌, ◌<◌, length};
 ghost use Rattle.lists.specs.Least.{sum};
 ghost use Rattle.lasso.specs.Rounds.{round_length};

@@ -1,4 +1,6 @@
 // How far a round looks: the one place where the ceiling of a search or a step acts.
+#![tactic(auto)]
+
 ghost use Rattle.std.specs.Prelude.{◌≡◌, min};
 ghost use Rattle.std.proofs.Math.Option.{some};
 ghost use Rattle.lists.specs.Least.{lesser};
