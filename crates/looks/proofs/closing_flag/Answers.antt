@@ -5,9 +5,11 @@ use Rattle.lists.proofs.Tests.{none_of_more}
 use Rattle.model.specs.Model.{graph_in, steps_of}
 use Rattle.model.proofs.Laws.{valid_sizes, row_edge, row_none, row_state}
 use Rattle.looks.specs.Looks.{GoalAt}
-use Rattle.looks.proofs.closing_flag.Invariants.{start}
 use Rattle.looks.proofs.closing_flag.Goals as goal
 use Rattle.looks.proofs.closing_flag.Goals.{After-successor-t, At-loop-k, Start, Then-is_goal}
+
+abbrev start : At-loop-k → Start
+start c = (goal.at.At-loop-k c).Start
 
 -- the successor is a state
 successor_state : (c : After-successor-t) → c.successor-t.result < (start (goal.at.After-successor-t c).At-loop-k).args.h.states

@@ -5,9 +5,6 @@ use Rattle.model.specs.Model.{steps_of}
 use Rattle.looks.specs.Looks.{GoalAt}
 use Rattle.looks.proofs.closing_flag.Given as goal
 
-abbrev pub start : At-loop-k → Start
-start c = (goal.at.At-loop-k c).Start
-
 abbrev pub invariant-loop-k : goal.invariant-loop-k
 invariant-loop-k l = (l.k ≤ l.d) × NoneOf (GoalAt l.n l.h.start l.work l.bound) (steps_of l.h l.s l.part) l.k
 
