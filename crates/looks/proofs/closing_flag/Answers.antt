@@ -1,4 +1,4 @@
-use Prim.Native.Nat.{◌-◌, ◌<◌}
+use Prim.Native.Nat.{◌<◌}
 use mathlib.Core.Path.{refl}
 use native.Mathlib.Omega.{arith}
 use Rattle.lists.proofs.Tests.{none_of_more}
@@ -35,11 +35,11 @@ loop-k-init c = (omega arith, λ j h. absurd (omega arith))
 pub is_goal-requires : goal.is_goal-requires
 is_goal-requires c =
     let s = (goal.at.is_goal-requires c).Start in record {
-  states_in_bounds = omega (arith, s.requires.states_in_bounds);
-  states_le_most_states = (valid_sizes s.requires.valid).states_range.1;
-  bound_le_states = s.requires.bound_le_states;
-  y_lt_states = successor_state c;
-}
+      states_in_bounds = omega (arith, s.requires.states_in_bounds);
+      states_le_most_states = (valid_sizes s.requires.valid).states_range.1;
+      bound_le_states = s.requires.bound_le_states;
+      y_lt_states = successor_state c;
+    }
 
 pub returns-then-is_goal : goal.returns-then-is_goal
 returns-then-is_goal c =
