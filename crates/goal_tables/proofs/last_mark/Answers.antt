@@ -37,9 +37,9 @@ pub is_marked-requires : goal.is_marked-requires
 is_marked-requires c =
     let l = c in
     let s = (goal.at.After-list_at-s l).Start in record {
-  valid = s.requires.valid;
-  s_lt_states = omega (arith, c.list_at-s.ensures, s.requires.states_to (l.loop-k.k - 1) (omega (arith, l.loop-k.invariant.0)));
-}
+      valid = s.requires.valid;
+      s_lt_states = omega (arith, c.list_at-s.ensures, s.requires.states_to (l.loop-k.k - 1) (omega (arith, l.loop-k.invariant.0)));
+    }
 
 pub returns-then-is_marked : goal.returns-then-is_marked
 returns-then-is_marked c =

@@ -1,5 +1,5 @@
 -- `last_mark` meets its contract. The loop's invariant: no state from place k on is marked.
-use Prim.Native.Nat.{ℕ, ◌+◌, ◌-◌, ◌≤◌}
+use Prim.Native.Nat.{ℕ, ◌+◌, ◌≤◌}
 use mathlib.Core.List.{List}
 use lib.Dec.{T}
 use Rattle.model.specs.declared.Header.{Header}

@@ -50,12 +50,12 @@ later_levels-count-requires c =
     let n = c in
     let sizes = ground_sizes n.requires in
     let number = n.number.ensures in record {
-  valid = n.requires.prepared.valid;
-  x_lt_states = omega (arith, n.list_at-x.ensures);
-  le_limit = omega arith;
-  limit_le_states = omega arith;
-  states_in_bounds = n.requires.prepared.room;
-}
+      valid = n.requires.prepared.valid;
+      x_lt_states = omega (arith, n.list_at-x.ensures);
+      le_limit = omega arith;
+      limit_le_states = omega arith;
+      states_in_bounds = n.requires.prepared.room;
+    }
 
 pub overflow_sub-left-2 : goal.overflow_sub-left-2
 overflow_sub-left-2 c =
@@ -70,21 +70,21 @@ flag_closing-requires c =
     let l = (goal.at.flag_closing-requires c).After-later_levels-count in
     let s = (goal.at.After-later_levels-count l).Start in
     let sizes = ground_sizes s.requires in record {
-  valid = s.requires.prepared.valid;
-  states_in_bounds = omega (arith, (levels l).outside.same_length);
-  level_le_states = omega (arith, l.number.ensures);
-  bound_le_states = omega arith;
-}
+      valid = s.requires.prepared.valid;
+      states_in_bounds = omega (arith, (levels l).outside.same_length);
+      level_le_states = omega (arith, l.number.ensures);
+      bound_le_states = omega arith;
+    }
 
 pub keep_ways-requires : goal.keep_ways-requires
 keep_ways-requires c =
     let f = (goal.at.keep_ways-requires c).After-flag_closing in
     let l = (goal.at.After-flag_closing f).After-later_levels-count in
     let s = (goal.at.After-later_levels-count l).Start in record {
-  valid = s.requires.prepared.valid;
-  states_in_bounds = omega (arith, s.requires.prepared.room, (levels l).outside.same_length, (flags f).outside.same_length);
-  queue = later_queue s.requires (levels l) (flags f);
-}
+      valid = s.requires.prepared.valid;
+      states_in_bounds = omega (arith, s.requires.prepared.room, (levels l).outside.same_length, (flags f).outside.same_length);
+      queue = later_queue s.requires (levels l) (flags f);
+    }
 
 pub copy-requires : goal.copy-requires
 copy-requires c =
@@ -95,10 +95,10 @@ copy-requires c =
     let searched = (levels l).outside.same_length in
     let flagged = (flags f).outside.same_length in
     let kept = k.keep_ways.ensures.outside.same_length in record {
-  fact = inr (omega arith);
-  n_in_bounds = omega arith;
-  n_in_bounds_2 = omega arith;
-}
+      fact = inr (omega arith);
+      n_in_bounds = omega arith;
+      n_in_bounds_2 = omega arith;
+    }
 
 pub returns : goal.returns
 returns c =

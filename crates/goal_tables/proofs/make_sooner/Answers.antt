@@ -81,12 +81,12 @@ distances_from-count-requires c =
     let n = c in
     let sizes = ground_sizes n.requires.ground in
     let number = n.number.ensures in record {
-  valid = n.requires.ground.prepared.valid;
-  x_lt_states = omega (arith, n.list_at-x.ensures);
-  le_limit = omega arith;
-  limit_le_states = omega arith;
-  states_in_bounds = n.requires.ground.prepared.room;
-}
+      valid = n.requires.ground.prepared.valid;
+      x_lt_states = omega (arith, n.list_at-x.ensures);
+      le_limit = omega arith;
+      limit_le_states = omega arith;
+      states_in_bounds = n.requires.ground.prepared.room;
+    }
 
 pub overflow_add-n-2 : goal.overflow_add-n-2
 overflow_add-n-2 c =
@@ -97,9 +97,9 @@ pub put-requires : goal.put-requires
 put-requires c =
     let d = (goal.at.put-requires c).After-distances_from-count in
     let n = (goal.at.After-distances_from-count d).After-number in record {
-  at_in_bounds = omega (arith, ground_sizes n.requires.ground, n.list_at-x.ensures, (away d).outside.same_length);
-  value_bound = d.get-own.ensures.small;
-}
+      at_in_bounds = omega (arith, ground_sizes n.requires.ground, n.list_at-x.ensures, (away d).outside.same_length);
+      value_bound = d.get-own.ensures.small;
+    }
 
 pub overflow_sub-left-2 : goal.overflow_sub-left-2
 overflow_sub-left-2 c =
@@ -112,11 +112,11 @@ flag_closing-requires c =
     let d = (goal.at.After-flag_closing-arg-1 p).After-distances_from-count in
     let s = (goal.at.After-distances_from-count d).Start in
     let sizes = ground_sizes s.requires.ground in record {
-  valid = s.requires.ground.prepared.valid;
-  states_in_bounds = omega (arith, (away d).outside.same_length);
-  level_le_states = omega (arith, d.number.ensures);
-  bound_le_states = omega (arith, s.requires.last_mark.low);
-}
+      valid = s.requires.ground.prepared.valid;
+      states_in_bounds = omega (arith, (away d).outside.same_length);
+      level_le_states = omega (arith, d.number.ensures);
+      bound_le_states = omega (arith, s.requires.last_mark.low);
+    }
 
 pub keep_ways-requires : goal.keep_ways-requires
 keep_ways-requires c =
@@ -125,10 +125,10 @@ keep_ways-requires c =
     let d = (goal.at.After-flag_closing f).After-distances_from-count in
     let s = (goal.at.After-distances_from-count d).Start in
     let q = sooner_queue s.requires.ground s.requires.last_mark s.requires.later_table (away d) (flags f) m.flag_marked.ensures in record {
-  valid = s.requires.ground.prepared.valid;
-  states_in_bounds = omega arith;
-  queue = q;
-}
+      valid = s.requires.ground.prepared.valid;
+      states_in_bounds = omega arith;
+      queue = q;
+    }
 
 pub returns : goal.returns
 returns c =

@@ -21,11 +21,11 @@ pub last_mark-mark-requires : goal.last_mark-mark-requires
 last_mark-mark-requires c =
     let o = c.requires in
     let sizes = ground_sizes o in record {
-  valid = o.prepared.valid;
-  states_in_bounds = omega arith;
-  place_le_states = omega arith;
-  states_to = ground_states o;
-}
+      valid = o.prepared.valid;
+      states_in_bounds = omega arith;
+      place_le_states = omega arith;
+      states_to = ground_states o;
+    }
 
 pub overflow_add-b : goal.overflow_add-b
 overflow_add-b c = omega (arith, ground_sizes c.requires)
@@ -36,14 +36,14 @@ returns-then-mark-b c =
     let m = (goal.at.Then-mark-b l).After-last_mark-mark in
     let s = (goal.at.After-last_mark-mark m).Start in
     let made = l.make_later.ensures in record {
-  tables = record {
+      tables = record {
         mark = m.last_mark-mark.result;
         last = m.last_mark-mark.ensures;
         later = made.table;
         sooner = marked_done s.requires m.last_mark-mark.ensures (omega (arith, eqb-true, c.if-mark-b.true)) made;
       };
-  same = made.outside;
-}
+      same = made.outside;
+    }
 
 pub make_sooner-requires : goal.make_sooner-requires
 make_sooner-requires c =
@@ -52,10 +52,10 @@ make_sooner-requires c =
     let s = (goal.at.After-last_mark-mark m).Start in
     let made = l.make_later.ensures in
     let agree = ground_agree s.requires made.outside in record {
-  ground = ground_kept s.requires made.outside;
-  last_mark = mark_agree (graph_in s.args.file.now s.args.h) (state_at s.args.h s.args.work.now) (state_at s.args.h l.make_later.new.work) agree m.last_mark-mark.ensures;
-  later_table = later_for agree made.table;
-}
+      ground = ground_kept s.requires made.outside;
+      last_mark = mark_agree (graph_in s.args.file.now s.args.h) (state_at s.args.h s.args.work.now) (state_at s.args.h l.make_later.new.work) agree m.last_mark-mark.ensures;
+      later_table = later_for agree made.table;
+    }
 
 pub returns : goal.returns
 returns c =
@@ -66,11 +66,11 @@ returns c =
     let made = l.make_later.ensures in
     let then = k.make_sooner.ensures in
     let agree = ground_agree s.requires made.outside in record {
-  tables = record {
+      tables = record {
         mark = m.last_mark-mark.result;
         last = m.last_mark-mark.ensures;
         later = later_for (λ i h. sym (agree i h)) then.later;
         sooner = sooner_for (λ i h. sym (agree i h)) m.last_mark-mark.ensures.low then.sooner;
       };
-  same = same_outside_trans made.outside then.outside;
-}
+      same = same_outside_trans made.outside then.outside;
+    }
