@@ -27,33 +27,33 @@ stored c =
 pub put-requires : goal.put-requires
 put-requires c =
     let s = c in record {
-  at_in_bounds = omega (arith, s.requires.place_lt_transitions, s.requires.t_lt_states, prepared_sizes s.requires.prepared);
-  value_bound = omega (arith, s.requires.place_lt_transitions, s.requires.t_lt_states, prepared_sizes s.requires.prepared);
-}
+      at_in_bounds = omega (arith, s.requires.place_lt_transitions, s.requires.t_lt_states, prepared_sizes s.requires.prepared);
+      value_bound = omega (arith, s.requires.place_lt_transitions, s.requires.t_lt_states, prepared_sizes s.requires.prepared);
+    }
 
 pub start_after-start-requires : goal.start_after-start-requires
 start_after-start-requires c =
     let a = c.args in
     let o = stored (goal.at.start_after-start-requires c).After-put in
     let sizes = prepared_sizes o.0 in record {
-  states_in_bounds = omega (arith, sizes);
-  states_le_most_states = sizes.1;
-  place_lt_states = omega (arith, sizes, c.requires.place_lt_transitions);
-  states_to = o.1.0;
-  last_of = start_entries o.0 a.place a.passed.start (λ k i. o.1.0 k (omega arith)) o.1.1.start;
-}
+      states_in_bounds = omega (arith, sizes);
+      states_le_most_states = sizes.1;
+      place_lt_states = omega (arith, sizes, c.requires.place_lt_transitions);
+      states_to = o.1.0;
+      last_of = start_entries o.0 a.place a.passed.start (λ k i. o.1.0 k (omega arith)) o.1.1.start;
+    }
 
 pub mark_after-mark-requires : goal.mark_after-mark-requires
 mark_after-mark-requires c =
     let put = (goal.at.mark_after-mark-requires c).After-put in
     let o = stored put in
     let sizes = prepared_sizes o.0 in record {
-  valid = o.0.valid;
-  states_in_bounds = omega (arith, sizes);
-  place_lt_states = omega (arith, sizes, put.requires.place_lt_transitions);
-  states_to = o.1.0;
-  last_mark = o.1.1.mark;
-}
+      valid = o.0.valid;
+      states_in_bounds = omega (arith, sizes);
+      place_lt_states = omega (arith, sizes, put.requires.place_lt_transitions);
+      states_to = o.1.0;
+      last_mark = o.1.1.mark;
+    }
 
 pub returns : goal.returns
 returns c =

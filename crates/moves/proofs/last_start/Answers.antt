@@ -22,11 +22,11 @@ pub starts_at-requires : goal.starts_at-requires
 starts_at-requires c =
     let l = c in
     let s = (goal.at.In-loop-k l).Start in record {
-  states_in_bounds = s.requires.states_in_bounds;
-  states_le_most_states = s.requires.states_le_most_states;
-  k_le_states = omega (arith, s.requires.place_le_states, l.loop-k.invariant.0);
-  k_bound = s.requires.states_to (l.loop-k.k - 1) (omega (arith, l.loop-k.invariant.0));
-}
+      states_in_bounds = s.requires.states_in_bounds;
+      states_le_most_states = s.requires.states_le_most_states;
+      k_le_states = omega (arith, s.requires.place_le_states, l.loop-k.invariant.0);
+      k_bound = s.requires.states_to (l.loop-k.k - 1) (omega (arith, l.loop-k.invariant.0));
+    }
 
 pub returns-then-starts_at : goal.returns-then-starts_at
 returns-then-starts_at c =

@@ -1,5 +1,5 @@
 -- `last_start` meets its contract. The loop's invariant: no place from k on is that of a loop start.
-use Prim.Native.Nat.{◌+◌, ◌-◌, ◌≤◌}
+use Prim.Native.Nat.{◌+◌, ◌≤◌}
 use Rattle.goals.proofs.LastLaws.{NoneFrom}
 use Rattle.moves.specs.Moves.{LoopEntry}
 use Rattle.moves.proofs.last_start.Given as goal

@@ -19,9 +19,9 @@ marked_is c =
 pub is_marked-requires : goal.is_marked-requires
 is_marked-requires c =
     let s = c in record {
-  valid = s.requires.valid;
-  s_lt_states = omega (arith, c.list_at-s.ensures, s.requires.states_to (s.args.place + 1) (omega arith));
-}
+      valid = s.requires.valid;
+      s_lt_states = omega (arith, c.list_at-s.ensures, s.requires.states_to (s.args.place + 1) (omega arith));
+    }
 
 pub returns-then-is_marked : goal.returns-then-is_marked
 returns-then-is_marked c =

@@ -9,23 +9,23 @@ pub start_back-start-requires : goal.start_back-start-requires
 start_back-start-requires c =
     let s = c in
     let sizes = prepared_sizes s.requires.prepared in record {
-  states_in_bounds = omega arith;
-  states_le_most_states = sizes.1;
-  place_le_states = omega (arith, s.requires.place_le_transitions);
-  states_to = s.requires.states_to;
-  last_of = λ i. start_entries s.requires.prepared s.args.place s.args.passed.start s.requires.states_to (s.requires.known_from.start i);
-}
+      states_in_bounds = omega arith;
+      states_le_most_states = sizes.1;
+      place_le_states = omega (arith, s.requires.place_le_transitions);
+      states_to = s.requires.states_to;
+      last_of = λ i. start_entries s.requires.prepared s.args.place s.args.passed.start s.requires.states_to (s.requires.known_from.start i);
+    }
 
 pub mark_back-mark-requires : goal.mark_back-mark-requires
 mark_back-mark-requires c =
     let s = c in
     let sizes = prepared_sizes s.requires.prepared in record {
-  valid = s.requires.prepared.valid;
-  states_in_bounds = omega arith;
-  place_le_states = omega (arith, s.requires.place_le_transitions);
-  states_to = s.requires.states_to;
-  last_mark = s.requires.known_from.mark;
-}
+      valid = s.requires.prepared.valid;
+      states_in_bounds = omega arith;
+      place_le_states = omega (arith, s.requires.place_le_transitions);
+      states_to = s.requires.states_to;
+      last_mark = s.requires.known_from.mark;
+    }
 
 pub returns : goal.returns
 returns c =

@@ -9,11 +9,11 @@ use Rattle.moves.proofs.start_after.Goals as goal
 pub starts_at-requires : goal.starts_at-requires
 starts_at-requires c =
     let s = c in record {
-  states_in_bounds = s.requires.states_in_bounds;
-  states_le_most_states = s.requires.states_le_most_states;
-  k_le_states = omega (arith, s.requires.place_lt_states);
-  k_bound = s.requires.states_to (s.args.place + 1) (omega arith);
-}
+      states_in_bounds = s.requires.states_in_bounds;
+      states_le_most_states = s.requires.states_le_most_states;
+      k_le_states = omega (arith, s.requires.place_lt_states);
+      k_bound = s.requires.states_to (s.args.place + 1) (omega arith);
+    }
 
 pub returns-then-starts_at : goal.returns-then-starts_at
 returns-then-starts_at c =
