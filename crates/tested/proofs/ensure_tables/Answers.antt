@@ -5,6 +5,6 @@ use Rattle.tested.proofs.ensure_tables.Goals as goal
 pub returns-then-made : goal.returns-then-made
 returns-then-made c =
     record {
-  tables_2 = c.requires.tables c.if-made.true;
-  same = same_outside_refl _ _ _;
-}
+      tables_2 = c.requires.tables c.if-made.true;
+      same = same_outside_refl _ _ _;
+    }

@@ -18,7 +18,7 @@ use Rattle.goal_tables.specs.Tables.{Tables}
 use Rattle.passed.specs.Passed.{PassedAt}
 use Rattle.tested.proofs.TestedLaws.{none_follows, ground_of, start_inside, place_says, last_says, passed_searched, passed_made}
 use Rattle.tested.proofs.may_follow.Goals as goal
-use Rattle.tested.proofs.may_follow.Goals.{After-at_last, After-ensure_tables, After-get, After-slice_known-then-searches-lt-SEARCHES-1, Else-get-place, Else-place-number, Else-start-eq0, Start}
+use Rattle.tested.proofs.may_follow.Goals.{Else-get-place, After-at_last, After-ensure_tables, After-get, After-slice_known-then-searches-lt-SEARCHES-1, Else-get-place, Else-place-number, Else-start-eq0, Start}
 
 abbrev start : After-get → Start
 start c = (goal.at.After-get c).Start
@@ -100,11 +100,11 @@ at_last-requires c =
     let s = (goal.at.Else-start-eq0 e).Start in
     let sizes = asked_sizes (asked s) in
     let inside = start_inside (asked s) (last_start e) in record {
-  states_in_bounds = omega arith;
-  states_le_most_states = sizes.2.states_range.1;
-  start_le_states = omega (arith, s.requires.place_lt_transitions);
-  t_lt_states = s.requires.t_lt_states;
-}
+      states_in_bounds = omega arith;
+      states_le_most_states = sizes.2.states_range.1;
+      start_le_states = omega (arith, s.requires.place_lt_transitions);
+      t_lt_states = s.requires.t_lt_states;
+    }
 
 pub returns-then-place-number : goal.returns-then-place-number
 returns-then-place-number c =
@@ -122,12 +122,12 @@ pub may_close-requires : goal.may_close-requires
 may_close-requires c =
     let e = (goal.at.may_close-requires c).Else-start-eq0 in
     let s = (goal.at.Else-start-eq0 e).Start in record {
-  prepared = s.requires.prepared;
-  place_lt_transitions = s.requires.place_lt_transitions;
-  t_lt_states = s.requires.t_lt_states;
-  t = s.requires.t;
-  fact = no_stem e.before.before;
-}
+      prepared = s.requires.prepared;
+      place_lt_transitions = s.requires.place_lt_transitions;
+      t_lt_states = s.requires.t_lt_states;
+      t = s.requires.t;
+      fact = no_stem (goal.at.Else-start-eq0 e).Else-get-place;
+    }
 
 pub returns-then-searches-lt-SEARCHES : goal.returns-then-searches-lt-SEARCHES
 returns-then-searches-lt-SEARCHES c =
@@ -144,9 +144,9 @@ ensure_tables-requires c =
     let e = (goal.at.ensure_tables-requires c).Else-start-eq0 in
     let s = (goal.at.Else-start-eq0 e).Start in
     let last = last_start e in record {
-  ground = ground_of (asked s) (s.args.passed.start - 1) (start_inside (asked s) last) (last.is (s.args.passed.start - 1) refl);
-  tables = λ m. (known s).tables m (s.args.passed.start - 1) (start_is e);
-}
+      ground = ground_of (asked s) (s.args.passed.start - 1) (start_inside (asked s) last) (last.is (s.args.passed.start - 1) refl);
+      tables = λ m. (known s).tables m (s.args.passed.start - 1) (start_is e);
+    }
 
 pub before_last-requires : goal.before_last-requires
 before_last-requires c =
@@ -155,19 +155,19 @@ before_last-requires c =
     let s = (goal.at.Else-start-eq0 e).Start in
     let sizes = asked_sizes (asked s) in
     let inside = start_inside (asked s) (last_start e) in record {
-  n_in_bounds = omega (arith, (same r).same_length);
-  n_le_most_states = sizes.2.states_range.1;
-  b_le_place = inside;
-  place_lt_n = omega (arith, s.requires.place_lt_transitions);
-  t_lt_n = s.requires.t_lt_states;
-}
+      n_in_bounds = omega (arith, (same r).same_length);
+      n_le_most_states = sizes.2.states_range.1;
+      b_le_place = inside;
+      place_lt_n = omega (arith, s.requires.place_lt_transitions);
+      t_lt_n = s.requires.t_lt_states;
+    }
 
 pub returns : goal.returns
 returns c =
     let r = (goal.at.returns c).After-ensure_tables in
     let e = (goal.at.After-ensure_tables r).Else-start-eq0 in
     let s = (goal.at.Else-start-eq0 e).Start in
-    let both = place_says (asked s) (last_start e) (known s).mark (no_stem e.before.before) (more ((goal.at.After-ensure_tables r).Else-place-number)) (tables r) in
+    let both = place_says (asked s) (last_start e) (known s).mark (no_stem (goal.at.Else-start-eq0 e).Else-get-place) (more ((goal.at.After-ensure_tables r).Else-place-number)) (tables r) in
     record {
       decides = decides_iff both.0 both.1 c.before_last.result c.before_last.ensures;
       same = same r;

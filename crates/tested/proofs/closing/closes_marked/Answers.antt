@@ -1,7 +1,5 @@
-use Prim.Native.Nat.{◌+◌, ◌-◌, ◌≤◌, ◌<◌}
+use Prim.Native.Nat.{ℕ, ◌+◌, ◌-◌, ◌≤◌, ◌<◌}
 use mathlib.Core.Path.{◌≡◌, sym, ◌∙◌, ap}
-use mathlib.Core.Bool.{false}
-use mathlib.Core.Logic.{⊎_elim}
 use mathlib.Core.List.{◌∷◌}
 use native.Mathlib.Omega.{arith}
 use lib.ListN.{get_or}
@@ -11,7 +9,7 @@ use Rattle.lists.specs.Decides.{Decides}
 use Rattle.tested.proofs.ClosingTests.{MarkFrom, mark_from_here, mark_from_skip, from_more, read_two}
 use Rattle.tested.proofs.closing.closes_marked.Invariants.{NotClosing}
 use Rattle.tested.proofs.closing.closes_marked.Goals as goal
-use Rattle.tested.proofs.closing.closes_marked.Goals.{After-get-level, After-is_marked, After-list_at-s, Joined-is_marked}
+use Rattle.tested.proofs.closing.closes_marked.Goals.{then-is_marked, else-is_marked, After-get-level, After-is_marked, After-list_at-s, Joined-is_marked}
 
 -- the state at a place of the list is a state
 inside : (c : After-list_at-s) → c.list_at-s.result < c.args.h.states
@@ -35,7 +33,10 @@ flag c =
     let a = at.args in
     let g = graph_in a.file.now a.h in
     let l : 1 ≤ at.loop-k.k = omega arith in
-    ⊎_elim (λ v. mark_from_here g a.h.start a.work.now a.place at.loop-k.k l (omega arith) (mark (goal.at.Joined-is_marked c).After-is_marked ∙ v.0.taken) c.if-is_marked.marked v.1) (λ v. mark_from_skip g a.h.start a.work.now a.place at.loop-k.k l (mark (goal.at.Joined-is_marked c).After-is_marked ∙ v.0.left) c.if-is_marked.marked at.loop-k.marked v.1 at.loop-k.invariant.1) c.if-is_marked.branch
+    elim c.if-is_marked.branch [
+      | then-is_marked v ↦ mark_from_here g a.h.start a.work.now a.place at.loop-k.k l (omega arith) (mark (goal.at.Joined-is_marked c).After-is_marked ∙ v.if-is_marked.true) c.if-is_marked.marked v.marked-is
+      | else-is_marked v ↦ mark_from_skip g a.h.start a.work.now a.place at.loop-k.k l (mark (goal.at.Joined-is_marked c).After-is_marked ∙ v.if-is_marked.false) c.if-is_marked.marked at.loop-k.marked v.marked-is at.loop-k.invariant.1
+    ]
 
 -- the level read is the entry of region 2 for the state at the place
 level : (c : After-get-level) → let at = c in let a = at.args in
@@ -49,7 +50,7 @@ level c =
 -- one place more is looked at
 more : (c : Joined-is_marked) → let at = c in let a = at.args in
     NotClosing a.file.now a.h a.work.now a.place a.left (at.loop-k.k - 1)
-    → invariant-loop a.file.now a.h a.work.now a.place a.left a.h.states false (a.place + 1) c.if-is_marked.marked (at.loop-k.k - 1)
+    → ((at.loop-k.k - 1) ≤ a.place + 1) × Decides (MarkFrom (graph_in a.file.now a.h) a.h.start a.work.now a.place (at.loop-k.k - 1)) c.if-is_marked.marked × ((x : ℕ) → (at.loop-k.k - 1) ≤ x → NotClosing a.file.now a.h a.work.now a.place a.left x)
 more c here =
     let at = c in
     let a = at.args in
@@ -61,9 +62,9 @@ loop-k-init c = (omega arith, λ (r, h, i, t). omega arith, λ x h a (r, i, j, t
 pub is_marked-requires : goal.is_marked-requires
 is_marked-requires c =
     record {
-  valid = c.requires.valid;
-  s_lt_states = inside c;
-}
+      valid = c.requires.valid;
+      s_lt_states = inside c;
+    }
 
 pub overflow_add-n : goal.overflow_add-n
 overflow_add-n c = omega (arith, inside (goal.at.overflow_add-n c).After-list_at-s)

@@ -1,6 +1,6 @@
 -- `closing::closes_marked` meets its contract. The loop goes from the last place back; its invariant: the flag tells if a state
 -- from place k on is marked, and no place from k on passes the test.
-use Prim.Native.Nat.{ℕ, suc, ◌+◌, ◌-◌, ◌≤◌}
+use Prim.Native.Nat.{ℕ, suc, ◌+◌, ◌≤◌}
 use mathlib.Core.Path.{◌≡◌}
 use mathlib.Core.List.{List, ◌∷◌}
 use lib.ListN.{get_or}

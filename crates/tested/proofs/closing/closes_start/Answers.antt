@@ -1,6 +1,5 @@
 use Prim.Native.Nat.{◌-◌, ◌<◌}
 use mathlib.Core.Path.{◌≡◌, ◌∙◌}
-use mathlib.Core.Logic.{⊎_elim}
 use mathlib.Core.List.{◌∷◌}
 use native.Mathlib.Omega.{arith}
 use borrow.Author.Count.{below_more}
@@ -10,7 +9,7 @@ use Rattle.follow.proofs.FollowTests.{read_one}
 use Rattle.tested.proofs.ClosingTests.{read_two}
 use Rattle.tested.proofs.closing.closes_start.Invariants.{StartUnreached}
 use Rattle.tested.proofs.closing.closes_start.Goals as goal
-use Rattle.tested.proofs.closing.closes_start.Goals.{After-get, After-get-level, After-list_at-s}
+use Rattle.tested.proofs.closing.closes_start.Goals.{then-get-eq1+then-level-ne0+else-level-left, then-get-eq1+else-level-ne0, else-get-eq1, After-get, After-get-level, After-list_at-s}
 
 -- the state at a place of the list is a state
 inside : (c : After-list_at-s) → c.list_at-s.result < c.args.h.states
@@ -62,7 +61,11 @@ loop-k-preserved c =
     let first = one at in
     let second = two (goal.at.After-get at).After-get-level in (
       omega arith,
-      below_more (StartUnreached a.h.states a.h.start a.work.now a.left) loop.k loop.invariant.1 (λ i p q r. ⊎_elim (λ v. omega (arith, v.1.taken, v.2.left)) (⊎_elim (λ v. omega (arith, v.1.left)) (λ v. omega (arith, v.left))) c.if-get-eq1.branch),
+      below_more (StartUnreached a.h.states a.h.start a.work.now a.left) loop.k loop.invariant.1 (λ i p q r. elim c.if-get-eq1.branch [
+        | then-get-eq1+then-level-ne0+else-level-left v ↦ omega (arith, v.if-get-eq1.true, v.if-level-left.false)
+        | then-get-eq1+else-level-ne0 v ↦ omega (arith, v.if-level-ne0.false)
+        | else-get-eq1 v ↦ omega (arith, v.if-get-eq1.false)
+      ]),
     )
 
 pub returns : goal.returns

@@ -86,70 +86,70 @@ pub distances_from-requires : goal.distances_from-requires
 distances_from-requires c =
     let s = c in
     let S = asked_sizes (asked (goal.at.distances_from-requires c).After-number) in record {
-  valid = s.requires.prepared.valid;
-  x_lt_states = s.requires.t_lt_states;
-  le_limit = omega arith;
-  limit_le_states = omega arith;
-  states_in_bounds = S.1;
-}
+      valid = s.requires.prepared.valid;
+      x_lt_states = s.requires.t_lt_states;
+      le_limit = omega arith;
+      limit_le_states = omega arith;
+      states_in_bounds = S.1;
+    }
 
 pub closes_marked-requires : goal.closes_marked-requires
 closes_marked-requires c =
     let at = (goal.at.closes_marked-requires c).After-distances_from in record {
-  valid = at.requires.prepared.valid;
-  states_in_bounds = (room at).0;
-  place_lt_states = (room at).1;
-  left_le_states = (room at).2;
-  states_to = states at;
-}
+      valid = at.requires.prepared.valid;
+      states_in_bounds = (room at).0;
+      place_lt_states = (room at).1;
+      left_le_states = (room at).2;
+      states_to = states at;
+    }
 
 pub returns-then-closes_marked : goal.returns-then-closes_marked
 returns-then-closes_marked c =
     let at = (goal.at.returns-then-closes_marked c).After-distances_from in record {
-  decides = rw at.number.ensures at (marked_follows (asked ((goal.at.After-distances_from at).After-number)) (searched at) (distances_left at) (rw c.if-closes_marked.true at c.closes_marked.ensures));
-  same = kept at;
-}
+      decides = rw at.number.ensures at (marked_follows (asked ((goal.at.After-distances_from at).After-number)) (searched at) (distances_left at) (rw c.if-closes_marked.true at c.closes_marked.ensures));
+      same = kept at;
+    }
 
 pub closes_start-requires : goal.closes_start-requires
 closes_start-requires c =
     let at = (goal.at.closes_start-requires c).After-distances_from in record {
-  states_in_bounds = (room at).0;
-  place_lt_states = (room at).1;
-  left_le_states = (room at).2;
-  states_to = states at;
-}
+      states_in_bounds = (room at).0;
+      place_lt_states = (room at).1;
+      left_le_states = (room at).2;
+      states_to = states at;
+    }
 
 pub returns-then-not-closes_start : goal.returns-then-not-closes_start
 returns-then-not-closes_start c =
     let else = (goal.at.returns-then-not-closes_start c).Else-closes_marked in
     let at = (goal.at.Else-closes_marked else).After-distances_from in record {
-  decides = rw at.number.ensures at (far_not_follows (asked ((goal.at.After-distances_from at).After-number)) (searched at) (distances_left at) (no_stem ((goal.at.After-distances_from at).Start)) (no_mark else) (rw (c.if-not-closes_start.true) at c.closes_start.ensures));
-  same = kept at;
-}
+      decides = rw at.number.ensures at (far_not_follows (asked ((goal.at.After-distances_from at).After-number)) (searched at) (distances_left at) (no_stem ((goal.at.After-distances_from at).Start)) (no_mark else) (rw (c.if-not-closes_start.true) at c.closes_start.ensures));
+      same = kept at;
+    }
 
 pub from_marks-requires : goal.from_marks-requires
 from_marks-requires c =
     let at = (goal.at.from_marks-requires c).After-distances_from in record {
-  valid = at.requires.prepared.valid;
-  limit_le_states = omega (arith, asked_sizes (asked ((goal.at.After-distances_from at).After-number)));
-  states_in_bounds = omega (arith, (kept at).same_length, asked_sizes (asked ((goal.at.After-distances_from at).After-number)));
-}
+      valid = at.requires.prepared.valid;
+      limit_le_states = omega (arith, asked_sizes (asked ((goal.at.After-distances_from at).After-number)));
+      states_in_bounds = omega (arith, (kept at).same_length, asked_sizes (asked ((goal.at.After-distances_from at).After-number)));
+    }
 
 pub closes_start-requires-2 : goal.closes_start-requires-2
 closes_start-requires-2 c =
     let second = (goal.at.closes_start-requires-2 c).After-from_marks in
     let at = (goal.at.After-from_marks second).After-distances_from in record {
-  states_in_bounds = omega (arith, room at, (kept at).same_length, (kept_on second).same_length);
-  place_lt_states = (room at).1;
-  left_le_states = (room at).2;
-  states_to = asked_states (asked ((goal.at.After-distances_from at).After-number)) (searched_on second) (outside_on second);
-}
+      states_in_bounds = omega (arith, room at, (kept at).same_length, (kept_on second).same_length);
+      place_lt_states = (room at).1;
+      left_le_states = (room at).2;
+      states_to = asked_states (asked ((goal.at.After-distances_from at).After-number)) (searched_on second) (outside_on second);
+    }
 
 pub returns : goal.returns
 returns c =
     let second = (goal.at.returns c).After-from_marks in
     let at = (goal.at.After-from_marks second).After-distances_from in
     let else = (goal.at.After-from_marks second).Else-closes_marked in record {
-  decides = rw at.number.ensures at (via_decides (asked ((goal.at.After-distances_from at).After-number)) (searched at) (distances_left at) (no_stem ((goal.at.After-distances_from at).Start)) (no_mark else) (searched_on second) second.from_marks.result second.from_marks.ensures c.closes_start-2.result c.closes_start-2.ensures);
-  same = kept_on second;
-}
+      decides = rw at.number.ensures at (via_decides (asked ((goal.at.After-distances_from at).After-number)) (searched at) (distances_left at) (no_stem ((goal.at.After-distances_from at).Start)) (no_mark else) (searched_on second) second.from_marks.result second.from_marks.ensures c.closes_start-2.result c.closes_start-2.ensures);
+      same = kept_on second;
+    }
