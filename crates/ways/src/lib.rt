@@ -1,4 +1,6 @@
 // Back over the queue of a search: which states have a way on, one level a step, to an end.
+#![tactic(auto)]
+
 ghost use Rattle.std.specs.Prelude.{◌*◌, ◌≤◌, ◌<◌, length};
 ghost use Rattle.lists.specs.Decides.{Decides};
 ghost use Rattle.model.specs.Values.{Valid};
