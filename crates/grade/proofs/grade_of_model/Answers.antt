@@ -10,11 +10,7 @@ use Rattle.grade.specs.Grade.{verdict_of}
 use Rattle.grade_verdicts.proofs.AcceptLaws.{verdict_false}
 use Rattle.grade.proofs.GradeLaws.{accepts_broken, grade_answered}
 use Rattle.grade.proofs.grade_of_model.Goals as goal
-use Rattle.grade.proofs.grade_of_model.Goals.{After-first_break-broken, After-slice_known-in-None-1, After-verdict_of-arg-1, In-At, Start}
-
--- the function's start, from where the first place was looked for
-abbrev start : After-first_break-broken → Start
-start c = (goal.at.After-first_break-broken c).Start
+use Rattle.grade.proofs.grade_of_model.Goals.{After-slice_known-in-None-1, After-verdict_of-arg-1, In-At, Start}
 
 pub verdict_of-given-requires : goal.verdict_of-given-requires
 verdict_of-given-requires c =

@@ -11,15 +11,11 @@ use Rattle.grade_report.specs.Grades.{grade_report}
 use Rattle.figures.proofs.ReportLaws.{reports_known}
 use Rattle.grade_report.proofs.PlaceLaws.{place_known}
 use Rattle.grade_report.proofs.report_grade.Goals as goal
-use Rattle.grade_report.proofs.report_grade.Goals.{After-slice_known-2-1, In-At, In-None, Start}
+use Rattle.grade_report.proofs.report_grade.Goals.{In-At, In-None, Start}
 
 -- the report of an answer of the code
 abbrev answer_report : GradeAnswer → Report
 answer_report a = grade_report (grade_outcome_of a)
-
--- the function's start, from its match
-abbrev start : After-slice_known-2-1 → Start
-start c = (goal.at.After-slice_known-2-1 c).Start
 
 pub returns-in-Refused : goal.returns-in-Refused
 returns-in-Refused c =
