@@ -9,21 +9,21 @@ use Rattle.gate.proofs.GateLaws.{gate_refused, gate_passed, entered_length, work
 use Rattle.distances.specs.Distances.{distances_outcome, distances_output}
 use Rattle.distances.proofs.DistancesLaws.{reasons_common, distances_refused}
 use Rattle.distances.proofs.distances.Goals as goal
-use Rattle.distances.proofs.distances.Goals.{After-enter-checked, After-slice_known-3-1, In-Accept, In-Refused, Start}
+use Rattle.distances.proofs.distances.Goals.{After-enter-checked, In-Accept, In-Refused, Start}
 
 -- the gate, and the function's start
-abbrev gate : After-slice_known-3-1 → After-enter-checked
-gate c = (goal.at.After-slice_known-3-1 c).After-enter-checked
+abbrev gate : In-Accept → After-enter-checked
+gate c = (goal.at.In-Accept c).After-enter-checked
 
 abbrev start : After-enter-checked → Start
 start c = (goal.at.After-enter-checked c).Start
 
 -- the file has passed the gate, with its header
 passed : (c : In-Accept)
-    → let a = (start (gate (goal.at.In-Accept c).After-slice_known-3-1)).args in
+    → let a = (start (gate c)).args in
     GatePassed a.file.now 0 (length a.work.now) c.in-Accept.h
 passed c =
-    let entered = gate (goal.at.In-Accept c).After-slice_known-3-1 in
+    let entered = gate c in
     let a = (start entered).args in
     gate_passed a.file.now 0 (length a.work.now) entered.enter-checked.ensures.answer c.in-Accept.is
 

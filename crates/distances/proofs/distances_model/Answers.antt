@@ -12,7 +12,7 @@ use Rattle.distances.specs.Distances.{distance_entry}
 use Rattle.distances.proofs.EntryLaws.{start_stored, written_more, written_all, written-length}
 use Rattle.distances.proofs.DistancesLaws.{reasons_high, reasons_short, reasons_clear, distances_refused, distances_written}
 use Rattle.distances.proofs.distances_model.Goals as goal
-use Rattle.distances.proofs.distances_model.Goals.{After-ceiling_too_high-high, After-entry_for, After-loop-s, After-slice_known-in-loop-s-1-unread, After-start_distances, At-loop-s, Else-high, Else-output-n, Start}
+use Rattle.distances.proofs.distances_model.Goals.{After-ceiling_too_high-high, After-entry_for, After-loop-s, After-start_distances, At-loop-s, Else-high, Else-output-n, Start}
 
 -- the function's start, from where the ceiling was tested
 abbrev start : After-ceiling_too_high-high → Start
@@ -102,7 +102,7 @@ offset_bounds-work-s c = let sizes = valid_sizes c.requires.valid.0 in omega (ar
 pub bounds-work-s : goal.bounds-work-s
 bounds-work-s c =
     let at = c in
-    let s = (goal.at.After-slice_known-in-loop-s-1-unread at).Start in
+    let s = at in
     omega (arith, c.loop-s-test.true, at.start_distances.ensures.same_length, s.requires.states_in_bounds)
 
 pub offset_bounds-output-s : goal.offset_bounds-output-s

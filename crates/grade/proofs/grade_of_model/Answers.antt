@@ -10,12 +10,12 @@ use Rattle.grade.specs.Grade.{verdict_of}
 use Rattle.grade_verdicts.proofs.AcceptLaws.{verdict_false}
 use Rattle.grade.proofs.GradeLaws.{accepts_broken, grade_answered}
 use Rattle.grade.proofs.grade_of_model.Goals as goal
-use Rattle.grade.proofs.grade_of_model.Goals.{After-slice_known-in-None-1, After-verdict_of-arg-1, In-At, Start}
+use Rattle.grade.proofs.grade_of_model.Goals.{In-At, Start}
 
 pub verdict_of-given-requires : goal.verdict_of-given-requires
 verdict_of-given-requires c =
     let looked = c in
-    let s = (goal.at.After-verdict_of-arg-1 looked).Start in record {
+    let s = looked in record {
       valid = s.requires.valid;
       states_in_bounds = s.requires.states_in_bounds;
       list_value = sym looked.first_break-broken.ensures ∙ ap break_of c.in-None.is;
@@ -37,7 +37,7 @@ pub returns-in-None : goal.returns-in-None
 returns-in-None c =
     let graded = c in
     let looked = graded in
-    let s = (goal.at.After-slice_known-in-None-1 looked).Start in
+    let s = looked in
     let a = s.args in
     let g = graph_in a.file.now a.h in
     let tells : verdict_of graded.verdict_of-given.result ≡ verdict g a.list.now a.k = graded.verdict_of-given.ensures.tells in record {

@@ -10,21 +10,21 @@ use Rattle.gate.proofs.GateLaws.{gate_refused, gate_passed, entered_length, work
 use Rattle.step.specs.Step.{step_outcome}
 use Rattle.step.proofs.StepLaws.{step_refused}
 use Rattle.step.proofs.step.Goals as goal
-use Rattle.step.proofs.step.Goals.{After-enter-checked, After-slice_known-2-1, In-Accept, In-Refused, Start}
+use Rattle.step.proofs.step.Goals.{After-enter-checked, In-Accept, In-Refused, Start}
 
 -- the gate, and the function's start
-abbrev gate : After-slice_known-2-1 → After-enter-checked
-gate c = (goal.at.After-slice_known-2-1 c).After-enter-checked
+abbrev gate : In-Accept → After-enter-checked
+gate c = (goal.at.In-Accept c).After-enter-checked
 
 abbrev start : After-enter-checked → Start
 start c = (goal.at.After-enter-checked c).Start
 
 -- the file has passed the gate, with its header
 passed : (c : In-Accept)
-    → let a = (start (gate (goal.at.In-Accept c).After-slice_known-2-1)).args in
+    → let a = (start (gate c)).args in
     GatePassed a.file.now a.mark_table (length a.work.now) c.in-Accept.h
 passed c =
-    let entered = gate (goal.at.In-Accept c).After-slice_known-2-1 in
+    let entered = gate c in
     let a = (start entered).args in
     gate_passed a.file.now a.mark_table (length a.work.now) entered.enter-checked.ensures.answer c.in-Accept.is
 

@@ -14,7 +14,7 @@ use Rattle.gate.proofs.GateLaws.{valid_clear}
 use Rattle.candidates.proofs.DistanceLaws.{ready_started}
 use Rattle.step.proofs.StepLaws.{step_too_high, step_finished, step_advanced}
 use Rattle.step.proofs.step_model.Goals as goal
-use Rattle.step.proofs.step_model.Goals.{After-count_candidates-count, After-next_round-arg-1, After-start_distances, Else-ceiling_too_high, Else-count-place, Start}
+use Rattle.step.proofs.step_model.Goals.{After-count_candidates-count, After-start_distances, Else-ceiling_too_high, Else-count-place, Start}
 
 -- where the distances from the start are there, and the function's start, from where the candidates are counted
 abbrev started : After-count_candidates-count → After-start_distances
@@ -57,7 +57,7 @@ returns-then-count-place c =
 pub next_round-after-requires : goal.next_round-after-requires
 next_round-after-requires c =
     let counted = c in
-    let s = (goal.at.After-next_round-arg-1 counted).Start in record {
+    let s = counted in record {
       rounds_ready = ready_started s.requires.valid s.requires.states_in_bounds counted.start_distances.ensures;
       so_far_in_bounds = left_over (goal.at.next_round-after-requires c).Else-count-place;
     }
