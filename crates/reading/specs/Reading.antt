@@ -1,11 +1,11 @@
--- What C's answer to a read tells, and what counts as the input.
-use Rattle.std.specs.Prelude.{ℕ, ◌≡◌, Bool, true, false, List, [], take, ℤ, pos, negsuc}
+-- What the answer to a read tells, and what counts as the input.
+use Rattle.std.specs.Prelude.{ℕ, ◌≡◌, Bool, true, false, List, [], take, Result, Ok, Err}
 use Rattle.lists.specs.Lists.{pick}
 
--- the read failed: the answer is negative
-abbrev pub failedRead : ℤ → Bool
-failedRead (pos k) = false
-failedRead (negsuc k) = true
+-- the read failed: the answer is an error
+abbrev pub failedRead : {E : Type 0} → Result ℕ E → Bool
+failedRead (Ok count) = false
+failedRead (Err e) = true
 
 -- what counts as the input: an input that could not be read to its end, since a read failed, counts as empty
 abbrev pub input_of : (failed : Bool) (read : List ℕ) → List ℕ
