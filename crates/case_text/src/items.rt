@@ -16,7 +16,7 @@ use harness::{header_word, put_byte, text};
 use table::put;
 
 // An item: its sign, its numbers, and the place after it.
-#[derive(Drop)]
+#[derive(Clone, Copy)]
 struct Item {
     sign: u8,
     first: usize,

@@ -71,6 +71,7 @@ fn put_changes(pairs: &[u8], file: &mut File) {
 
 // Runs a case on the file and with the list that it lends: once, at every length, or with every byte changed.
 fn run_lent(
+    rt: &impl Print,
     mark: u8,
     file: &mut File,
     list: &[u16; 4097],
@@ -82,14 +83,21 @@ fn run_lent(
 {
     let earlier = first(list, count);
     match mark {
-        b'+' => lengths(file, earlier, f, before),
-        b'*' => changes(file, earlier, f, before),
-        _ => once(file, earlier, f, before),
+        b'+' => lengths(rt, file, earlier, f, before),
+        b'*' => changes(rt, file, earlier, f, before),
+        _ => once(rt, file, earlier, f, before),
     }
 }
 
 // Runs a case whose model, changes and list stand at places of its line.
-fn run_parts(line: &[u8], colon: usize, end: usize, f: CaseNumbers, before: Judged) -> Judged
+fn run_parts(
+    rt: &impl Print,
+    line: &[u8],
+    colon: usize,
+    end: usize,
+    f: CaseNumbers,
+    before: Judged,
+) -> Judged
     requires colon_in_bounds { (colon ≤ length line.now) × (end ≤ length line.now) }
     requires size_bound { (f.size ≤ 25800) × (f.room ≤ 4097) × (f.entries ≤ 24576) }
 {
@@ -101,6 +109,7 @@ fn run_parts(line: &[u8], colon: usize, end: usize, f: CaseNumbers, before: Judg
     put_changes(part(line, end, slash), &mut file);
     let count = make_entries(part(line, slash, line.len()), &mut bytes, &mut list);
     run_lent(
+        rt,
         byte_behind(line, colon, 1),
         &mut file,
         &list,
@@ -141,23 +150,23 @@ fn least_length(line: &[u8], colon: usize, mark: u8) -> NumberRead
 
 // Runs a case whose name ends at a place. After the colon a blank stands for one call each, `+` for every length from
 // one up to another, which has one number more, and `*` for every byte changed to every other value.
-fn run_case(line: &[u8], colon: usize, shared: Setting, before: Judged) -> Judged
+fn run_case(rt: &impl Print, line: &[u8], colon: usize, shared: Setting, before: Judged) -> Judged
     requires { colon ≤ length line.now }
 {
     let mark = byte_behind(line, colon, 1);
     let from = least_length(line, colon, mark);
-    text(part(line, 0, colon));
-    say(b":|\n", many(mark), &[]);
+    text(rt, part(line, 0, colon));
+    say(rt, b":|\n", many(mark), &[]);
     let f = figures_at(line, from.value, from.next, mark == b' ', shared);
-    run_parts(line, colon, behind(line, from.next, 4), f, before)
+    run_parts(rt, line, colon, behind(line, from.next, 4), f, before)
 }
 
 // Runs a line. One that begins with `#`, or says what the cases after it share, is printed as it stands.
-pub fn run_line(line: &[u8], shared: Setting, before: Judged) -> Judged {
+pub fn run_line(rt: &impl Print, line: &[u8], shared: Setting, before: Judged) -> Judged {
     if byte_at(line, 0) == b'#' || is_setting(line) {
-        text(line);
-        text(b"\n");
+        text(rt, line);
+        text(rt, b"\n");
         return before;
     }
-    run_case(line, find(line, 0, b':'), shared, before)
+    run_case(rt, line, find(line, 0, b':'), shared, before)
 }

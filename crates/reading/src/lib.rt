@@ -12,7 +12,7 @@ use std::rt::Files;
 use std::{fs, io, str};
 
 // What was read: so many bytes at the front of the buffer, and whether a read failed before the end of the input.
-#[derive(Drop)]
+#[derive(Clone, Copy)]
 pub struct Reading {
     pub count: usize,
     pub failed: bool,
