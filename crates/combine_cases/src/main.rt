@@ -59,9 +59,9 @@ fn run_parts(rt: &impl Print, line: &[u8], e: Ends, space: usize, expected: usiz
     let mut rule = [0u8; 25700];
     let mut letters = [0u8; 4200];
     let mut property = [0u8; 41600];
-    let rule_size = make(part(line, e.name, e.rule), &mut rule);
-    let letters_size = make(part(line, e.rule, e.letters), &mut letters);
-    let property_size = make(part(line, e.letters, e.property), &mut property);
+    let rule_size = make(rt, part(line, e.name, e.rule), &mut rule);
+    let letters_size = make(rt, part(line, e.rule, e.letters), &mut letters);
+    let property_size = make(rt, part(line, e.letters, e.property), &mut property);
     calls::run(
         rt,
         part(&rule, 0, rule_size),

@@ -12,7 +12,14 @@ use case_text::{NumberRead, byte_at, digits, find, make_entries, next_number, sk
 use harness::{first, part, put16, say, text};
 
 // A case's size, allowance and entries, from four places of a line, and what it shares with others.
-fn figures_at(line: &[u8], from: usize, size: usize, shown: bool, shared: Setting) -> CaseNumbers
+fn figures_at(
+    rt: &impl Print,
+    line: &[u8],
+    from: usize,
+    size: usize,
+    shown: bool,
+    shared: Setting,
+) -> CaseNumbers
     requires { size ≤ length line.now }
     ensures { (result.size ≤ 25800) × (result.room ≤ 4097) × (result.entries ≤ 24576) }
 {
@@ -22,13 +29,13 @@ fn figures_at(line: &[u8], from: usize, size: usize, shown: bool, shared: Settin
     let entries = next_number(line, room.next);
     CaseNumbers {
         from: from,
-        size: within(bytes.value, 25800),
+        size: within(rt, bytes.value, 25800),
         mark_table: shared.mark_table,
         ceiling: shared.ceiling,
         best: shared.best,
         allowance: (allowance.value % 65536) as u16,
-        room: within(room.value, 4097),
-        entries: within(entries.value, 24576),
+        room: within(rt, room.value, 4097),
+        entries: within(rt, entries.value, 24576),
         shown: shown,
     }
 }
@@ -105,9 +112,9 @@ fn run_parts(
     let mut bytes = [0u8; 8194];
     let mut list = [0u16; 4097];
     let slash = find(line, end, b'/');
-    put_model(byte_behind(line, colon, 2), &mut file);
+    put_model(rt, byte_behind(line, colon, 2), &mut file);
     put_changes(part(line, end, slash), &mut file);
-    let count = make_entries(part(line, slash, line.len()), &mut bytes, &mut list);
+    let count = make_entries(rt, part(line, slash, line.len()), &mut bytes, &mut list);
     run_lent(
         rt,
         byte_behind(line, colon, 1),
@@ -157,7 +164,7 @@ fn run_case(rt: &impl Print, line: &[u8], colon: usize, shared: Setting, before:
     let from = least_length(line, colon, mark);
     text(rt, part(line, 0, colon));
     say(rt, b":|\n", many(mark), &[]);
-    let f = figures_at(line, from.value, from.next, mark == b' ', shared);
+    let f = figures_at(rt, line, from.value, from.next, mark == b' ', shared);
     run_parts(rt, line, colon, behind(line, from.next, 4), f, before)
 }
 

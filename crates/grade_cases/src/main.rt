@@ -44,13 +44,13 @@ fn numbers_in(words: &[u8]) -> CaseNumbers
 }
 
 // The grade of the list that a text describes, on a file.
-fn grade_list(file: &[u8], list_text: &[u8], n: CaseNumbers) -> Tried
+fn grade_list(rt: &impl Print, file: &[u8], list_text: &[u8], n: CaseNumbers) -> Tried
     requires { n.room ≤ 24600 }
 {
     let mut bytes = [0u8; 140032];
     let mut list = [0u16; 70016];
     let mut work = [0u16; 24600];
-    let entries = make_entries(list_text, &mut bytes, &mut list);
+    let entries = make_entries(rt, list_text, &mut bytes, &mut list);
     grade_trials::grade(
         file,
         n.mark_table,
@@ -62,12 +62,12 @@ fn grade_list(file: &[u8], list_text: &[u8], n: CaseNumbers) -> Tried
 }
 
 // The grade that a case asks for: the file is described by one text, the list by another.
-fn grade(file_text: &[u8], list_text: &[u8], n: CaseNumbers) -> Tried
+fn grade(rt: &impl Print, file_text: &[u8], list_text: &[u8], n: CaseNumbers) -> Tried
     requires { (n.size ≤ 25700) × (n.room ≤ 24600) }
 {
     let mut file = [0u8; 25700];
-    make(file_text, &mut file);
-    grade_list(part(&file, 0, n.size), list_text, n)
+    make(rt, file_text, &mut file);
+    grade_list(rt, part(&file, 0, n.size), list_text, n)
 }
 
 // Which text an answer has: two for each thing that is said, without a place and with one.
@@ -95,6 +95,7 @@ fn run_case(rt: &impl Print, line: &[u8], colon: usize, before: Judged) -> Judge
     let slash = find(line, colon, b'/');
     let bar = find(line, slash, b'|');
     let tried = grade(
+        rt,
         part(line, slash, bar),
         part(line, bar, line.len()),
         numbers_in(part(line, colon, slash)),

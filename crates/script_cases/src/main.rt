@@ -21,14 +21,14 @@ fn run_script(rt: &impl Print, line: &[u8]) {
     let end = end_behind(line, sizes);
     let room = next_number(line, 0);
     let entries = next_number(line, room.next);
-    let size = make(part(line, sizes, end), &mut file);
-    let count = make_entries(part(line, end, line.len()), &mut numbers, &mut script);
+    let size = make(rt, part(line, sizes, end), &mut file);
+    let count = make_entries(rt, part(line, end, line.len()), &mut numbers, &mut script);
     show(
         rt,
         part(&file, 0, size),
         first(&script, count),
-        within(room.value, 6),
-        within(entries.value, 64),
+        within(rt, room.value, 6),
+        within(rt, entries.value, 64),
     );
 }
 
