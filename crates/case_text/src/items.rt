@@ -234,6 +234,6 @@ fn put_entries(rt: &impl Print, file: &[u8], size: usize, table: &mut [u16]) -> 
 pub fn make_entries(rt: &impl Print, words: &[u8], buffer: &mut [u8], table: &mut [u16]) -> usize
     ensures { result ≤ length table.old }
 {
-    let size = make(words, buffer);
+    let size = make(rt, words, buffer);
     put_entries(rt, buffer, size, table)
 }
