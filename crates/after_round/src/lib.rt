@@ -1,8 +1,8 @@
 // The record after one more round, whose candidate is given.
 ghost use Rattle.std.specs.Prelude.{◌≡◌, ◌*◌, ◌<◌, length, get_or};
-ghost use Rattle.lasso.specs.Rounds.{candidates, afterRound};
-ghost use Rattle.lasso.specs.Values.{recordOf};
-ghost use Rattle.model.specs.Model.{graphIn};
+ghost use Rattle.lasso.specs.Rounds.{candidates, after_round};
+ghost use Rattle.lasso.specs.Values.{record_of};
+ghost use Rattle.model.specs.Model.{graph_in};
 ghost use Rattle.table.specs.Changes.{SameOutside};
 ghost use Rattle.candidates.specs.Promises.{RoundsReady};
 
@@ -22,9 +22,9 @@ pub fn after_round(
     so_far: RoundRecord,
 ) -> RoundRecord
     requires rounds_ready { RoundsReady file.now h work.old }
-    requires so_far_in_bounds { so_far.done < length (candidates (graphIn file.now h)) }
-    requires r_value { r ≡ get_or (candidates (graphIn file.now h)) so_far.done 0 }
-    ensures result_value { recordOf result ≡ afterRound (graphIn file.now h) ceiling.0 (recordOf so_far) }
+    requires so_far_in_bounds { so_far.done < length (candidates (graph_in file.now h)) }
+    requires r_value { r ≡ get_or (candidates (graph_in file.now h)) so_far.done 0 }
+    ensures result_value { record_of result ≡ after_round (graph_in file.now h) ceiling.0 (record_of so_far) }
     ensures same { SameOutside (2 * h.states) (6 * h.states) work.old work.new }
 {
     let limit = limit_of(so_far, h.states, ceiling);

@@ -1,9 +1,9 @@
 // The answers of search and next as numbers, for callers that have no enums: a kind, and figures in a lent table.
 ghost use Rattle.std.specs.Prelude.{◌≡◌, ◌≤◌, length};
-ghost use Rattle.search.specs.Search.{searchOutcomeOf};
-ghost use Rattle.next.specs.Next.{nextOutcomeOf};
-ghost use Rattle.figures.specs.Kinds.{figuresIn};
-ghost use Rattle.answers.specs.Kinds.{searchReport, nextReport};
+ghost use Rattle.search.specs.Search.{search_outcome_of};
+ghost use Rattle.next.specs.Next.{next_outcome_of};
+ghost use Rattle.figures.specs.Kinds.{figures_in};
+ghost use Rattle.answers.specs.Kinds.{search_report, next_report};
 
 use figures::{FOUND, NO_MORE, NONE_WITHIN, STOPPED, report_figures, report_record};
 use next::NextAnswer;
@@ -12,8 +12,8 @@ use search::SearchAnswer;
 // Reports the answer of a search.
 pub fn report_search(answer: SearchAnswer, out: &mut [u16]) -> u16
     requires { 3 ≤ length out.old }
-    ensures kind { result ≡ (searchReport (searchOutcomeOf answer)).kind }
-    ensures out { out.new ≡ figuresIn out.old (searchReport (searchOutcomeOf answer)) }
+    ensures kind { result ≡ (search_report (search_outcome_of answer)).kind }
+    ensures out { out.new ≡ figures_in out.old (search_report (search_outcome_of answer)) }
 {
     match answer {
         SearchAnswer::Refused(number) => number,
@@ -29,8 +29,8 @@ pub fn report_search(answer: SearchAnswer, out: &mut [u16]) -> u16
 // Reports the answer of next.
 pub fn report_next(answer: NextAnswer, out: &mut [u16]) -> u16
     requires { 3 ≤ length out.old }
-    ensures kind { result ≡ (nextReport (nextOutcomeOf answer)).kind }
-    ensures out { out.new ≡ figuresIn out.old (nextReport (nextOutcomeOf answer)) }
+    ensures kind { result ≡ (next_report (next_outcome_of answer)).kind }
+    ensures out { out.new ≡ figures_in out.old (next_report (next_outcome_of answer)) }
 {
     match answer {
         NextAnswer::Refused(number) => number,

@@ -3,9 +3,9 @@ use Rattle.std.specs.Prelude.{ℕ, suc, ◌≤◌, ◌<◌, ◌≡◌, length}
 use Rattle.std.proofs.Math.Option.{Option, some, none}
 use Rattle.lists.specs.Limit.{under}
 use Rattle.lasso.specs.Graph.{Graph}
-use Rattle.lasso.specs.Roll.{leastLength}
-use Rattle.lasso.specs.Rounds.{candidates, afterRounds}
-use Rattle.lasso.specs.Values.{recordOf}
+use Rattle.lasso.specs.Roll.{least_length}
+use Rattle.lasso.specs.Rounds.{candidates, after_rounds}
+use Rattle.lasso.specs.Values.{record_of}
 use Rattle.lasso.specs.declared.RoundRecord.{RoundRecord}
 use Rattle.begun.specs.declared.Begun.{Begun}
 use Rattle.begun.specs.declared.Begun.TheVariants as Begins
@@ -15,14 +15,14 @@ use Rattle.begun.specs.declared.AllRounds.TheVariants as ran
 -- the rounds were stopped: the allowance is less than the number of candidates, and the record is the one after so many
 pub record StoppedAfter (g : Graph) (ceiling allowance : ℕ) (r : RoundRecord) : Type 0 where
   pub short : allowance < length (candidates g)
-  pub record_is : recordOf r ≡ afterRounds g ceiling allowance
+  pub record_is : record_of r ≡ after_rounds g ceiling allowance
 
 -- all rounds are done: their number, and the least length of an accepting path that they found, if it is not above the
 -- ceiling
 pub record AllDone (g : Graph) (ceiling allowance rounds : ℕ) (least : Option ℕ) : Type 0 where
   pub enough : length (candidates g) ≤ allowance
-  pub rounds-are : rounds ≡ length (candidates g)
-  pub least-is : under (suc ceiling) (leastLength g) ≡ least
+  pub rounds_are : rounds ≡ length (candidates g)
+  pub least_is : under (suc ceiling) (least_length g) ≡ least
 
 -- what each answer of the rounds says
 abbrev pub BegunSays : Graph → (ceiling allowance : ℕ) → Begun → Type 0
@@ -32,8 +32,8 @@ BegunSays g ceiling allowance (Begins.Length l rounds) = AllDone g ceiling allow
 
 -- all rounds of the whole model are done: their number, and the least length of an accepting path, if there is one
 pub record RoundsDone (g : Graph) (rounds : ℕ) (least : Option ℕ) : Type 0 where
-  pub rounds-are : rounds ≡ length (candidates g)
-  pub least-is : leastLength g ≡ least
+  pub rounds_are : rounds ≡ length (candidates g)
+  pub least_is : least_length g ≡ least
 
 -- what each answer of all rounds says
 abbrev pub AllRoundsSay : Graph → AllRounds → Type 0

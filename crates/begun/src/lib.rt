@@ -2,7 +2,7 @@
 ghost use Rattle.std.specs.Prelude.{◌≡◌, ◌*◌, ◌≤◌, length};
 ghost use Rattle.std.proofs.Math.ListN;
 ghost use Rattle.model.specs.Values.{Valid};
-ghost use Rattle.model.specs.Model.{graphIn};
+ghost use Rattle.model.specs.Model.{graph_in};
 ghost use Rattle.candidates.specs.Promises.{RoundsReady};
 ghost use Rattle.begun.specs.Begun.{BegunSays, AllRoundsSay};
 
@@ -14,7 +14,7 @@ use rounds::run_rounds;
 
 // What the rounds come to: stopped with the record, or all done, with the length of the shortest accepting paths, if
 // there is one within the ceiling, and the number of rounds.
-#[derive(Drop)]
+#[derive(Clone, Copy)]
 pub enum Begun {
     Stopped(RoundRecord),
     NoneWithin(u16),
@@ -23,7 +23,7 @@ pub enum Begun {
 
 // What all rounds of the whole model come to: the number of rounds, and the length of the shortest accepting paths, if there
 // is one.
-#[derive(Drop)]
+#[derive(Clone, Copy)]
 pub enum AllRounds {
     None(u16),
     Length(Transitions, u16),
@@ -39,7 +39,7 @@ pub fn begin(
 ) -> Begun
     requires valid { Valid file.now h }
     requires states_in_bounds { 6 * h.states ≤ length work.old }
-    ensures says { BegunSays (graphIn file.now h) ceiling.0 allowance result }
+    ensures says { BegunSays (graph_in file.now h) ceiling.0 allowance result }
     ensures ready { RoundsReady file.now h work.new }
     ensures kept { length work.new ≡ length work.old }
 {
@@ -63,7 +63,7 @@ pub fn begin(
 pub fn all_rounds(file: &[u8], h: Header, work: &mut [u16]) -> AllRounds
     requires valid { Valid file.now h }
     requires states_in_bounds { 6 * h.states ≤ length work.old }
-    ensures says { AllRoundsSay (graphIn file.now h) result }
+    ensures says { AllRoundsSay (graph_in file.now h) result }
     ensures ready { RoundsReady file.now h work.new }
     ensures kept { length work.new ≡ length work.old }
 {

@@ -6,62 +6,62 @@ use mathlib.Core.Bool.{Bool, true, false}
 use mathlib.Core.List.{List, [], ◌∷◌}
 use native.Mathlib.Omega.{arith}
 use lib.ListN.{length, get_or}
-use Rattle.lists.specs.Lists.{keep, consIf, up_from}
+use Rattle.lists.specs.Lists.{keep, cons_if, up_from}
 use Rattle.lasso.specs.Graph.{Graph}
 use Rattle.lasso.specs.Rounds.{candidateb, candidates}
-use Rattle.lists.proofs.Tests.{lt-or-ge}
+use Rattle.lists.proofs.Tests.{lt_or_ge}
 
 -- the candidates from s on
-abbrev pub candidatesFrom : Graph → ℕ → List ℕ
-candidatesFrom g s = keep (candidateb g) (up_from s (g.size - s))
+abbrev pub candidates_from : Graph → ℕ → List ℕ
+candidates_from g s = keep (candidateb g) (up_from s (g.size - s))
 
 -- the candidates from 0 on are all candidates
-candidatesFrom-zero : (g : Graph) → candidatesFrom g 0 ≡ candidates g
-candidatesFrom-zero g = let e : g.size - 0 ≡ g.size = omega arith in ap (λ (n : ℕ). keep (candidateb g) (up_from 0 n)) e
+candidates_from_zero : (g : Graph) → candidates_from g 0 ≡ candidates g
+candidates_from_zero g = let e : g.size - 0 ≡ g.size = omega arith in ap (λ (n : ℕ). keep (candidateb g) (up_from 0 n)) e
 
 -- from the number of states on there is none
-candidatesFrom-size : (g : Graph) (s : ℕ) → g.size ≤ s → candidatesFrom g s ≡ []
-candidatesFrom-size g s l = let e : g.size - s ≡ 0 = omega arith in ap (λ (n : ℕ). keep (candidateb g) (up_from s n)) e
+candidates_from_size : (g : Graph) (s : ℕ) → g.size ≤ s → candidates_from g s ≡ []
+candidates_from_size g s l = let e : g.size - s ≡ 0 = omega arith in ap (λ (n : ℕ). keep (candidateb g) (up_from s n)) e
 
 -- the candidates from s on are s, if it is one, and those from s + 1 on
-candidatesFrom-next : (g : Graph) (s : ℕ) → s < g.size
-    → candidatesFrom g s ≡ consIf (candidateb g s) s (candidatesFrom g (s + 1))
-candidatesFrom-next g s l =
+candidates_from_next : (g : Graph) (s : ℕ) → s < g.size
+    → candidates_from g s ≡ cons_if (candidateb g s) s (candidates_from g (s + 1))
+candidates_from_next g s l =
     let e : g.size - s ≡ suc (g.size - (s + 1)) = omega arith in
     let q : suc s ≡ s + 1 = omega arith in
     ap (λ (n : ℕ). keep (candidateb g) (up_from s n)) e
-    ∙ ap (λ (t : ℕ). consIf (candidateb g s) s (keep (candidateb g) (up_from t (g.size - (s + 1))))) q
+    ∙ ap (λ (t : ℕ). cons_if (candidateb g s) s (keep (candidateb g) (up_from t (g.size - (s + 1))))) q
 
 -- a candidate is the first of the candidates from itself on
-candidatesFrom-yes : (g : Graph) (s : ℕ) → s < g.size → candidateb g s ≡ true
-    → candidatesFrom g s ≡ s ∷ candidatesFrom g (s + 1)
-candidatesFrom-yes g s l e =
-    candidatesFrom-next g s l ∙ ap (λ (b : Bool). consIf b s (candidatesFrom g (s + 1))) e
+candidates_from_yes : (g : Graph) (s : ℕ) → s < g.size → candidateb g s ≡ true
+    → candidates_from g s ≡ s ∷ candidates_from g (s + 1)
+candidates_from_yes g s l e =
+    candidates_from_next g s l ∙ ap (λ (b : Bool). cons_if b s (candidates_from g (s + 1))) e
 
 -- a state that is no candidate does not count
-candidatesFrom-no : (g : Graph) (s : ℕ) → s < g.size → candidateb g s ≡ false
-    → candidatesFrom g s ≡ candidatesFrom g (s + 1)
-candidatesFrom-no g s l e =
-    candidatesFrom-next g s l ∙ ap (λ (b : Bool). consIf b s (candidatesFrom g (s + 1))) e
+candidates_from_no : (g : Graph) (s : ℕ) → s < g.size → candidateb g s ≡ false
+    → candidates_from g s ≡ candidates_from g (s + 1)
+candidates_from_no g s l e =
+    candidates_from_next g s l ∙ ap (λ (b : Bool). cons_if b s (candidates_from g (s + 1))) e
 
 -- d candidates are below s: what is left of the candidates when d are passed are those from s on
 pub record Counted (g : Graph) (d s : ℕ) : Type 0 where
-  pub lengths : d + length (candidatesFrom g s) ≡ length (candidates g)
-  pub entries : (k : ℕ) → get_or (candidates g) (d + k) 0 ≡ get_or (candidatesFrom g s) k 0
+  pub lengths : d + length (candidates_from g s) ≡ length (candidates g)
+  pub entries : (k : ℕ) → get_or (candidates g) (d + k) 0 ≡ get_or (candidates_from g s) k 0
 
 -- no candidate is below 0
 pub counted_none : (g : Graph) → Counted g 0 0
 counted_none g =
-    let all = candidatesFrom-zero g in
+    let all = candidates_from_zero g in
     record {
       lengths = omega (arith, ap length all);
       entries = λ k. let e : 0 + k ≡ k = omega arith in rw (e, all);
     }
 
 -- a candidate counts
-pub counted-yes : {g : Graph} {d s : ℕ} → s < g.size → candidateb g s ≡ true → Counted g d s → Counted g (d + 1) (s + 1)
-counted-yes {g} {d} {s} l e c =
-    let first = candidatesFrom-yes g s l e in
+pub counted_yes : {g : Graph} {d s : ℕ} → s < g.size → candidateb g s ≡ true → Counted g d s → Counted g (d + 1) (s + 1)
+counted_yes {g} {d} {s} l e c =
+    let first = candidates_from_yes g s l e in
     record {
       lengths = omega (arith, c.lengths, ap length first);
       entries = λ k.
@@ -70,36 +70,36 @@ counted-yes {g} {d} {s} l e c =
     }
 
 -- a state that is no candidate does not count
-pub counted-no : {g : Graph} {d s : ℕ} → s < g.size → candidateb g s ≡ false → Counted g d s → Counted g d (s + 1)
-counted-no {g} {d} {s} l e c =
-    let same = candidatesFrom-no g s l e in
+pub counted_no : {g : Graph} {d s : ℕ} → s < g.size → candidateb g s ≡ false → Counted g d s → Counted g d (s + 1)
+counted_no {g} {d} {s} l e c =
+    let same = candidates_from_no g s l e in
     record {
       lengths = omega (arith, c.lengths, ap length same);
       entries = λ k. c.entries k ∙ ap (λ (xs : List ℕ). get_or xs k 0) same;
     }
 
 -- the place of a candidate is the number of candidates below it
-pub counted-at : {g : Graph} {d s : ℕ} → s < g.size → candidateb g s ≡ true → Counted g d s → get_or (candidates g) d 0 ≡ s
-counted-at {g} {d} {s} l e c =
+pub counted_at : {g : Graph} {d s : ℕ} → s < g.size → candidateb g s ≡ true → Counted g d s → get_or (candidates g) d 0 ≡ s
+counted_at {g} {d} {s} l e c =
     let q : d ≡ d + 0 = omega arith in
     ap (λ (i : ℕ). get_or (candidates g) i 0) q ∙ c.entries 0
-    ∙ ap (λ (xs : List ℕ). get_or xs 0 0) (candidatesFrom-yes g s l e)
+    ∙ ap (λ (xs : List ℕ). get_or xs 0 0) (candidates_from_yes g s l e)
 
 -- a candidate's place is below the number of candidates
-pub counted-left : {g : Graph} {d s : ℕ} → s < g.size → candidateb g s ≡ true → Counted g d s → d < length (candidates g)
-counted-left {g} {d} {s} l e c = omega (arith, c.lengths, ap length (candidatesFrom-yes g s l e))
+pub counted_left : {g : Graph} {d s : ℕ} → s < g.size → candidateb g s ≡ true → Counted g d s → d < length (candidates g)
+counted_left {g} {d} {s} l e c = omega (arith, c.lengths, ap length (candidates_from_yes g s l e))
 
 -- all candidates are below the number of states
-pub counted-all : {g : Graph} {d s : ℕ} → g.size ≤ s → Counted g d s → d ≡ length (candidates g)
-counted-all {g} {d} {s} l c = omega (arith, c.lengths, ap length (candidatesFrom-size g s l))
+pub counted_all : {g : Graph} {d s : ℕ} → g.size ≤ s → Counted g d s → d ≡ length (candidates g)
+counted_all {g} {d} {s} l c = omega (arith, c.lengths, ap length (candidates_from_size g s l))
 
 -- while a candidate is to come, the states are not passed
-pub counted-inside : {g : Graph} {d s : ℕ} → d < length (candidates g) → Counted g d s → s < g.size
-counted-inside {g} {d} {s} l c = elim (lt-or-ge s g.size) [
+pub counted_inside : {g : Graph} {d s : ℕ} → d < length (candidates g) → Counted g d s → s < g.size
+counted_inside {g} {d} {s} l c = elim (lt_or_ge s g.size) [
   | inl less ↦ less
-  | inr past ↦ absurd (omega (arith, counted-all past c))
+  | inr past ↦ absurd (omega (arith, counted_all past c))
 ]
 
 -- no more candidates are below a state than there are
-pub counted-le : {g : Graph} {d s : ℕ} → Counted g d s → d ≤ length (candidates g)
-counted-le c = omega (arith, c.lengths)
+pub counted_le : {g : Graph} {d s : ℕ} → Counted g d s → d ≤ length (candidates g)
+counted_le c = omega (arith, c.lengths)

@@ -11,12 +11,12 @@ use Rattle.lists.specs.Lists.{is_some}
 use Rattle.lasso.specs.Graph.{Graph}
 use Rattle.lasso.specs.Distance.{dist}
 use Rattle.lasso.specs.Rounds.{candidateb}
-use Rattle.lists.proofs.Tests.{and-true, and-false}
+use Rattle.lists.proofs.Tests.{and_true, and_false}
 use Rattle.lasso.proofs.Distance.{dist-below}
 use Rattle.model.specs.declared.Header.{Header}
 use Rattle.model.specs.Values.{Valid}
-use Rattle.model.specs.Model.{graphIn}
-use Rattle.model.proofs.Laws.{valid-sizes}
+use Rattle.model.specs.Model.{graph_in}
+use Rattle.model.proofs.Laws.{valid_sizes}
 use Rattle.table.specs.Changes.{SameOutside, Copied}
 use Rattle.frontier.specs.Regions.{entry, entry_of}
 use Rattle.lists.specs.Limit.{under}
@@ -29,13 +29,13 @@ pub entry_zero : (n : ℕ) (w : List ℕ) (s : ℕ) → entry 0 n w s ≡ get_or
 entry_zero n w s = let e : 0 * n + s ≡ s = omega arith in ap (λ (i : ℕ). get_or w i 0) e
 
 -- the distances from the start, found in region 2 and copied to region 0
-pub start-distances-put : {g : Graph} {n x count : ℕ} {w w₁ w' : List ℕ} → n ≡ g.size → x ≡ g.start
+pub start_distances_put : {g : Graph} {n x count : ℕ} {w w₁ w' : List ℕ} → n ≡ g.size → x ≡ g.start
     → DistancesWithin g x n w w₁ count → Copied (2 * n) 0 n w₁ w' → StartDistancesPut g w w'
-start-distances-put {g} {n} {x} {count} {w} {w₁} {w'} en ex found copied =
+start_distances_put {g} {n} {x} {count} {w} {w₁} {w'} en ex found copied =
     record {
       same_length = copied.others.same_length ∙ found.outside.same_length;
-      start-distances = record { distances = at };
-      same-loops = λ i p q. copied.others.same_after i (omega arith) ∙ found.outside.same-before i (omega arith);
+      start_distances = record { distances = at };
+      same_loops = λ i p q. copied.others.same_after i (omega arith) ∙ found.outside.same_before i (omega arith);
       same_after = λ i p. copied.others.same_after i (omega arith) ∙ found.outside.same_after i (omega arith);
     }
   where
@@ -49,50 +49,50 @@ start-distances-put {g} {n} {x} {count} {w} {w₁} {w'} en ex found copied =
         ap (λ (i : ℕ). get_or w' i 0) q ∙ c.copies t l ∙ d.distances t l ∙ ap entry_of all
 
 -- the entry of region 0 for a state is that of its distance from the start
-pub start-entry : {g : Graph} {w : List ℕ} → StartDistances g w → (s : ℕ) → s < g.size
+pub start_entry : {g : Graph} {w : List ℕ} → StartDistances g w → (s : ℕ) → s < g.size
     → get_or w s 0 ≡ entry_of (dist g g.start s)
-start-entry {g} {w} d s l = sym (entry_zero g.size w s) ∙ d.distances s l
+start_entry {g} {w} d s l = sym (entry_zero g.size w s) ∙ d.distances s l
 
 -- there is a value if its entry is not zero
-isSome-entry : (a : Option ℕ) → 0 < entry_of a → is_some a ≡ true
-isSome-entry none h = absurd (omega arith)
-isSome-entry (some v) h = refl
+is_some-entry : (a : Option ℕ) → 0 < entry_of a → is_some a ≡ true
+is_some-entry none h = absurd (omega arith)
+is_some-entry (some v) h = refl
 
 -- there is no value if its entry is zero
-none-entry : (a : Option ℕ) → entry_of a ≡ 0 → is_some a ≡ false
-none-entry none e = refl
-none-entry (some v) e = absurd (omega arith)
+none_entry : (a : Option ℕ) → entry_of a ≡ 0 → is_some a ≡ false
+none_entry none e = refl
+none_entry (some v) e = absurd (omega arith)
 
 -- a state that is not reached from the start is no candidate
-pub candidate-unreached : {g : Graph} {w : List ℕ} → StartDistances g w → (s : ℕ) → s < g.size
+pub candidate_unreached : {g : Graph} {w : List ℕ} → StartDistances g w → (s : ℕ) → s < g.size
     → get_or w s 0 ≡ 0 → candidateb g s ≡ false
-candidate-unreached {g} d s l e =
-    ap (λ (b : Bool). g.marked s && b) (none-entry (dist g g.start s) (sym (start-entry d s l) ∙ e))
-    ∙ and-false (g.marked s)
+candidate_unreached {g} d s l e =
+    ap (λ (b : Bool). g.marked s && b) (none_entry (dist g g.start s) (sym (start_entry d s l) ∙ e))
+    ∙ and_false (g.marked s)
 
 -- a state that is reached from the start is a candidate if it is marked
-pub candidate-reached : {g : Graph} {w : List ℕ} → StartDistances g w → (s : ℕ) → s < g.size
+pub candidate_reached : {g : Graph} {w : List ℕ} → StartDistances g w → (s : ℕ) → s < g.size
     → 0 < get_or w s 0 → candidateb g s ≡ g.marked s
-candidate-reached {g} d s l p =
-    ap (λ (b : Bool). g.marked s && b) (isSome-entry (dist g g.start s) (omega (arith, start-entry d s l)))
-    ∙ and-true (g.marked s)
+candidate_reached {g} d s l p =
+    ap (λ (b : Bool). g.marked s && b) (is_some-entry (dist g g.start s) (omega (arith, start_entry d s l)))
+    ∙ and_true (g.marked s)
 
 -- with the distances from the start the table is ready
-pub ready-started : {f : List ℕ} {h : Header} {w w' : List ℕ} → Valid f h → 6 * h.states ≤ length w
-    → StartDistancesPut (graphIn f h) w w' → RoundsReady f h w'
-ready-started v room s =
-    record { valid = v; room = omega (arith, s.same_length); start-distances = s.start-distances }
+pub ready_started : {f : List ℕ} {h : Header} {w w' : List ℕ} → Valid f h → 6 * h.states ≤ length w
+    → StartDistancesPut (graph_in f h) w w' → RoundsReady f h w'
+ready_started v room s =
+    record { valid = v; room = omega (arith, s.same_length); start_distances = s.start_distances }
 
 -- a change inside regions 2 to 5 leaves the table ready
-pub ready-kept : {f : List ℕ} {h : Header} {w w' : List ℕ} → RoundsReady f h w
+pub ready_kept : {f : List ℕ} {h : Header} {w w' : List ℕ} → RoundsReady f h w
     → SameOutside (2 * h.states) (6 * h.states) w w' → RoundsReady f h w'
-ready-kept {f} {h} {w} {w'} ready same =
-    let sizes = valid-sizes ready.valid in
+ready_kept {f} {h} {w} {w'} ready same =
+    let sizes = valid_sizes ready.valid in
     record {
       valid = ready.valid;
       room = omega (arith, ready.room, same.same_length);
-      start-distances = record {
+      start_distances = record {
         distances = λ t l.
-            same.same-before (0 * (graphIn f h).size + t) (omega arith) ∙ ready.start-distances.distances t l;
+            same.same_before (0 * (graph_in f h).size + t) (omega arith) ∙ ready.start_distances.distances t l;
       };
     }

@@ -1,8 +1,10 @@
 // The distances from the start, in region 0 of the working table, and the candidates.
+#![tactic(auto)]
+
 ghost use Rattle.std.specs.Prelude.{◌≡◌, ◌*◌, ◌≤◌, ◌<◌, length, get_or};
 ghost use Rattle.lasso.specs.Rounds.{candidateb, candidates};
 ghost use Rattle.model.specs.Values.{Valid};
-ghost use Rattle.model.specs.Model.{graphIn};
+ghost use Rattle.model.specs.Model.{graph_in};
 ghost use Rattle.candidates.specs.Promises.{StartDistancesPut, RoundsReady};
 
 use model::{Header, is_marked};
@@ -13,7 +15,7 @@ use walks::distances_from;
 pub fn start_distances(file: &[u8], h: Header, work: &mut [u16])
     requires valid { Valid file.now h }
     requires states_in_bounds { 6 * h.states ≤ length work.old }
-    ensures { StartDistancesPut (graphIn file.now h) work.old work.new }
+    ensures { StartDistancesPut (graph_in file.now h) work.old work.new }
 {
     let n = h.states;
     let start = h.start;
@@ -25,7 +27,7 @@ pub fn start_distances(file: &[u8], h: Header, work: &mut [u16])
 pub fn is_candidate(file: &[u8], h: Header, work: &[u16], s: usize) -> bool
     requires rounds_ready { RoundsReady file.now h work.now }
     requires s_lt_states { s < h.states }
-    ensures { result ≡ candidateb (graphIn file.now h) s }
+    ensures { result ≡ candidateb (graph_in file.now h) s }
 {
     if get(work, s) == 0 {
         return false;
@@ -36,7 +38,7 @@ pub fn is_candidate(file: &[u8], h: Header, work: &[u16], s: usize) -> bool
 // The number of candidates.
 pub fn count_candidates(file: &[u8], h: Header, work: &[u16]) -> usize
     requires { RoundsReady file.now h work.now }
-    ensures { result ≡ length (candidates (graphIn file.now h)) }
+    ensures { result ≡ length (candidates (graph_in file.now h)) }
 {
     let states = h.states;
     let mut count = 0;
@@ -53,8 +55,8 @@ pub fn count_candidates(file: &[u8], h: Header, work: &[u16]) -> usize
 // The candidate at a place, the first having place 0.
 pub fn candidate_at(file: &[u8], h: Header, work: &[u16], place: usize) -> usize
     requires rounds_ready { RoundsReady file.now h work.now }
-    requires place_in_bounds { place < length (candidates (graphIn file.now h)) }
-    ensures { result ≡ get_or (candidates (graphIn file.now h)) place 0 }
+    requires place_in_bounds { place < length (candidates (graph_in file.now h)) }
+    ensures { result ≡ get_or (candidates (graph_in file.now h)) place 0 }
 {
     let mut before: usize = 0;
     let mut s = 0;

@@ -4,14 +4,14 @@
 // a grade whose table for the place has no entry.
 ghost use Rattle.std.specs.Prelude.{◌≡◌};
 ghost use Rattle.gate.specs.Gate.{asking};
-ghost use Rattle.figures.specs.Kinds.{recordGiven, figuresIn};
-ghost use Rattle.figures.specs.Short.{workAfterCall};
-ghost use Rattle.capi_step.specs.Call.{stepCall};
-ghost use Rattle.capi_search.specs.Call.{searchCall, answerAfterSearch};
-ghost use Rattle.capi_next.specs.Call.{nextCall, answerAfterNext};
-ghost use Rattle.capi_grade.specs.Call.{gradeCall, placeAfterGrade, workAfterGrade};
-ghost use Rattle.capi_distances.specs.Call.{distancesCall, outputAfterDistances};
-ghost use Rattle.capi_combine.specs.Call.{combineCall, outputAfterCombine};
+ghost use Rattle.figures.specs.Kinds.{record_given, figures_in};
+ghost use Rattle.figures.specs.Short.{work_after_call};
+ghost use Rattle.capi_step.specs.Call.{step_call};
+ghost use Rattle.capi_search.specs.Call.{search_call, answer_after_search};
+ghost use Rattle.capi_next.specs.Call.{next_call, answer_after_next};
+ghost use Rattle.capi_grade.specs.Call.{grade_call, place_after_grade, work_after_grade};
+ghost use Rattle.capi_distances.specs.Call.{distances_call, output_after_distances};
+ghost use Rattle.capi_combine.specs.Call.{combine_call, output_after_combine};
 
 use capi_combine::combine_call;
 use capi_distances::distances_call;
@@ -32,11 +32,11 @@ pub extern "C" fn fahkelo_step(
     work: &mut [u16],
     out: &mut [u16],
 ) -> u16
-    ensures value { result ≡ (stepCall file.now mark_table ceiling (recordGiven done has_best best)
+    ensures value { result ≡ (step_call file.now mark_table ceiling (record_given done has_best best)
         work.old out.old).kind }
-    ensures out { out.new ≡ figuresIn out.old (stepCall file.now mark_table ceiling
-        (recordGiven done has_best best) work.old out.old) }
-    ensures work { work.new ≡ workAfterCall file.now mark_table work.old
+    ensures out { out.new ≡ figures_in out.old (step_call file.now mark_table ceiling
+        (record_given done has_best best) work.old out.old) }
+    ensures work { work.new ≡ work_after_call file.now mark_table work.old
         out.old }
 {
     step_call(file, mark_table, ceiling, done, has_best, best, work, out)
@@ -53,14 +53,14 @@ pub extern "C" fn fahkelo_search(
     work: &mut [u16],
     out: &mut [u16],
 ) -> u16
-    ensures value { result ≡ (searchCall file.now (asking mark_table ceiling allowance)
+    ensures value { result ≡ (search_call file.now (asking mark_table ceiling allowance)
         answer.old work.old out.old).kind }
-    ensures out { out.new ≡ figuresIn out.old
-        (searchCall file.now (asking mark_table ceiling allowance)
+    ensures out { out.new ≡ figures_in out.old
+        (search_call file.now (asking mark_table ceiling allowance)
         answer.old work.old out.old) }
-    ensures answer { answer.new ≡ answerAfterSearch file.now (asking mark_table ceiling allowance)
+    ensures answer { answer.new ≡ answer_after_search file.now (asking mark_table ceiling allowance)
         answer.old work.old out.old }
-    ensures work { work.new ≡ workAfterCall file.now mark_table work.old
+    ensures work { work.new ≡ work_after_call file.now mark_table work.old
         out.old }
 {
     search_call(file, mark_table, ceiling, allowance, answer, work, out)
@@ -76,13 +76,13 @@ pub extern "C" fn fahkelo_next(
     work: &mut [u16],
     out: &mut [u16],
 ) -> u16
-    ensures value { result ≡ (nextCall file.now mark_table earlier.now
+    ensures value { result ≡ (next_call file.now mark_table earlier.now
         answer.old work.old out.old).kind }
-    ensures out { out.new ≡ figuresIn out.old (nextCall file.now mark_table
+    ensures out { out.new ≡ figures_in out.old (next_call file.now mark_table
         earlier.now answer.old work.old out.old) }
-    ensures answer { answer.new ≡ answerAfterNext file.now mark_table earlier.now
+    ensures answer { answer.new ≡ answer_after_next file.now mark_table earlier.now
         answer.old work.old out.old }
-    ensures work { work.new ≡ workAfterCall file.now mark_table work.old
+    ensures work { work.new ≡ work_after_call file.now mark_table work.old
         out.old }
 {
     next_call(file, mark_table, earlier, answer, work, out)
@@ -99,13 +99,13 @@ pub extern "C" fn fahkelo_grade(
     work: &mut [u16],
     out: &mut [u16],
 ) -> u16
-    ensures value { result ≡ (gradeCall file.now mark_table list.now k
+    ensures value { result ≡ (grade_call file.now mark_table list.now k
         place.old work.old out.old).kind }
-    ensures out { out.new ≡ figuresIn out.old (gradeCall file.now mark_table
+    ensures out { out.new ≡ figures_in out.old (grade_call file.now mark_table
         list.now k place.old work.old out.old) }
-    ensures place { place.new ≡ placeAfterGrade file.now mark_table list.now k
+    ensures place { place.new ≡ place_after_grade file.now mark_table list.now k
         place.old work.old out.old }
-    ensures work { work.new ≡ workAfterGrade file.now mark_table place.old
+    ensures work { work.new ≡ work_after_grade file.now mark_table place.old
         work.old out.old }
 {
     grade_call(file, mark_table, list, k, place, work, out)
@@ -120,13 +120,13 @@ pub extern "C" fn fahkelo_distances(
     work: &mut [u16],
     out: &mut [u16],
 ) -> u16
-    ensures value { result ≡ (distancesCall file.now ceiling
+    ensures value { result ≡ (distances_call file.now ceiling
         output.old work.old out.old).kind }
-    ensures out { out.new ≡ figuresIn out.old (distancesCall file.now ceiling
+    ensures out { out.new ≡ figures_in out.old (distances_call file.now ceiling
         output.old work.old out.old) }
-    ensures output { output.new ≡ outputAfterDistances file.now ceiling
+    ensures output { output.new ≡ output_after_distances file.now ceiling
         output.old work.old out.old }
-    ensures work { work.new ≡ workAfterCall file.now 0 work.old
+    ensures work { work.new ≡ work_after_call file.now 0 work.old
         out.old }
 {
     distances_call(file, ceiling, output, work, out)
@@ -141,11 +141,11 @@ pub extern "C" fn fahkelo_combine(
     output: &mut [u8],
     out: &mut [u16],
 ) -> u16
-    ensures value { result ≡ (combineCall rule.now letters.now property.now
+    ensures value { result ≡ (combine_call rule.now letters.now property.now
         output.old out.old).kind }
-    ensures out { out.new ≡ figuresIn out.old (combineCall rule.now
+    ensures out { out.new ≡ figures_in out.old (combine_call rule.now
         letters.now property.now output.old out.old) }
-    ensures output { output.new ≡ outputAfterCombine rule.now letters.now
+    ensures output { output.new ≡ output_after_combine rule.now letters.now
         property.now output.old out.old }
 {
     combine_call(rule, letters, property, output, out)

@@ -4,21 +4,21 @@ use Rattle.std.specs.Prelude.{ℕ, ◌≤◌, ◌<◌, ◌≡◌, ◌⊎◌, Lis
 use Rattle.lists.specs.Lists.{memb}
 use Rattle.gate.specs.declared.Ask.{Ask}
 use Rattle.lasso.specs.Rounds.{Record}
-use Rattle.outcomes.specs.Numbers.{stepNumbers, searchNumbers, nextNumbers, gradeNumbers, distanceNumbers, combineNumbers}
+use Rattle.outcomes.specs.Numbers.{step_numbers, search_numbers, next_numbers, grade_numbers, distance_numbers, combine_numbers}
 use Rattle.outcomes.specs.Outcome.{Outcome, refused, answered}
-use Rattle.step.specs.Step.{stepOutcome}
-use Rattle.search.specs.Search.{searchOutcome}
-use Rattle.next.specs.Next.{nextOutcome}
-use Rattle.grade.specs.Grade.{gradeOutcome}
-use Rattle.distances.specs.Distances.{distancesOutcome}
-use Rattle.combine_outcome.specs.Combination.{combineOutcome}
-use Rattle.figures.specs.Kinds.{Report, figuresIn}
-use Rattle.capi_step.specs.Call.{stepCall}
-use Rattle.capi_search.specs.Call.{searchCall, answerAfterSearch}
-use Rattle.capi_next.specs.Call.{nextCall, answerAfterNext}
-use Rattle.capi_grade.specs.Call.{gradeCall, placeAfterGrade}
-use Rattle.capi_distances.specs.Call.{distancesCall, outputAfterDistances}
-use Rattle.capi_combine.specs.Call.{combineCall, outputAfterCombine}
+use Rattle.step.specs.Step.{step_outcome}
+use Rattle.search.specs.Search.{search_outcome}
+use Rattle.next.specs.Next.{next_outcome}
+use Rattle.grade.specs.Grade.{grade_outcome}
+use Rattle.distances.specs.Distances.{distances_outcome}
+use Rattle.combine_outcome.specs.Combination.{combine_outcome}
+use Rattle.figures.specs.Kinds.{Report, figures_in}
+use Rattle.capi_step.specs.Call.{step_call}
+use Rattle.capi_search.specs.Call.{search_call, answer_after_search}
+use Rattle.capi_next.specs.Call.{next_call, answer_after_next}
+use Rattle.capi_grade.specs.Call.{grade_call, place_after_grade}
+use Rattle.capi_distances.specs.Call.{distances_call, output_after_distances}
+use Rattle.capi_combine.specs.Call.{combine_call, output_after_combine}
 
 -- What a report tells, where the finder answers o, refusals having one of these numbers, and `out` was lent. A table
 -- that every answer needs is too short if `Short` holds.
@@ -31,7 +31,7 @@ pub record Value {A : Type 0} (numbers : List ℕ) (o : Outcome A) (Short : Type
   -- 100 is for a table that is, and for nothing else
   pub short : (r.kind ≡ 100 → Short) × (Short → r.kind ≡ 100)
   -- up to 100 no entry of `out` changes
-  pub unchanged : r.kind ≤ 100 → figuresIn out r ≡ out
+  pub unchanged : r.kind ≤ 100 → figures_in out r ≡ out
   -- above 100 the call is not refused
   pub kinds : 100 < r.kind → (a : A) × (o ≡ answered a)
 
@@ -43,26 +43,26 @@ ShortOut out = length out < 4
 -- no entry of the answer table, of that for the place and of the output changes.
 pub record RefusalsChangeNothing : Type 0 where
   pub step : (f : List ℕ) (t ceiling : ℕ) (rec : Record) (w out : List ℕ)
-      → Value stepNumbers (stepOutcome f t ceiling rec (length w)) (ShortOut out) out (stepCall f t ceiling rec w out)
+      → Value step_numbers (step_outcome f t ceiling rec (length w)) (ShortOut out) out (step_call f t ceiling rec w out)
   pub search : (f : List ℕ) (ask : Ask) (a w out : List ℕ)
-      → Value searchNumbers (searchOutcome f ask (length a) (length w)) (ShortOut out) out (searchCall f ask a w out)
+      → Value search_numbers (search_outcome f ask (length a) (length w)) (ShortOut out) out (search_call f ask a w out)
   pub next : (f : List ℕ) (t : ℕ) (earlier a w out : List ℕ)
-      → Value nextNumbers (nextOutcome f t earlier (length a) (length w)) (ShortOut out) out (nextCall f t earlier a w out)
+      → Value next_numbers (next_outcome f t earlier (length a) (length w)) (ShortOut out) out (next_call f t earlier a w out)
   pub grade : (f : List ℕ) (t : ℕ) (xs : List ℕ) (k : ℕ) (place w out : List ℕ)
-      → Value gradeNumbers (gradeOutcome f t xs k (length w)) (ShortOut out ⊎ (length place < 1)) out
-      (gradeCall f t xs k place w out)
+      → Value grade_numbers (grade_outcome f t xs k (length w)) (ShortOut out ⊎ (length place < 1)) out
+      (grade_call f t xs k place w out)
   pub distances : (f : List ℕ) (ceiling : ℕ) (output w out : List ℕ)
-      → Value distanceNumbers (distancesOutcome f ceiling (length output) (length w)) (ShortOut out) out
-      (distancesCall f ceiling output w out)
+      → Value distance_numbers (distances_outcome f ceiling (length output) (length w)) (ShortOut out) out
+      (distances_call f ceiling output w out)
   pub combine : (f letters p output out : List ℕ)
-      → Value combineNumbers (combineOutcome f letters p (length output)) (ShortOut out) out (combineCall f letters p output out)
-  pub search-answer : (f : List ℕ) (ask : Ask) (a w out : List ℕ) → (searchCall f ask a w out).kind ≤ 100
-      → answerAfterSearch f ask a w out ≡ a
-  pub next-answer : (f : List ℕ) (t : ℕ) (earlier a w out : List ℕ) → (nextCall f t earlier a w out).kind ≤ 100
-      → answerAfterNext f t earlier a w out ≡ a
-  pub grade-place : (f : List ℕ) (t : ℕ) (xs : List ℕ) (k : ℕ) (place w out : List ℕ) → (gradeCall f t xs k place w out).kind ≤ 100
-      → placeAfterGrade f t xs k place w out ≡ place
-  pub distances-output : (f : List ℕ) (ceiling : ℕ) (output w out : List ℕ)
-      → (distancesCall f ceiling output w out).kind ≤ 100 → outputAfterDistances f ceiling output w out ≡ output
-  pub combine-output : (f letters p output out : List ℕ) → (combineCall f letters p output out).kind ≤ 100
-      → outputAfterCombine f letters p output out ≡ output
+      → Value combine_numbers (combine_outcome f letters p (length output)) (ShortOut out) out (combine_call f letters p output out)
+  pub search_answer : (f : List ℕ) (ask : Ask) (a w out : List ℕ) → (search_call f ask a w out).kind ≤ 100
+      → answer_after_search f ask a w out ≡ a
+  pub next_answer : (f : List ℕ) (t : ℕ) (earlier a w out : List ℕ) → (next_call f t earlier a w out).kind ≤ 100
+      → answer_after_next f t earlier a w out ≡ a
+  pub grade_place : (f : List ℕ) (t : ℕ) (xs : List ℕ) (k : ℕ) (place w out : List ℕ) → (grade_call f t xs k place w out).kind ≤ 100
+      → place_after_grade f t xs k place w out ≡ place
+  pub distances_output : (f : List ℕ) (ceiling : ℕ) (output w out : List ℕ)
+      → (distances_call f ceiling output w out).kind ≤ 100 → output_after_distances f ceiling output w out ≡ output
+  pub combine_output : (f letters p output out : List ℕ) → (combine_call f letters p output out).kind ≤ 100
+      → output_after_combine f letters p output out ≡ output

@@ -1,14 +1,14 @@
 -- What a combination in C does: its report, and the output afterwards.
 use Rattle.std.specs.Prelude.{ℕ, List, length}
-use Rattle.combine_outcome.specs.Combination.{combineOutcome, combineOutput}
-use Rattle.figures.specs.Kinds.{Report, writtenReport}
-use Rattle.figures.specs.Short.{outTooShort, ifShort}
+use Rattle.combine_outcome.specs.Combination.{combine_outcome, combine_output}
+use Rattle.figures.specs.Kinds.{Report, written_report}
+use Rattle.figures.specs.Short.{out_too_short, if_short}
 
 -- the report of a combination, lent the output
-abbrev pub combineCall : (f letters p output out : List ℕ) → Report
-combineCall f letters p output out =
-    ifShort out outTooShort (writtenReport (combineOutcome f letters p (length output)))
+abbrev pub combine_call : (f letters p output out : List ℕ) → Report
+combine_call f letters p output out =
+    if_short out out_too_short (written_report (combine_outcome f letters p (length output)))
 
 -- the output after a combination: untouched if `out` is too short
-abbrev pub outputAfterCombine : (f letters p output out : List ℕ) → List ℕ
-outputAfterCombine f letters p output out = ifShort out output (combineOutput f letters p output)
+abbrev pub output_after_combine : (f letters p output out : List ℕ) → List ℕ
+output_after_combine f letters p output out = if_short out output (combine_output f letters p output)

@@ -1,9 +1,9 @@
 // A combination in C, but for its name there: the answer goes as numbers.
 ghost use Rattle.std.specs.Prelude.{◌≡◌, ◌≤◌, length};
-ghost use Rattle.combine.specs.Combine.{combineOutcomeOf};
-ghost use Rattle.figures.specs.Kinds.{writtenReport, figuresIn};
+ghost use Rattle.combine.specs.Combine.{combine_outcome_of};
+ghost use Rattle.figures.specs.Kinds.{written_report, figures_in};
 ghost use Rattle.capi_combine.specs.Figures.{FigureFits};
-ghost use Rattle.capi_combine.specs.Call.{combineCall, outputAfterCombine};
+ghost use Rattle.capi_combine.specs.Call.{combine_call, output_after_combine};
 
 use combine::{CombineAnswer, combine};
 use figures::{OUT_TOO_SHORT, WRITTEN, too_few};
@@ -12,8 +12,8 @@ use figures::{OUT_TOO_SHORT, WRITTEN, too_few};
 fn report_combine(answer: CombineAnswer, out: &mut [u16]) -> u16
     requires in_bounds { 4 ≤ length out.old }
     requires figure_fits { FigureFits answer }
-    ensures kind { result ≡ (writtenReport (combineOutcomeOf answer)).kind }
-    ensures out { out.new ≡ figuresIn out.old (writtenReport (combineOutcomeOf answer)) }
+    ensures kind { result ≡ (written_report (combine_outcome_of answer)).kind }
+    ensures out { out.new ≡ figures_in out.old (written_report (combine_outcome_of answer)) }
 {
     match answer {
         CombineAnswer::Refused(number) => number,
@@ -32,11 +32,11 @@ pub fn combine_call(
     output: &mut [u8],
     out: &mut [u16],
 ) -> u16
-    ensures value { result ≡ (combineCall rule.now letters.now property.now
+    ensures value { result ≡ (combine_call rule.now letters.now property.now
         output.old out.old).kind }
-    ensures out { out.new ≡ figuresIn out.old (combineCall rule.now
+    ensures out { out.new ≡ figures_in out.old (combine_call rule.now
         letters.now property.now output.old out.old) }
-    ensures output { output.new ≡ outputAfterCombine rule.now letters.now
+    ensures output { output.new ≡ output_after_combine rule.now letters.now
         property.now output.old out.old }
 {
     if too_few(out.len()) {

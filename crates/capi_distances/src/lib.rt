@@ -1,9 +1,9 @@
 // A distance call in C, but for its name there: the answer goes as numbers.
 ghost use Rattle.std.specs.Prelude.{◌≡◌, ◌≤◌, length};
-ghost use Rattle.distances.specs.Distances.{distancesOutcomeOf};
-ghost use Rattle.figures.specs.Kinds.{writtenReport, figuresIn};
-ghost use Rattle.figures.specs.Short.{workAfterCall};
-ghost use Rattle.capi_distances.specs.Call.{distancesCall, outputAfterDistances};
+ghost use Rattle.distances.specs.Distances.{distances_outcome_of};
+ghost use Rattle.figures.specs.Kinds.{written_report, figures_in};
+ghost use Rattle.figures.specs.Short.{work_after_call};
+ghost use Rattle.capi_distances.specs.Call.{distances_call, output_after_distances};
 
 use distances::{DistancesAnswer, distances};
 use figures::{OUT_TOO_SHORT, WRITTEN, too_few};
@@ -12,8 +12,8 @@ use lasso::Transitions;
 // Reports the answer of a distance call: the number of entries written is the one figure.
 fn report_distances(answer: DistancesAnswer, out: &mut [u16]) -> u16
     requires { 1 ≤ length out.old }
-    ensures kind { result ≡ (writtenReport (distancesOutcomeOf answer)).kind }
-    ensures out { out.new ≡ figuresIn out.old (writtenReport (distancesOutcomeOf answer)) }
+    ensures kind { result ≡ (written_report (distances_outcome_of answer)).kind }
+    ensures out { out.new ≡ figures_in out.old (written_report (distances_outcome_of answer)) }
 {
     match answer {
         DistancesAnswer::Refused(number) => number,
@@ -32,13 +32,13 @@ pub fn distances_call(
     work: &mut [u16],
     out: &mut [u16],
 ) -> u16
-    ensures value { result ≡ (distancesCall file.now ceiling
+    ensures value { result ≡ (distances_call file.now ceiling
         output.old work.old out.old).kind }
-    ensures out { out.new ≡ figuresIn out.old (distancesCall file.now ceiling
+    ensures out { out.new ≡ figures_in out.old (distances_call file.now ceiling
         output.old work.old out.old) }
-    ensures output { output.new ≡ outputAfterDistances file.now ceiling
+    ensures output { output.new ≡ output_after_distances file.now ceiling
         output.old work.old out.old }
-    ensures work { work.new ≡ workAfterCall file.now 0 work.old
+    ensures work { work.new ≡ work_after_call file.now 0 work.old
         out.old }
 {
     if too_few(out.len()) {

@@ -1,8 +1,8 @@
 // A grade in C, but for its name there: the answer goes as numbers, the place where the list breaks to a table of its own.
 ghost use Rattle.std.specs.Prelude.{◌≡◌, ◌||◌};
-ghost use Rattle.figures.specs.Kinds.{figuresIn};
-ghost use Rattle.figures.specs.Short.{tooFew};
-ghost use Rattle.capi_grade.specs.Call.{noEntry, gradeCall, placeAfterGrade, workAfterGrade};
+ghost use Rattle.figures.specs.Kinds.{figures_in};
+ghost use Rattle.figures.specs.Short.{too_few};
+ghost use Rattle.capi_grade.specs.Call.{no_entry, grade_call, place_after_grade, work_after_grade};
 
 use figures::{OUT_TOO_SHORT, too_few};
 use grade::grade;
@@ -13,7 +13,7 @@ const PLACE_ENTRIES: usize = 1;
 
 // A table for the place of so many entries, or one for the figures, is too short.
 fn tables_short(place: usize, out: usize) -> bool
-    ensures { result ≡ (tooFew out || noEntry place) }
+    ensures { result ≡ (too_few out || no_entry place) }
 {
     if too_few(out) {
         return true;
@@ -31,13 +31,13 @@ pub fn grade_call(
     work: &mut [u16],
     out: &mut [u16],
 ) -> u16
-    ensures value { result ≡ (gradeCall file.now mark_table list.now k
+    ensures value { result ≡ (grade_call file.now mark_table list.now k
         place.old work.old out.old).kind }
-    ensures out { out.new ≡ figuresIn out.old (gradeCall file.now mark_table
+    ensures out { out.new ≡ figures_in out.old (grade_call file.now mark_table
         list.now k place.old work.old out.old) }
-    ensures place { place.new ≡ placeAfterGrade file.now mark_table list.now k
+    ensures place { place.new ≡ place_after_grade file.now mark_table list.now k
         place.old work.old out.old }
-    ensures work { work.new ≡ workAfterGrade file.now mark_table place.old
+    ensures work { work.new ≡ work_after_grade file.now mark_table place.old
         work.old out.old }
 {
     if tables_short(place.len(), out.len()) {

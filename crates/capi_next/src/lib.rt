@@ -1,8 +1,8 @@
 // A next in C, but for its name there: the answer goes as numbers.
 ghost use Rattle.std.specs.Prelude.{◌≡◌};
-ghost use Rattle.figures.specs.Kinds.{figuresIn};
-ghost use Rattle.figures.specs.Short.{workAfterCall};
-ghost use Rattle.capi_next.specs.Call.{nextCall, answerAfterNext};
+ghost use Rattle.figures.specs.Kinds.{figures_in};
+ghost use Rattle.figures.specs.Short.{work_after_call};
+ghost use Rattle.capi_next.specs.Call.{next_call, answer_after_next};
 
 use answers::report_next;
 use figures::{OUT_TOO_SHORT, too_few};
@@ -17,13 +17,13 @@ pub fn next_call(
     work: &mut [u16],
     out: &mut [u16],
 ) -> u16
-    ensures value { result ≡ (nextCall file.now mark_table earlier.now
+    ensures value { result ≡ (next_call file.now mark_table earlier.now
         answer.old work.old out.old).kind }
-    ensures out { out.new ≡ figuresIn out.old (nextCall file.now mark_table
+    ensures out { out.new ≡ figures_in out.old (next_call file.now mark_table
         earlier.now answer.old work.old out.old) }
-    ensures answer { answer.new ≡ answerAfterNext file.now mark_table earlier.now
+    ensures answer { answer.new ≡ answer_after_next file.now mark_table earlier.now
         answer.old work.old out.old }
-    ensures work { work.new ≡ workAfterCall file.now mark_table work.old
+    ensures work { work.new ≡ work_after_call file.now mark_table work.old
         out.old }
 {
     if too_few(out.len()) {

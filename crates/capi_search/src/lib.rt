@@ -1,9 +1,9 @@
 // A search in C, but for its name there: what is asked comes as numbers, and the answer goes as numbers.
 ghost use Rattle.std.specs.Prelude.{◌≡◌};
 ghost use Rattle.gate.specs.Gate.{asking};
-ghost use Rattle.figures.specs.Kinds.{figuresIn};
-ghost use Rattle.figures.specs.Short.{workAfterCall};
-ghost use Rattle.capi_search.specs.Call.{searchCall, answerAfterSearch};
+ghost use Rattle.figures.specs.Kinds.{figures_in};
+ghost use Rattle.figures.specs.Short.{work_after_call};
+ghost use Rattle.capi_search.specs.Call.{search_call, answer_after_search};
 
 use answers::report_search;
 use figures::{OUT_TOO_SHORT, too_few};
@@ -21,14 +21,14 @@ pub fn search_call(
     work: &mut [u16],
     out: &mut [u16],
 ) -> u16
-    ensures value { result ≡ (searchCall file.now (asking mark_table ceiling allowance)
+    ensures value { result ≡ (search_call file.now (asking mark_table ceiling allowance)
         answer.old work.old out.old).kind }
-    ensures out { out.new ≡ figuresIn out.old
-        (searchCall file.now (asking mark_table ceiling allowance)
+    ensures out { out.new ≡ figures_in out.old
+        (search_call file.now (asking mark_table ceiling allowance)
         answer.old work.old out.old) }
-    ensures answer { answer.new ≡ answerAfterSearch file.now (asking mark_table ceiling allowance)
+    ensures answer { answer.new ≡ answer_after_search file.now (asking mark_table ceiling allowance)
         answer.old work.old out.old }
-    ensures work { work.new ≡ workAfterCall file.now mark_table work.old
+    ensures work { work.new ≡ work_after_call file.now mark_table work.old
         out.old }
 {
     if too_few(out.len()) {

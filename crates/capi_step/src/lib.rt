@@ -1,10 +1,10 @@
 // A step in C, but for its name there: the record comes and goes as numbers, and so does the answer.
 ghost use Rattle.std.specs.Prelude.{◌≡◌, ◌≤◌, length};
-ghost use Rattle.lasso.specs.Values.{recordOf};
-ghost use Rattle.step.specs.Step.{stepOutcomeOf};
-ghost use Rattle.figures.specs.Kinds.{recordGiven, figuresIn};
-ghost use Rattle.figures.specs.Short.{workAfterCall};
-ghost use Rattle.capi_step.specs.Call.{stepReport, stepCall};
+ghost use Rattle.lasso.specs.Values.{record_of};
+ghost use Rattle.step.specs.Step.{step_outcome_of};
+ghost use Rattle.figures.specs.Kinds.{record_given, figures_in};
+ghost use Rattle.figures.specs.Short.{work_after_call};
+ghost use Rattle.capi_step.specs.Call.{step_report, step_call};
 
 use figures::{ADVANCED, FINISHED, OUT_TOO_SHORT, report_record, too_few};
 use lasso::{Best, RoundRecord, Transitions};
@@ -12,7 +12,7 @@ use step::{StepAnswer, step};
 
 // The record that three figures stand for.
 fn record_given(done: u16, has_best: u8, best: u16) -> RoundRecord
-    ensures { recordOf result ≡ recordGiven done has_best best }
+    ensures { record_of result ≡ record_given done has_best best }
 {
     if has_best == 0 {
         return RoundRecord {
@@ -29,8 +29,8 @@ fn record_given(done: u16, has_best: u8, best: u16) -> RoundRecord
 // Reports the answer of a step.
 fn report_step(answer: StepAnswer, out: &mut [u16]) -> u16
     requires { 3 ≤ length out.old }
-    ensures kind { result ≡ (stepReport (stepOutcomeOf answer)).kind }
-    ensures out { out.new ≡ figuresIn out.old (stepReport (stepOutcomeOf answer)) }
+    ensures kind { result ≡ (step_report (step_outcome_of answer)).kind }
+    ensures out { out.new ≡ figures_in out.old (step_report (step_outcome_of answer)) }
 {
     match answer {
         StepAnswer::Refused(number) => number,
@@ -50,11 +50,11 @@ pub fn step_call(
     work: &mut [u16],
     out: &mut [u16],
 ) -> u16
-    ensures value { result ≡ (stepCall file.now mark_table ceiling (recordGiven done has_best best)
+    ensures value { result ≡ (step_call file.now mark_table ceiling (record_given done has_best best)
         work.old out.old).kind }
-    ensures out { out.new ≡ figuresIn out.old (stepCall file.now mark_table ceiling
-        (recordGiven done has_best best) work.old out.old) }
-    ensures work { work.new ≡ workAfterCall file.now mark_table work.old
+    ensures out { out.new ≡ figures_in out.old (step_call file.now mark_table ceiling
+        (record_given done has_best best) work.old out.old) }
+    ensures work { work.new ≡ work_after_call file.now mark_table work.old
         out.old }
 {
     if too_few(out.len()) {

@@ -1,7 +1,8 @@
 // The check of a file by the numbered rules: 1 to 5, which concern its header, then 6 to 11 by the kind of file.
+#![tactic(auto)]
 ghost use Rattle.std.specs.Prelude.{◌≡◌, ◌≤◌};
-ghost use Rattle.format.specs.Layout.{totalOf};
-ghost use Rattle.model.specs.Values.{head_of, checkWith, checkOf};
+ghost use Rattle.format.specs.Layout.{total_of};
+ghost use Rattle.model.specs.Values.{head_of, check_with, check_of};
 ghost use Rattle.model.specs.declared.Checked.TheVariants.{Accept};
 
 use format::{long, total_of, word};
@@ -16,7 +17,7 @@ const MARK_TABLES: usize = 2;
 
 // Applies the rules 1 to 11 in order, each to the whole file before the next. The header names mark table 0.
 pub fn check(file: &[u8]) -> Checked
-    ensures { result ≡ checkOf file.now }
+    ensures { result ≡ check_of file.now }
 {
     let head = check_head(file);
     match head {
@@ -68,8 +69,8 @@ pub fn check_head(file: &[u8]) -> Checked
 // and the most mark tables that it may have.
 pub fn check_tables(file: &[u8], h: Header, total: usize, tables: usize) -> Checked
     requires file_value { head_of file.now ≡ Accept h }
-    requires edges_bound { (totalOf h.states h.edges ≤ total) × (total ≤ 65535) × (tables ≤ 2) }
-    ensures { result ≡ checkWith total tables file.now }
+    requires edges_bound { (total_of h.states h.edges ≤ total) × (total ≤ 65535) × (tables ≤ 2) }
+    ensures { result ≡ check_with total tables file.now }
 {
     let n = h.states;
     let m = h.edges;

@@ -2,9 +2,9 @@
 ghost use Rattle.std.specs.Prelude.{◌≡◌, false, length};
 ghost use Rattle.format.specs.Layout.{states};
 ghost use Rattle.model.specs.Values.{Valid};
-ghost use Rattle.property.specs.Property.{badProperty, ValidProperty};
-ghost use Rattle.combine_letters.specs.Letters.{badLetters};
-ghost use Rattle.combine.specs.Combine.{combineOutcome, combineOutput, combineOutcomeOf};
+ghost use Rattle.property.specs.Property.{bad_property, ValidProperty};
+ghost use Rattle.combine_letters.specs.Letters.{bad_letters};
+ghost use Rattle.combine.specs.Combine.{combine_outcome, combine_output, combine_outcome_of};
 
 use checking::check;
 use combine_file::{count_edges, write_product};
@@ -15,7 +15,7 @@ use numbers::{limit, reason};
 use property::{check_property, has_zero_mask};
 
 // The answer of a combination: the number of the reason to refuse it, or the number of bytes written.
-#[derive(Drop)]
+#[derive(Clone, Copy)]
 pub enum CombineAnswer {
     Refused(u16),
     Written(usize),
@@ -26,9 +26,9 @@ pub enum CombineAnswer {
 // have one. Refused: the rule's 1 to 11, 16 for the letters, 17 for the property, 18 for a result that is too large, 15
 // for an output that is too short.
 pub fn combine(rule: &[u8], letters: &[u8], property: &[u8], output: &mut [u8]) -> CombineAnswer
-    ensures outcome { combineOutcomeOf result ≡ combineOutcome rule.now letters.now
+    ensures outcome { combine_outcome_of result ≡ combine_outcome rule.now letters.now
         property.now (length output.old) }
-    ensures output { output.new ≡ combineOutput rule.now letters.now
+    ensures output { output.new ≡ combine_output rule.now letters.now
         property.now output.old }
 {
     let checked = check(rule);
@@ -52,10 +52,10 @@ fn with_property(
     output: &mut [u8],
 ) -> CombineAnswer
     requires valid { Valid rule.now h }
-    requires letters_value { badLetters (states rule.now) letters.now ≡ false }
-    ensures outcome { combineOutcomeOf result ≡ combineOutcome rule.now letters.now
+    requires letters_value { bad_letters (states rule.now) letters.now ≡ false }
+    ensures outcome { combine_outcome_of result ≡ combine_outcome rule.now letters.now
         property.now (length output.old) }
-    ensures output { output.new ≡ combineOutput rule.now letters.now
+    ensures output { output.new ≡ combine_output rule.now letters.now
         property.now output.old }
 {
     let checked = check_property(property);
@@ -80,12 +80,12 @@ fn within_limits(
     output: &mut [u8],
 ) -> CombineAnswer
     requires valid { Valid rule.now h }
-    requires letters_value { badLetters (states rule.now) letters.now ≡ false }
+    requires letters_value { bad_letters (states rule.now) letters.now ≡ false }
     requires valid_property { ValidProperty property.now k }
-    requires property_value { badProperty property.now ≡ false }
-    ensures outcome { combineOutcomeOf result ≡ combineOutcome rule.now letters.now
+    requires property_value { bad_property property.now ≡ false }
+    ensures outcome { combine_outcome_of result ≡ combine_outcome rule.now letters.now
         property.now (length output.old) }
-    ensures output { output.new ≡ combineOutput rule.now letters.now
+    ensures output { output.new ≡ combine_output rule.now letters.now
         property.now output.old }
 {
     let states = h.states * k.states;

@@ -1,12 +1,13 @@
 // The model file of a combination: how many edges it has, and writing it from the two files, one combined state after
 // the other. The rule has the header h, the property the header k. c is the number of a combined state (s, q): s is
 // c / size and q is c % size, where the property has `size` states.
+#![tactic(auto)]
 ghost use Rattle.std.specs.Prelude.{◌≡◌, ◌+◌, ◌*◌, ◌≤◌, ◌<◌, length};
-ghost use Rattle.numbers.specs.Limits.{mostEdges};
-ghost use Rattle.format.specs.Layout.{totalOf};
+ghost use Rattle.numbers.specs.Limits.{most_edges};
+ghost use Rattle.format.specs.Layout.{total_of};
 ghost use Rattle.text.specs.Writing.{Wrote};
-ghost use Rattle.writer.specs.File.{edgeTotal, fileOf};
-ghost use Rattle.writer.specs.Tables.{tableBytes, TablesFit};
+ghost use Rattle.writer.specs.File.{edge_total, file_of};
+ghost use Rattle.writer.specs.Tables.{table_bytes, TablesFit};
 ghost use Rattle.combine_graph.specs.Combined.{combined, Combinable};
 
 use combine_edges::{pair_degree, write_edges};
@@ -18,7 +19,7 @@ use writer::{write_header, write_word};
 // The number of edges of the combination.
 pub fn count_edges(rule: &[u8], h: Header, letters: &[u8], property: &[u8], k: Header) -> usize
     requires { Combinable rule.now letters.now property.now h k }
-    ensures { result ≡ edgeTotal (combined rule.now letters.now property.now) }
+    ensures { result ≡ edge_total (combined rule.now letters.now property.now) }
 {
     let pairs = h.states * k.states;
     let mut edges = 0;
@@ -41,7 +42,7 @@ fn write_tables(
 ) -> usize
     requires combinable { Combinable rule.now letters.now property.now h k }
     requires tables_fit { TablesFit (combined rule.now letters.now property.now) out.old }
-    ensures { Wrote out.old 24 (tableBytes (combined rule.now letters.now
+    ensures { Wrote out.old 24 (table_bytes (combined rule.now letters.now
         property.now)) out.new result }
 {
     let states = h.states * k.states;
@@ -69,9 +70,9 @@ pub fn write_product(
     edges: usize,
 ) -> usize
     requires combinable { Combinable rule.now letters.now property.now h k }
-    requires edges_value { (edges ≡ edgeTotal (combined rule.now letters.now property.now)) × (edges ≤ mostEdges) }
-    requires edges_in_bounds { totalOf (h.states * k.states) edges ≤ length out.old }
-    ensures { Wrote out.old 0 (fileOf (combined rule.now letters.now
+    requires edges_value { (edges ≡ edge_total (combined rule.now letters.now property.now)) × (edges ≤ most_edges) }
+    requires edges_in_bounds { total_of (h.states * k.states) edges ≤ length out.old }
+    ensures { Wrote out.old 0 (file_of (combined rule.now letters.now
         property.now)) out.new result }
 {
     let states = h.states * k.states;

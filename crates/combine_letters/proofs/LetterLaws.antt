@@ -10,32 +10,32 @@ use lib.ListN.{length, get_or, drop, drop_of_length-le}
 use lib.Seq.{drop-cons}
 use lib.Dec.{T, eqb, ltb, eqb→eq, nltb→le}
 use Rattle.lists.specs.Lists.{anyb}
-use Rattle.lists.proofs.Fails.{false-not, neither-l, neither-r, kept}
-use Rattle.combine_letters.specs.Letters.{badLetters}
+use Rattle.lists.proofs.Fails.{false_not, neither_l, neither_r, kept}
+use Rattle.combine_letters.specs.Letters.{bad_letters}
 
 module _ (letters : List ℕ) (s : ℕ) where
   -- a letter above 15 settles the test
-  pub letter-above : s < length letters → 15 < get_or letters s 0 → anyb (ltb 15) (drop s letters) ≡ true
-  letter-above less above = rw (drop-cons letters s 0 less, lt-ltb 15 (get_or letters s 0) above)
+  pub letter_above : s < length letters → 15 < get_or letters s 0 → anyb (ltb 15) (drop s letters) ≡ true
+  letter_above less above = rw (drop-cons letters s 0 less, lt-ltb 15 (get_or letters s 0) above)
 
   -- another letter is left behind
-  pub letter-past : s < length letters → get_or letters s 0 ≤ 15 → anyb (ltb 15) (drop s letters) ≡ anyb (ltb 15) (drop (s + 1) letters)
-  letter-past less small = rw (add-one s, drop-cons letters s 0 less, le-ltb 15 (get_or letters s 0) small)
+  pub letter_past : s < length letters → get_or letters s 0 ≤ 15 → anyb (ltb 15) (drop s letters) ≡ anyb (ltb 15) (drop (s + 1) letters)
+  letter_past less small = rw (add-one s, drop-cons letters s 0 less, le-ltb 15 (get_or letters s 0) small)
 
   -- after the last place no letter is above 15
-  pub letters-end : length letters ≤ s → anyb (ltb 15) (drop s letters) ≡ false
-  letters-end past = rw (drop_of_length-le letters {i = s} past)
+  pub letters_end : length letters ≤ s → anyb (ltb 15) (drop s letters) ≡ false
+  letters_end past = rw (drop_of_length-le letters {i = s} past)
 
 -- no letter is above 15 where none is found to be
-letters-small : (letters : List ℕ) → T (not (anyb (ltb 15) letters)) → (s : ℕ) → get_or letters s 0 ≤ 15
-letters-small [] none s = omega arith
-letters-small (l ∷ ls) none zero = nltb→le 15 l (neither-l (ltb 15 l) (anyb (ltb 15) ls) none)
-letters-small (l ∷ ls) none (suc s) = letters-small ls (neither-r (ltb 15 l) (anyb (ltb 15) ls) none) s
+letters_small : (letters : List ℕ) → T (not (anyb (ltb 15) letters)) → (s : ℕ) → get_or letters s 0 ≤ 15
+letters_small [] none s = omega arith
+letters_small (l ∷ ls) none zero = nltb→le 15 l (neither_l (ltb 15 l) (anyb (ltb 15) ls) none)
+letters_small (l ∷ ls) none (suc s) = letters_small ls (neither_r (ltb 15 l) (anyb (ltb 15) ls) none) s
 
 -- a letter table to which reason 16 does not apply has one letter up to 15 for each state
-pub letters-kept : (n : ℕ) (letters : List ℕ) → badLetters n letters ≡ false
+pub letters_kept : (n : ℕ) (letters : List ℕ) → bad_letters n letters ≡ false
     → (length letters ≡ n) × ((s : ℕ) → get_or letters s 0 ≤ 15)
-letters-kept n letters e =
-    let clear = false-not (badLetters n letters) e in
+letters_kept n letters e =
+    let clear = false_not (bad_letters n letters) e in
     let same : T (eqb (length letters) n) = search kept in
-    (eqb→eq (length letters) n same, letters-small letters (search kept))
+    (eqb→eq (length letters) n same, letters_small letters (search kept))

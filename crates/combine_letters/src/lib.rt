@@ -1,12 +1,12 @@
 // The letter table of a combination: reason 16.
 ghost use Rattle.std.specs.Prelude.{◌≡◌};
-ghost use Rattle.combine_letters.specs.Letters.{badLetters};
+ghost use Rattle.combine_letters.specs.Letters.{bad_letters};
 
 use numbers::limit;
 
 // Reason 16: there is not one letter per state, or a letter is above 15.
 pub fn letters_broken(letters: &[u8], n: usize) -> bool
-    ensures { result ≡ badLetters n letters.now }
+    ensures { result ≡ bad_letters n letters.now }
 {
     if letters.len() != n {
         return true;

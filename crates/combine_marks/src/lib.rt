@@ -1,11 +1,12 @@
 // The marks of the model file of a combination. The property has the header k.
+#![tactic(auto)]
 ghost use Rattle.std.specs.Prelude.{◌≡◌, map, ◌+◌, ◌*◌, ◌≤◌, ◌<◌, length};
-ghost use Rattle.numbers.specs.Limits.{mostStates};
+ghost use Rattle.numbers.specs.Limits.{most_states};
 ghost use Rattle.lists.specs.Lists.{below};
-ghost use Rattle.format.specs.Layout.{markBytes};
+ghost use Rattle.format.specs.Layout.{mark_bytes};
 ghost use Rattle.text.specs.Writing.{Wrote};
 ghost use Rattle.property.specs.Property.{ValidProperty};
-ghost use Rattle.combine_graph.specs.Combined.{pairMark, pairMarkByte};
+ghost use Rattle.combine_graph.specs.Combined.{pair_mark, pair_mark_byte};
 
 use format::mark_bytes;
 use model::Header;
@@ -15,7 +16,7 @@ use text::write_byte;
 // The combined state with number c is marked, where there are `states`.
 fn pair_mark(property: &[u8], k: Header, states: usize, c: usize) -> bool
     requires { ValidProperty property.now k }
-    ensures { result ≡ pairMark property.now states c }
+    ensures { result ≡ pair_mark property.now states c }
 {
     if states <= c {
         return false;
@@ -27,7 +28,7 @@ fn pair_mark(property: &[u8], k: Header, states: usize, c: usize) -> bool
 fn mark_byte(property: &[u8], k: Header, states: usize, b: usize) -> usize
     requires valid_property { ValidProperty property.now k }
     requires b_bound { b < 512 }
-    ensures { (result ≡ pairMarkByte property.now states b) × (result < 256) }
+    ensures { (result ≡ pair_mark_byte property.now states b) × (result < 256) }
 {
     let mut byte = 0;
     let mut weight = 1;
@@ -45,9 +46,9 @@ fn mark_byte(property: &[u8], k: Header, states: usize, b: usize) -> usize
 // Writes the marks.
 pub fn write_marks(out: &mut [u8], at: usize, property: &[u8], k: Header, states: usize) -> usize
     requires valid_property { ValidProperty property.now k }
-    requires states_le_most_states { (states ≤ mostStates) × (at + markBytes states ≤ length out.old) }
+    requires states_le_most_states { (states ≤ most_states) × (at + mark_bytes states ≤ length out.old) }
     ensures { Wrote out.old at
-        (map (pairMarkByte property.now states) (below (markBytes states))) out.new result }
+        (map (pair_mark_byte property.now states) (below (mark_bytes states))) out.new result }
 {
     let count = mark_bytes(states);
     let mut next = at;

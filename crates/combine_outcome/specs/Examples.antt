@@ -4,11 +4,11 @@ use Rattle.std.specs.Prelude.{ℕ, ◌≡◌, List, [], ◌∷◌, ◌++◌, rep
 use Rattle.lasso.specs.Roll.{roll}
 use Rattle.model.specs.Model.{graph_of}
 use Rattle.outcomes.specs.Outcome.{Outcome, refused, answered}
-use Rattle.combine_outcome.specs.Combination.{combineOutcome, combineOutput}
+use Rattle.combine_outcome.specs.Combination.{combine_outcome, combine_output}
 
 -- the rule: 0→1, 1→0, no mark
-abbrev pub exampleRule : List ℕ
-exampleRule =
+abbrev pub example_rule : List ℕ
+example_rule =
     2 ∷ 0 ∷ 2 ∷ 0 ∷ 0 ∷ 0 ∷ 0 ∷ 0 ∷
     24 ∷ 0 ∷ 0 ∷ 0 ∷ 30 ∷ 0 ∷ 0 ∷ 0 ∷ 34 ∷ 0 ∷ 0 ∷ 0 ∷ 35 ∷ 0 ∷ 0 ∷ 0 ∷
     0 ∷ 0 ∷ 1 ∷ 0 ∷ 2 ∷ 0 ∷
@@ -16,12 +16,12 @@ exampleRule =
     0 ∷ []
 
 -- its letters
-abbrev pub exampleLetters : List ℕ
-exampleLetters = 0 ∷ 1 ∷ []
+abbrev pub example_letters : List ℕ
+example_letters = 0 ∷ 1 ∷ []
 
 -- the property: 0→0, 0→1, 1→0, 1→1 with masks 1, 2, 1, 2, state 1 marked
-abbrev pub exampleProperty : List ℕ
-exampleProperty =
+abbrev pub example_property : List ℕ
+example_property =
     2 ∷ 0 ∷ 4 ∷ 0 ∷ 0 ∷ 0 ∷ 0 ∷ 0 ∷
     24 ∷ 0 ∷ 0 ∷ 0 ∷ 30 ∷ 0 ∷ 0 ∷ 0 ∷ 38 ∷ 0 ∷ 0 ∷ 0 ∷ 47 ∷ 0 ∷ 0 ∷ 0 ∷
     0 ∷ 0 ∷ 2 ∷ 0 ∷ 4 ∷ 0 ∷
@@ -30,8 +30,8 @@ exampleProperty =
     1 ∷ 0 ∷ 2 ∷ 0 ∷ 1 ∷ 0 ∷ 2 ∷ 0 ∷ []
 
 -- the combination: 0→2, 1→2, 2→1, 3→1, states 1 and 3 marked
-abbrev pub exampleResult : List ℕ
-exampleResult =
+abbrev pub example_result : List ℕ
+example_result =
     4 ∷ 0 ∷ 4 ∷ 0 ∷ 0 ∷ 0 ∷ 0 ∷ 0 ∷
     24 ∷ 0 ∷ 0 ∷ 0 ∷ 34 ∷ 0 ∷ 0 ∷ 0 ∷ 42 ∷ 0 ∷ 0 ∷ 0 ∷ 43 ∷ 0 ∷ 0 ∷ 0 ∷
     0 ∷ 0 ∷ 1 ∷ 0 ∷ 2 ∷ 0 ∷ 3 ∷ 0 ∷ 4 ∷ 0 ∷
@@ -40,8 +40,8 @@ exampleResult =
 
 -- A second example, in which the two numbers of states, the initial states and the letters differ: a rule of two states,
 -- 0→1, 1→0, 1→1, which starts at 1 and whose own mark, 0, does not count,
-abbrev pub secondRule : List ℕ
-secondRule =
+abbrev pub second_rule : List ℕ
+second_rule =
     2 ∷ 0 ∷ 3 ∷ 0 ∷ 1 ∷ 0 ∷ 0 ∷ 0 ∷
     24 ∷ 0 ∷ 0 ∷ 0 ∷ 30 ∷ 0 ∷ 0 ∷ 0 ∷ 36 ∷ 0 ∷ 0 ∷ 0 ∷ 37 ∷ 0 ∷ 0 ∷ 0 ∷
     0 ∷ 0 ∷ 1 ∷ 0 ∷ 3 ∷ 0 ∷
@@ -49,13 +49,13 @@ secondRule =
     1 ∷ []
 
 -- with the letters 0 and 5,
-abbrev pub secondLetters : List ℕ
-secondLetters = 0 ∷ 5 ∷ []
+abbrev pub second_letters : List ℕ
+second_letters = 0 ∷ 5 ∷ []
 
 -- and a property of three states, which starts at 2: 0→1 by letter 0, 0→2 by 5, 1→0 by 0 and 5, 1→2 by 15, 2→0 by all; state 2
 -- is marked
-abbrev pub secondProperty : List ℕ
-secondProperty =
+abbrev pub second_property : List ℕ
+second_property =
     3 ∷ 0 ∷ 5 ∷ 0 ∷ 2 ∷ 0 ∷ 0 ∷ 0 ∷
     24 ∷ 0 ∷ 0 ∷ 0 ∷ 32 ∷ 0 ∷ 0 ∷ 0 ∷ 42 ∷ 0 ∷ 0 ∷ 0 ∷ 53 ∷ 0 ∷ 0 ∷ 0 ∷
     0 ∷ 0 ∷ 2 ∷ 0 ∷ 4 ∷ 0 ∷ 5 ∷ 0 ∷
@@ -64,8 +64,8 @@ secondProperty =
     1 ∷ 0 ∷ 32 ∷ 0 ∷ 33 ∷ 0 ∷ 0 ∷ 128 ∷ 255 ∷ 255 ∷ []
 
 -- its combination: 0→4, 1→3, 2→3, 3→2, 3→5, 4→0, 4→3, 5→0, 5→3, which starts at 5; states 2 and 5 are marked
-abbrev pub secondResult : List ℕ
-secondResult =
+abbrev pub second_result : List ℕ
+second_result =
     6 ∷ 0 ∷ 9 ∷ 0 ∷ 5 ∷ 0 ∷ 0 ∷ 0 ∷
     24 ∷ 0 ∷ 0 ∷ 0 ∷ 38 ∷ 0 ∷ 0 ∷ 0 ∷ 56 ∷ 0 ∷ 0 ∷ 0 ∷ 57 ∷ 0 ∷ 0 ∷ 0 ∷
     0 ∷ 0 ∷ 1 ∷ 0 ∷ 2 ∷ 0 ∷ 3 ∷ 0 ∷ 5 ∷ 0 ∷ 7 ∷ 0 ∷ 9 ∷ 0 ∷
@@ -73,20 +73,20 @@ secondResult =
     36 ∷ []
 
 -- A third, for implied steps: a rule of one state without edges, bytes 6–7 are 1,
-abbrev pub stayingRule : List ℕ
-stayingRule =
+abbrev pub staying_rule : List ℕ
+staying_rule =
     1 ∷ 0 ∷ 0 ∷ 0 ∷ 0 ∷ 0 ∷ 1 ∷ 0 ∷
     24 ∷ 0 ∷ 0 ∷ 0 ∷ 28 ∷ 0 ∷ 0 ∷ 0 ∷ 28 ∷ 0 ∷ 0 ∷ 0 ∷ 29 ∷ 0 ∷ 0 ∷ 0 ∷
     0 ∷ 0 ∷ 0 ∷ 0 ∷
     0 ∷ []
 
 -- with the letter 3,
-abbrev pub stayingLetters : List ℕ
-stayingLetters = 3 ∷ []
+abbrev pub staying_letters : List ℕ
+staying_letters = 3 ∷ []
 
 -- and a property of one state, 0→0 by letter 3, which is marked;
-abbrev pub loopProperty : List ℕ
-loopProperty =
+abbrev pub loop_property : List ℕ
+loop_property =
     1 ∷ 0 ∷ 1 ∷ 0 ∷ 0 ∷ 0 ∷ 0 ∷ 0 ∷
     24 ∷ 0 ∷ 0 ∷ 0 ∷ 28 ∷ 0 ∷ 0 ∷ 0 ∷ 30 ∷ 0 ∷ 0 ∷ 0 ∷ 33 ∷ 0 ∷ 0 ∷ 0 ∷
     0 ∷ 0 ∷ 1 ∷ 0 ∷
@@ -95,8 +95,8 @@ loopProperty =
     8 ∷ 0 ∷ []
 
 -- their combination: 0→0, 0 marked, bytes 6–7 zero
-abbrev pub loopResult : List ℕ
-loopResult =
+abbrev pub loop_result : List ℕ
+loop_result =
     1 ∷ 0 ∷ 1 ∷ 0 ∷ 0 ∷ 0 ∷ 0 ∷ 0 ∷
     24 ∷ 0 ∷ 0 ∷ 0 ∷ 28 ∷ 0 ∷ 0 ∷ 0 ∷ 30 ∷ 0 ∷ 0 ∷ 0 ∷ 31 ∷ 0 ∷ 0 ∷ 0 ∷
     0 ∷ 0 ∷ 1 ∷ 0 ∷
@@ -104,24 +104,24 @@ loopResult =
     1 ∷ []
 
 -- the property without its edge, bytes 6–7 are 1
-abbrev pub endedProperty : List ℕ
-endedProperty =
+abbrev pub ended_property : List ℕ
+ended_property =
     1 ∷ 0 ∷ 0 ∷ 0 ∷ 0 ∷ 0 ∷ 1 ∷ 0 ∷
     24 ∷ 0 ∷ 0 ∷ 0 ∷ 28 ∷ 0 ∷ 0 ∷ 0 ∷ 28 ∷ 0 ∷ 0 ∷ 0 ∷ 29 ∷ 0 ∷ 0 ∷ 0 ∷
     0 ∷ 0 ∷ 0 ∷ 0 ∷
     1 ∷ []
 
 -- its combination with the same rule: no edge, 0 marked, bytes 6–7 zero
-abbrev pub endedResult : List ℕ
-endedResult =
+abbrev pub ended_result : List ℕ
+ended_result =
     1 ∷ 0 ∷ 0 ∷ 0 ∷ 0 ∷ 0 ∷ 0 ∷ 0 ∷
     24 ∷ 0 ∷ 0 ∷ 0 ∷ 28 ∷ 0 ∷ 0 ∷ 0 ∷ 28 ∷ 0 ∷ 0 ∷ 0 ∷ 29 ∷ 0 ∷ 0 ∷ 0 ∷
     0 ∷ 0 ∷ 0 ∷ 0 ∷
     1 ∷ []
 
 -- A fourth, for mark tables: the second example's rule with a second mark table, in which state 1 is marked,
-abbrev pub twoTablesRule : List ℕ
-twoTablesRule =
+abbrev pub two_tables_rule : List ℕ
+two_tables_rule =
     2 ∷ 0 ∷ 3 ∷ 0 ∷ 1 ∷ 0 ∷ 0 ∷ 0 ∷
     24 ∷ 0 ∷ 0 ∷ 0 ∷ 30 ∷ 0 ∷ 0 ∷ 0 ∷ 36 ∷ 0 ∷ 0 ∷ 0 ∷ 38 ∷ 0 ∷ 0 ∷ 0 ∷
     0 ∷ 0 ∷ 1 ∷ 0 ∷ 3 ∷ 0 ∷
@@ -129,8 +129,8 @@ twoTablesRule =
     1 ∷ 2 ∷ []
 
 -- the property of the third with a second mark table before its mask,
-abbrev pub twoTablesProperty : List ℕ
-twoTablesProperty =
+abbrev pub two_tables_property : List ℕ
+two_tables_property =
     1 ∷ 0 ∷ 1 ∷ 0 ∷ 0 ∷ 0 ∷ 0 ∷ 0 ∷
     24 ∷ 0 ∷ 0 ∷ 0 ∷ 28 ∷ 0 ∷ 0 ∷ 0 ∷ 30 ∷ 0 ∷ 0 ∷ 0 ∷ 34 ∷ 0 ∷ 0 ∷ 0 ∷
     0 ∷ 0 ∷ 1 ∷ 0 ∷
@@ -140,8 +140,8 @@ twoTablesProperty =
 
 -- and a file of nine states, 0→0, whose last two bytes are its second mark table, if it is a rule, or its mask, if it is a
 -- property: 3 is marked, or the letter is 3
-abbrev pub eitherRole : List ℕ
-eitherRole =
+abbrev pub either_role : List ℕ
+either_role =
     9 ∷ 0 ∷ 1 ∷ 0 ∷ 0 ∷ 0 ∷ 0 ∷ 0 ∷
     24 ∷ 0 ∷ 0 ∷ 0 ∷ 44 ∷ 0 ∷ 0 ∷ 0 ∷ 46 ∷ 0 ∷ 0 ∷ 0 ∷ 50 ∷ 0 ∷ 0 ∷ 0 ∷
     0 ∷ 0 ∷ 1 ∷ 0 ∷ 1 ∷ 0 ∷ 1 ∷ 0 ∷ 1 ∷ 0 ∷ 1 ∷ 0 ∷ 1 ∷ 0 ∷ 1 ∷ 0 ∷ 1 ∷ 0 ∷ 1 ∷ 0 ∷
@@ -150,22 +150,22 @@ eitherRole =
     8 ∷ 0 ∷ []
 
 -- what the example's combination answers with so many bytes of output
-abbrev pub exampleAnswer : ℕ → Outcome ℕ
-exampleAnswer room = combineOutcome exampleRule exampleLetters exampleProperty room
+abbrev pub example_answer : ℕ → Outcome ℕ
+example_answer room = combine_outcome example_rule example_letters example_property room
 
 -- The examples: 43 bytes are written and a later byte does not change; with 42 bytes of output it is refused 15, and the
 -- output is untouched; the shortest accepting path of the result is 0 2 1 2, the only one. The second one's 57 bytes.
 -- In the third the rule stays, and the property never does. In the fourth the rule may have two mark tables, of which the
 -- result has nothing, and the property may not; one file passes in both roles, with a result of 81 states and one edge.
 pub record ExamplesOfCombining : Type 0 where
-  pub bytes : exampleAnswer 45 ≡ answered 43
-  pub output : combineOutput exampleRule exampleLetters exampleProperty (replicate 45 9) ≡ exampleResult ++ 9 ∷ 9 ∷ []
-  pub short : exampleAnswer 42 ≡ refused 15
-  pub untouched : combineOutput exampleRule exampleLetters exampleProperty (replicate 42 9) ≡ replicate 42 9
-  pub shortest : roll (graph_of exampleResult 0) ≡ (0 ∷ 2 ∷ 1 ∷ 2 ∷ []) ∷ []
-  pub second : combineOutput secondRule secondLetters secondProperty (replicate 57 9) ≡ secondResult
-  pub staying-rule : combineOutput stayingRule stayingLetters loopProperty (replicate 31 9) ≡ loopResult
-  pub ended-property : combineOutput stayingRule stayingLetters endedProperty (replicate 29 9) ≡ endedResult
-  pub two-tables-rule : combineOutput twoTablesRule secondLetters secondProperty (replicate 57 9) ≡ secondResult
-  pub two-tables-property : combineOutcome stayingRule stayingLetters twoTablesProperty 31 ≡ refused 17
-  pub either-role : combineOutcome eitherRole (replicate 9 3) eitherRole 201 ≡ answered 201
+  pub bytes : example_answer 45 ≡ answered 43
+  pub output : combine_output example_rule example_letters example_property (replicate 45 9) ≡ example_result ++ 9 ∷ 9 ∷ []
+  pub short : example_answer 42 ≡ refused 15
+  pub untouched : combine_output example_rule example_letters example_property (replicate 42 9) ≡ replicate 42 9
+  pub shortest : roll (graph_of example_result 0) ≡ (0 ∷ 2 ∷ 1 ∷ 2 ∷ []) ∷ []
+  pub second : combine_output second_rule second_letters second_property (replicate 57 9) ≡ second_result
+  pub staying_rule_shown : combine_output staying_rule staying_letters loop_property (replicate 31 9) ≡ loop_result
+  pub ended_property_shown : combine_output staying_rule staying_letters ended_property (replicate 29 9) ≡ ended_result
+  pub two_tables_rule_shown : combine_output two_tables_rule second_letters second_property (replicate 57 9) ≡ second_result
+  pub two_tables_property_shown : combine_outcome staying_rule staying_letters two_tables_property 31 ≡ refused 17
+  pub either_role_shown : combine_outcome either_role (replicate 9 3) either_role 201 ≡ answered 201

@@ -1,7 +1,7 @@
 -- The edges of one combined state as numbers, block by block, and what their writers ask so that every number fits 16 bits.
 use Rattle.std.specs.Prelude.{ℕ, ◌+◌, ◌*◌, ◌-◌, ◌≤◌, ◌<◌, List, map, length, get_or}
 use Rattle.lists.specs.Lists.{collect, below}
-use Rattle.numbers.specs.Limits.{mostStates}
+use Rattle.numbers.specs.Limits.{most_states}
 use Rattle.format.specs.Bytes.{word}
 
 -- the numbers base + q, for each q
@@ -27,5 +27,5 @@ BlockFits out from count base other =
 
 -- the rule's states ss and the property's states ts form pairs below 4,096, where the property has `size` states
 pub record RowFits (size : ℕ) (ss ts : List ℕ) : Type 0 where
-  pub successors-fit : (k : ℕ) → k < length ss → get_or ss k 0 * size + size ≤ mostStates
-  pub targets-fit : (k : ℕ) → k < length ts → get_or ts k 0 < size
+  pub successors_fit : (k : ℕ) → k < length ss → get_or ss k 0 * size + size ≤ most_states
+  pub targets_fit : (k : ℕ) → k < length ts → get_or ts k 0 < size

@@ -1,8 +1,9 @@
 // Writes the edges of one combined state (s, q) from the parts that hold the rows of s and of q: for each successor s'
 // of s, a block with (s', q') for each q' whose mask holds the letter. The masks are looked at once, for the first
 // block; each further block is made from the first one in the output.
+#![tactic(auto)]
 ghost use Rattle.std.specs.Prelude.{◌≡◌, ◌+◌, ◌*◌, ◌≤◌, length};
-ghost use Rattle.numbers.specs.Limits.{highestLetter};
+ghost use Rattle.numbers.specs.Limits.{highest_letter};
 ghost use Rattle.format.specs.Bytes.{words};
 ghost use Rattle.model.specs.Model.{steps_of};
 ghost use Rattle.text.specs.Writing.{Wrote};
@@ -24,7 +25,7 @@ fn write_block(
     letter: usize,
     base: usize,
 ) -> usize
-    requires letter_le_highest_letter { letter ≤ highestLetter }
+    requires letter_le_highest_letter { letter ≤ highest_letter }
     requires masks_len { length (words masks.now) ≡ length (words targets.now) }
     requires targets_fit { TargetsFit base (words targets.now) }
     requires targets_in_bounds { at + 2 * length (chosen letter (words masks.now) (words targets.now)) ≤ length out.old }
@@ -79,7 +80,7 @@ pub fn write_row(
     letter: usize,
     size: usize,
 ) -> usize
-    requires letter_le_highest_letter { letter ≤ highestLetter }
+    requires letter_le_highest_letter { letter ≤ highest_letter }
     requires masks_len { length (words masks.now) ≡ length (words targets.now) }
     requires row_fits { RowFits size (steps_of h s part.now) (words targets.now) }
     requires targets_in_bounds { at + 2 * length (row_of size (steps_of h s part.now) (chosen letter (words masks.now) (words targets.now)))

@@ -3,8 +3,8 @@ use Rattle.std.specs.Prelude.{ℕ, ◌≡◌, true, false, List, [], ◌∷◌, 
 use Rattle.format.specs.Rules.{Reason}
 
 -- the numbers of the reasons, in checking order
-abbrev pub numbersOf : List Reason → List ℕ
-numbersOf rs = map (λ (r : Reason). r.number) rs
+abbrev pub numbers_of : List Reason → List ℕ
+numbers_of rs = map (λ (r : Reason). r.number) rs
 
 -- no reason of the table holds
 abbrev pub NoneHolds : List Reason → Type 0
@@ -18,5 +18,5 @@ pub record FirstHolds (reasons : List Reason) (n : ℕ) : Type 0 where
   pub after : List Reason
   pub split : reasons ≡ before ++ reason ∷ after
   pub number_is : reason.number ≡ n
-  pub it-holds : reason.holds ≡ true
+  pub it_holds : reason.holds ≡ true
   pub none_before : NoneHolds before

@@ -1,8 +1,10 @@
 // The current list: the state at a place, and writing the list to the answer table. Region 0 of the working table holds
 // its entries from place 1 on; the entry at place 0 is the start.
+#![tactic(auto)]
+
 ghost use Rattle.std.specs.Prelude.{◌≡◌, ◌∷◌, ◌++◌, ◌+◌, ◌≤◌, ◌<◌, length, drop};
-ghost use Rattle.lasso.specs.Graph.{loopStart};
-ghost use Rattle.current.specs.Current.{stateAt, listIn, overFront};
+ghost use Rattle.lasso.specs.Graph.{loop_start};
+ghost use Rattle.current.specs.Current.{state_at, list_in, over_front};
 
 use lasso::{Entries, Transitions};
 use model::Header;
@@ -11,7 +13,7 @@ use table::get;
 // The state at a place of the list.
 pub fn list_at(h: Header, work: &[u16], place: usize) -> usize
     requires { place ≤ length work.now }
-    ensures { result ≡ stateAt h work.now place }
+    ensures { result ≡ state_at h work.now place }
 {
     if place == 0 {
         return h.start;
@@ -22,7 +24,7 @@ pub fn list_at(h: Header, work: &[u16], place: usize) -> usize
 // The place where the loop starts: the first place that holds the last state.
 fn loop_start(h: Header, work: &[u16], transitions: Transitions) -> usize
     requires { transitions.0 ≤ length work.now }
-    ensures { (result ≡ loopStart (listIn h.start work.now transitions.0)) × (result ≤ transitions.0) }
+    ensures { (result ≡ loop_start (list_in h.start work.now transitions.0)) × (result ≤ transitions.0) }
 {
     let end = transitions.number();
     let last = list_at(h, work, end);
@@ -39,7 +41,7 @@ fn write_part(h: Header, work: &[u16], from: usize, entries: Entries, part: &mut
     requires entries_in_bounds_2 { entries.0 ≤ length part.old }
     requires start_bound { h.start < 65536 }
     ensures { part.new
-        ≡ overFront entries.0 (drop from (h.start ∷ work.now)) part.old }
+        ≡ over_front entries.0 (drop from (h.start ∷ work.now)) part.old }
 {
     let mut i = 0;
     while i < entries.0 {
@@ -53,9 +55,9 @@ pub fn write_list(h: Header, work: &[u16], transitions: Transitions, answer: &mu
     requires transitions_in_bounds { transitions.0 ≤ length work.now }
     requires transitions_in_bounds_2 { transitions.0 < length answer.old }
     requires start_bound { h.start < 65536 }
-    ensures start { (result ≡ loopStart (listIn h.start work.now transitions.0)) × (result ≤ transitions.0) }
+    ensures start { (result ≡ loop_start (list_in h.start work.now transitions.0)) × (result ≤ transitions.0) }
     ensures list { answer.new
-        ≡ listIn h.start work.now transitions.0 ++ drop (transitions.0 + 1) answer.old }
+        ≡ list_in h.start work.now transitions.0 ++ drop (transitions.0 + 1) answer.old }
 {
     let k = loop_start(h, work, transitions);
     let entries = transitions.entries();

@@ -5,8 +5,8 @@ ghost use mathlib.Core.List.{Memᴰ, ◌++◌};
 ghost use Rattle.std.proofs.Math.Option.{some};
 ghost use Rattle.std.proofs.Math.ListN;
 ghost use Rattle.lasso.specs.Graph.{edges};
-ghost use Rattle.lasso.specs.Roll.{leastLength, roll};
-ghost use Rattle.model.specs.Model.{graphIn};
+ghost use Rattle.lasso.specs.Roll.{least_length, roll};
+ghost use Rattle.model.specs.Model.{graph_in};
 ghost use Rattle.candidates.specs.Promises.{RoundsReady};
 ghost use Rattle.cursor.specs.Cursor.{At, Placed, PlacedAt, MovedOn};
 
@@ -20,7 +20,7 @@ use table::{get, put};
 // Goes to the first list of the roll.
 pub fn to_first(file: &[u8], h: Header, transitions: Transitions, work: &mut [u16])
     requires rounds_ready { RoundsReady file.now h work.old }
-    requires h_value { leastLength (graphIn file.now h) ≡ some transitions.0 }
+    requires h_value { least_length (graph_in file.now h) ≡ some transitions.0 }
     ensures at { At file.now h transitions.0 0 work.new }
     ensures kept { length work.new ≡ length work.old }
 {
@@ -46,8 +46,8 @@ fn load(list: &[u16], work: &mut [u16])
 // Goes to a given list of the roll.
 pub fn to_list(file: &[u8], h: Header, transitions: Transitions, list: &[u16], work: &mut [u16])
     requires rounds_ready { RoundsReady file.now h work.old }
-    requires h_value { leastLength (graphIn file.now h) ≡ some transitions.0 }
-    requires fact { Memᴰ list.now (roll (graphIn file.now h)) }
+    requires h_value { least_length (graph_in file.now h) ≡ some transitions.0 }
+    requires fact { Memᴰ list.now (roll (graph_in file.now h)) }
     ensures at { PlacedAt file.now h transitions.0 list.now work.new }
     ensures kept { length work.new ≡ length work.old }
 {

@@ -4,11 +4,11 @@ use Rattle.text.specs.Decimal.{decimal}
 use Rattle.desk.specs.Examples.{ExampleD, ExampleTwo}
 
 -- the program's text for example D
-pub example-d : ExampleD
+pub example_d : ExampleD
 unfolding decimal
-example-d = refl
+example_d = refl
 
 -- its text for example D with a second mark table
-pub example-two : ExampleTwo
+pub example_two : ExampleTwo
 unfolding decimal
-example-two = refl
+example_two = refl

@@ -2,9 +2,9 @@
 #![tactic(auto)]
 
 ghost use Rattle.std.specs.Prelude.{◌≡◌, ◌≤◌, length};
-ghost use Rattle.numbers.specs.Limits.{answerEntries, workEntries, sheetRoom};
+ghost use Rattle.numbers.specs.Limits.{answer_entries, work_entries, sheet_room};
 ghost use Rattle.text.specs.Writing.{Wrote};
-ghost use Rattle.desk.specs.Desk.{inputText, deskText};
+ghost use Rattle.desk.specs.Desk.{input_text, desk_text};
 
 use numbers::limit;
 use reading::{input_bytes, read_model};
@@ -19,10 +19,10 @@ const TEXT_ROOM: usize = limit::SHEET_ROOM;
 
 // Writes the sheet of an input with tables and a text of the program's sizes.
 fn write_sheet(input: &[u8], answer: &mut [u16], work: &mut [u16], text: &mut [u8]) -> usize
-    requires answer_len { length answer.old ≡ answerEntries }
-    requires work_len { length work.old ≡ workEntries }
-    requires sheet_room_in_bounds { sheetRoom ≤ length text.old }
-    ensures { Wrote text.old 0 (inputText input.now) text.new result }
+    requires answer_len { length answer.old ≡ answer_entries }
+    requires work_len { length work.old ≡ work_entries }
+    requires sheet_room_in_bounds { sheet_room ≤ length text.old }
+    ensures { Wrote text.old 0 (input_text input.now) text.new result }
 {
     sheet(input, answer, work, text)
 }
@@ -30,7 +30,7 @@ fn write_sheet(input: &[u8], answer: &mut [u16], work: &mut [u16], text: &mut [u
 // Writes the sheet of what was read of an input to the front of a text, and answers the number of bytes written. An
 // input that could not be read to its end, since a read failed, counts as empty.
 pub fn desk_sheet(read: &[u8], failed: bool, text: &mut [u8; TEXT_ROOM]) -> usize
-    ensures { Wrote text.old 0 (deskText failed read.now) text.new result }
+    ensures { Wrote text.old 0 (desk_text failed read.now) text.new result }
 {
     let mut answer = [0u16; limit::ANSWER_ENTRIES];
     let mut work = [0u16; limit::WORK_ENTRIES];

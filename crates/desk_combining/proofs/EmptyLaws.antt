@@ -4,16 +4,16 @@ use mathlib.Core.List.{[]}
 use native.Mathlib.Omega.{arith}
 use borrow.Author.Tests.{ne_eqb}
 use Rattle.format.specs.Layout.{states}
-use Rattle.model.proofs.Laws.{accepted-facts}
-use Rattle.combine.proofs.ReasonLaws.{refused-rule, refused-16, refused-17}
+use Rattle.model.proofs.Laws.{accepted_facts}
+use Rattle.combine.proofs.ReasonLaws.{refused_rule, refused_16, refused_17}
 use Rattle.desk_combining.specs.Sizes.{EmptyInputRefused}
-use Rattle.desk_combining.proofs.CutLaws.{output, refused-told}
+use Rattle.desk_combining.proofs.CutLaws.{output, refused_told}
 
-pub empty-input-refused : EmptyInputRefused
-empty-input-refused =
+pub empty_input_refused : EmptyInputRefused
+empty_input_refused =
     record {
-      rule = λ letters p. refused-told [] letters p 1 (refused-rule [] letters p output 1 refl);
+      rule = λ letters p. refused_told [] letters p 1 (refused_rule [] letters p output 1 refl);
       letters =
-          λ f p a. refused-told f [] p 16 (refused-16 f [] p output a (rw (ne_eqb 0 (states f) (omega (arith, (accepted-facts f a).states-range)))));
-      property = λ f letters a good. refused-told f letters [] 17 (refused-17 f letters [] output a good refl);
+          λ f p a. refused_told f [] p 16 (refused_16 f [] p output a (rw (ne_eqb 0 (states f) (omega (arith, (accepted_facts f a).states_range)))));
+      property = λ f letters a good. refused_told f letters [] 17 (refused_17 f letters [] output a good refl);
     }

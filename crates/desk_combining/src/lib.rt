@@ -3,11 +3,11 @@
 #![tactic(auto)]
 
 ghost use Rattle.std.specs.Prelude.{◌≡◌, ◌≤◌, length};
-ghost use Rattle.numbers.specs.Limits.{outputBytes};
+ghost use Rattle.numbers.specs.Limits.{output_bytes};
 ghost use Rattle.text.specs.Writing.{Wrote};
 ghost use Rattle.reading.specs.Reading.{input_of};
-ghost use Rattle.combine.specs.Combine.{combineOutcomeOf};
-ghost use Rattle.desk_combining.specs.Combining.{refusalRoom, NumberFits, bytesTold, lineTold, outputText, errorText};
+ghost use Rattle.combine.specs.Combine.{combine_outcome_of};
+ghost use Rattle.desk_combining.specs.Combining.{refusal_room, NumberFits, bytes_told, line_told, output_text, error_text};
 
 use combine::{CombineAnswer, combine};
 use numbers::limit;
@@ -47,10 +47,10 @@ pub struct Told {
 
 // Writes the line of a refusal, and answers how many bytes there are to be told.
 fn tell(answer: CombineAnswer, line: &mut [u8]) -> Told
-    requires number_fits { NumberFits (combineOutcomeOf answer) }
-    requires refusal_room_in_bounds { refusalRoom ≤ length line.old }
-    ensures output { result.output ≡ bytesTold (combineOutcomeOf answer) }
-    ensures errors { Wrote line.old 0 (lineTold (combineOutcomeOf answer)) line.new
+    requires number_fits { NumberFits (combine_outcome_of answer) }
+    requires refusal_room_in_bounds { refusal_room ≤ length line.old }
+    ensures output { result.output ≡ bytes_told (combine_outcome_of answer) }
+    ensures errors { Wrote line.old 0 (line_told (combine_outcome_of answer)) line.new
         result.errors }
 {
     match answer {
@@ -76,13 +76,13 @@ fn write_combination(
     out: &mut [u8],
     line: &mut [u8],
 ) -> Told
-    requires out_len { length out.old ≡ outputBytes }
-    requires refusal_room_in_bounds { refusalRoom ≤ length line.old }
+    requires out_len { length out.old ≡ output_bytes }
+    requires refusal_room_in_bounds { refusal_room ≤ length line.old }
     ensures output { Wrote out.old 0
-        (outputText rule.now letters.now property.now)
+        (output_text rule.now letters.now property.now)
         out.new result.output }
     ensures errors { Wrote line.old 0
-        (errorText rule.now letters.now property.now)
+        (error_text rule.now letters.now property.now)
         line.new result.errors }
 {
     let answer = combine(rule, letters, property, out);
@@ -100,10 +100,10 @@ pub fn desk_combine(
     line: &mut [u8; LINE_ROOM],
 ) -> Told
     ensures output { Wrote out.old 0
-        (outputText (input_of failed.rule rule.now) (input_of failed.letters letters.now)
+        (output_text (input_of failed.rule rule.now) (input_of failed.letters letters.now)
         (input_of failed.property property.now)) out.new result.output }
     ensures errors { Wrote line.old 0
-        (errorText (input_of failed.rule rule.now) (input_of failed.letters letters.now)
+        (error_text (input_of failed.rule rule.now) (input_of failed.letters letters.now)
         (input_of failed.property property.now)) line.new result.errors }
 {
     let rule_bytes = input_bytes(rule, failed.rule, RULE_ROOM);

@@ -8,91 +8,91 @@ use mathlib.Core.Option.{Option, some, none}
 use borrow.Author.Tests.{lt-ltb, le-ltb}
 use lib.ListN.{length}
 use lib.Dec.{ltb, nltb→le}
-use Rattle.lists.specs.Lists.{someIf}
+use Rattle.lists.specs.Lists.{some_if}
 use Rattle.format.specs.Layout.{states}
-use Rattle.format.specs.Rules.{Reason, firstBroken, Accepted}
-use Rattle.format.proofs.Reasons.{none-clear, clear-append, broken-append, append-clear}
+use Rattle.format.specs.Rules.{Reason, first_broken, Accepted}
+use Rattle.format.proofs.Reasons.{none_clear, clear_append, broken_append, append_clear}
 use Rattle.model.specs.Model.{graph_of}
-use Rattle.gate.specs.Gate.{commonRules, ceilingReason}
-use Rattle.gate.proofs.GateLaws.{ceiling-high, ceiling-low, clear-common}
+use Rattle.gate.specs.Gate.{common_rules, ceiling_reason}
+use Rattle.gate.proofs.GateLaws.{ceiling_high, ceiling_low, clear_common}
 use Rattle.outcomes.specs.Outcome.{Outcome, refused, answered}
 use Rattle.outcomes.specs.Tables.{written}
-use Rattle.outcomes.proofs.OutcomeLaws.{call-answer, call-broken, call_kept}
-use Rattle.outcomes.proofs.ReadBack.{loses-nothing}
+use Rattle.outcomes.proofs.OutcomeLaws.{call_answer, call_broken, call_kept}
+use Rattle.outcomes.proofs.ReadBack.{loses_nothing}
 use Rattle.distances.specs.declared.DistancesAnswer.{DistancesAnswer}
 use Rattle.distances.specs.declared.DistancesAnswer.TheVariants as DistancesAnswers
-use Rattle.distances.specs.Distances.{distancesOutcomeOf, DistancesLoseNothing, distanceTable, distanceReasons, distancesOutcome, distancesOutput}
+use Rattle.distances.specs.Distances.{distances_outcome_of, DistancesLoseNothing, distance_table, distance_reasons, distances_outcome, distances_output}
 
 -- the reason 15 of a distance call
-abbrev roomReason : List ℕ → ℕ → Reason
-roomReason f outputRoom = record { number = 15; holds = ltb outputRoom (states f) }
+abbrev room_reason : List ℕ → ℕ → Reason
+room_reason f outputRoom = record { number = 15; holds = ltb outputRoom (states f) }
 
 module _ (f : List ℕ) (ceiling outputRoom workRoom : ℕ) where
   -- a reason of 1 to 12 is the first
-  pub reasons-common : (n : ℕ) → firstBroken (commonRules f workRoom) ≡ some n
-      → firstBroken (distanceReasons f ceiling outputRoom workRoom) ≡ some n
-  reasons-common n e = broken-append (commonRules f workRoom) (ceilingReason ceiling ∷ roomReason f outputRoom ∷ []) n e
+  pub reasons_common : (n : ℕ) → first_broken (common_rules f workRoom) ≡ some n
+      → first_broken (distance_reasons f ceiling outputRoom workRoom) ≡ some n
+  reasons_common n e = broken_append (common_rules f workRoom) (ceiling_reason ceiling ∷ room_reason f outputRoom ∷ []) n e
 
   -- after them a ceiling above 4,096 breaks 21
-  pub reasons-high : firstBroken (commonRules f workRoom) ≡ none → 4096 < ceiling
-      → firstBroken (distanceReasons f ceiling outputRoom workRoom) ≡ some 21
-  reasons-high e high = ceiling-high (commonRules f workRoom) ceiling (roomReason f outputRoom ∷ []) e high
+  pub reasons_high : first_broken (common_rules f workRoom) ≡ none → 4096 < ceiling
+      → first_broken (distance_reasons f ceiling outputRoom workRoom) ≡ some 21
+  reasons_high e high = ceiling_high (common_rules f workRoom) ceiling (room_reason f outputRoom ∷ []) e high
 
   -- with one up to 4,096, an output with fewer entries than there are states breaks 15
-  pub reasons-short : firstBroken (commonRules f workRoom) ≡ none → ceiling ≤ 4096 → outputRoom < states f
-      → firstBroken (distanceReasons f ceiling outputRoom workRoom) ≡ some 15
-  reasons-short e low short =
-      ceiling-low (commonRules f workRoom) ceiling (roomReason f outputRoom ∷ []) e low
-      ∙ ap (λ (b : Bool). someIf b 15 none) (lt-ltb outputRoom (states f) short)
+  pub reasons_short : first_broken (common_rules f workRoom) ≡ none → ceiling ≤ 4096 → outputRoom < states f
+      → first_broken (distance_reasons f ceiling outputRoom workRoom) ≡ some 15
+  reasons_short e low short =
+      ceiling_low (common_rules f workRoom) ceiling (room_reason f outputRoom ∷ []) e low
+      ∙ ap (λ (b : Bool). some_if b 15 none) (lt-ltb outputRoom (states f) short)
 
   -- and one with as many breaks nothing
-  pub reasons-clear : firstBroken (commonRules f workRoom) ≡ none → ceiling ≤ 4096 → states f ≤ outputRoom
-      → firstBroken (distanceReasons f ceiling outputRoom workRoom) ≡ none
-  reasons-clear e low room =
-      ceiling-low (commonRules f workRoom) ceiling (roomReason f outputRoom ∷ []) e low
-      ∙ ap (λ (b : Bool). someIf b 15 none) (le-ltb outputRoom (states f) room)
+  pub reasons_clear : first_broken (common_rules f workRoom) ≡ none → ceiling ≤ 4096 → states f ≤ outputRoom
+      → first_broken (distance_reasons f ceiling outputRoom workRoom) ≡ none
+  reasons_clear e low room =
+      ceiling_low (common_rules f workRoom) ceiling (room_reason f outputRoom ∷ []) e low
+      ∙ ap (λ (b : Bool). some_if b 15 none) (le-ltb outputRoom (states f) room)
 
   -- where no reason holds the file is accepted, the ceiling is up to 4,096 and the output has an entry for each state
-  pub clear-reasons : firstBroken (distanceReasons f ceiling outputRoom workRoom) ≡ none
+  pub clear_reasons : first_broken (distance_reasons f ceiling outputRoom workRoom) ≡ none
       → Accepted f × (ceiling ≤ 4096) × (states f ≤ outputRoom)
-  clear-reasons e =
-      let own : List Reason = ceilingReason ceiling ∷ roomReason f outputRoom ∷ [] in
-      let common : firstBroken (commonRules f workRoom) ≡ none = append-clear (commonRules f workRoom) own e in
-      let (low, (room, end)) = none-clear own (sym (clear-append (commonRules f workRoom) own common) ∙ e) in
-      ((clear-common f workRoom common).0, nltb→le 4096 ceiling low, nltb→le outputRoom (states f) room)
+  clear_reasons e =
+      let own : List Reason = ceiling_reason ceiling ∷ room_reason f outputRoom ∷ [] in
+      let common : first_broken (common_rules f workRoom) ≡ none = append_clear (common_rules f workRoom) own e in
+      let (low, (room, end)) = none_clear own (sym (clear_append (common_rules f workRoom) own common) ∙ e) in
+      ((clear_common f workRoom common).0, nltb→le 4096 ceiling low, nltb→le outputRoom (states f) room)
 
 module _ (f : List ℕ) (ceiling : ℕ) (d : List ℕ) (workRoom : ℕ) where
   -- the answer is the call's, and so is the output afterwards
   abbrev pub DistancesAre : Outcome ℕ → List ℕ → Type 0
-  DistancesAre o d' = (o ≡ distancesOutcome f ceiling (length d) workRoom) × (d' ≡ distancesOutput f ceiling d workRoom)
+  DistancesAre o d' = (o ≡ distances_outcome f ceiling (length d) workRoom) × (d' ≡ distances_output f ceiling d workRoom)
 
   -- refused with the first reason that holds: the output is as before
-  pub distances-refused : (n : ℕ) → firstBroken (distanceReasons f ceiling (length d) workRoom) ≡ some n
+  pub distances_refused : (n : ℕ) → first_broken (distance_reasons f ceiling (length d) workRoom) ≡ some n
       → DistancesAre (refused n) d
-  distances-refused n e =
-      let t : Option (List ℕ) = some (distanceTable (graph_of f 0) ceiling) in
-      let is = call-broken (distanceReasons f ceiling (length d) workRoom) (states f) t n e in
-      (sym is.outcome-is, sym (call-answer d is))
+  distances_refused n e =
+      let t : Option (List ℕ) = some (distance_table (graph_of f 0) ceiling) in
+      let is = call_broken (distance_reasons f ceiling (length d) workRoom) (states f) t n e in
+      (sym is.outcome_is, sym (call_answer d is))
 
   -- not refused: the number of states, and the entries of all states from entry 0 on
-  pub distances-written : firstBroken (distanceReasons f ceiling (length d) workRoom) ≡ none
-      → (n : ℕ) → n ≡ states f → (d' : List ℕ) → d' ≡ written (some (distanceTable (graph_of f 0) ceiling)) d
+  pub distances_written : first_broken (distance_reasons f ceiling (length d) workRoom) ≡ none
+      → (n : ℕ) → n ≡ states f → (d' : List ℕ) → d' ≡ written (some (distance_table (graph_of f 0) ceiling)) d
       → DistancesAre (answered n) d'
-  distances-written e n q d' all =
-      let t : Option (List ℕ) = some (distanceTable (graph_of f 0) ceiling) in
-      let is = call_kept (distanceReasons f ceiling (length d) workRoom) (states f) n t t e (sym q) refl in
-      (sym is.outcome-is, all ∙ sym (call-answer d is))
+  distances_written e n q d' all =
+      let t : Option (List ℕ) = some (distance_table (graph_of f 0) ceiling) in
+      let is = call_kept (distance_reasons f ceiling (length d) workRoom) (states f) n t t e (sym q) refl in
+      (sym is.outcome_is, all ∙ sym (call_answer d is))
 
 -- the answer of a distance call with a given outcome
-abbrev readDistances : Outcome ℕ → DistancesAnswer
-readDistances (refused n) = DistancesAnswers.Refused n
-readDistances (answered entries) = DistancesAnswers.Written entries
+abbrev read_distances : Outcome ℕ → DistancesAnswer
+read_distances (refused n) = DistancesAnswers.Refused n
+read_distances (answered entries) = DistancesAnswers.Written entries
 
 -- a distance call's answer is read off its outcome
-readDistances-outcome : (a : DistancesAnswer) → readDistances (distancesOutcomeOf a) ≡ a
-readDistances-outcome (DistancesAnswers.Refused n) = refl
-readDistances-outcome (DistancesAnswers.Written entries) = refl
+read_distances_outcome : (a : DistancesAnswer) → read_distances (distances_outcome_of a) ≡ a
+read_distances_outcome (DistancesAnswers.Refused n) = refl
+read_distances_outcome (DistancesAnswers.Written entries) = refl
 
 -- equal outcomes of a distance call are of equal answers
-pub distances-lose-nothing : DistancesLoseNothing
-distances-lose-nothing = loses-nothing distancesOutcomeOf readDistances readDistances-outcome
+pub distances_lose_nothing : DistancesLoseNothing
+distances_lose_nothing = loses_nothing distances_outcome_of read_distances read_distances_outcome

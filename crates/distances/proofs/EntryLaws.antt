@@ -11,87 +11,87 @@ use lib.Seq.{take_all, paste, paste-suc, length-paste}
 use Rattle.lists.specs.Limit.{under}
 use Rattle.lasso.specs.Graph.{Graph}
 use Rattle.lasso.specs.Distance.{dist}
-use Rattle.lists.proofs.UnderLaws.{under-lt, under-ge}
-use Rattle.lists.proofs.BelowLaws.{map-below-at, map-below-length}
-use Rattle.numbers.specs.Limits.{notReached}
+use Rattle.lists.proofs.UnderLaws.{under_lt, under_ge}
+use Rattle.lists.proofs.BelowLaws.{map-below_at, map-below-length}
+use Rattle.numbers.specs.Limits.{not_reached}
 use Rattle.model.specs.declared.Header.{Header}
 use Rattle.model.specs.Values.{Valid}
-use Rattle.model.specs.Model.{graphIn, graph_of}
-use Rattle.model.proofs.Laws.{valid-sizes}
-use Rattle.gate.proofs.GateLaws.{named-graph}
+use Rattle.model.specs.Model.{graph_in, graph_of}
+use Rattle.model.proofs.Laws.{valid_sizes}
+use Rattle.gate.proofs.GateLaws.{named_graph}
 use Rattle.frontier.specs.Regions.{entry_of, value_of}
 use Rattle.candidates.specs.Promises.{StartDistances, StartDistancesPut}
 use Rattle.candidates.proofs.DistanceLaws.{entry_zero}
 use Rattle.outcomes.specs.Tables.{written}
-use Rattle.distances.specs.Distances.{entryFor, distanceEntry, distanceTable}
+use Rattle.distances.specs.Distances.{entry_for, distance_entry, distance_table}
 
 -- the entry from what the working table holds for a state
-abbrev pub fromStored : ℕ → ℕ → ℕ
-fromStored ceiling stored = entryFor (under (suc ceiling) (value_of stored))
+abbrev pub from_stored : ℕ → ℕ → ℕ
+from_stored ceiling stored = entry_for (under (suc ceiling) (value_of stored))
 
 -- a state without a distance is not reached
-pub stored-none : (ceiling stored : ℕ) → stored ≡ 0 → notReached ≡ fromStored ceiling stored
-stored-none ceiling stored e = sym (ap (fromStored ceiling) e)
+pub stored_none : (ceiling stored : ℕ) → stored ≡ 0 → not_reached ≡ from_stored ceiling stored
+stored_none ceiling stored e = sym (ap (from_stored ceiling) e)
 
 -- a distance that is not above the ceiling is the entry
-pub stored-within : (ceiling stored : ℕ) → 0 < stored → stored - 1 ≤ ceiling → stored - 1 ≡ fromStored ceiling stored
-stored-within ceiling zero some-distance low = absurd (omega arith)
-stored-within ceiling (suc d) some-distance low =
-    let e : suc d - 1 ≡ d = omega arith in e ∙ sym (ap entryFor (under-lt (suc ceiling) d (omega arith)))
+pub stored_within : (ceiling stored : ℕ) → 0 < stored → stored - 1 ≤ ceiling → stored - 1 ≡ from_stored ceiling stored
+stored_within ceiling zero some-distance low = absurd (omega arith)
+stored_within ceiling (suc d) some-distance low =
+    let e : suc d - 1 ≡ d = omega arith in e ∙ sym (ap entry_for (under_lt (suc ceiling) d (omega arith)))
 
 -- a state whose distance is above the ceiling has the entry of one that is not reached
-pub stored-above : (ceiling stored : ℕ) → 0 < stored → ceiling < stored - 1 → notReached ≡ fromStored ceiling stored
-stored-above ceiling zero some-distance high = absurd (omega arith)
-stored-above ceiling (suc d) some-distance high = sym (ap entryFor (under-ge (suc ceiling) d (omega arith)))
+pub stored_above : (ceiling stored : ℕ) → 0 < stored → ceiling < stored - 1 → not_reached ≡ from_stored ceiling stored
+stored_above ceiling zero some-distance high = absurd (omega arith)
+stored_above ceiling (suc d) some-distance high = sym (ap entry_for (under_ge (suc ceiling) d (omega arith)))
 
 -- what the working table holds for a distance gives the entry for it
-stored-entry : (ceiling stored : ℕ) (a : Option ℕ) → stored ≡ entry_of a
-    → fromStored ceiling stored ≡ entryFor (under (suc ceiling) a)
-stored-entry ceiling stored none e = ap (fromStored ceiling) e
-stored-entry ceiling stored (some d) e = ap (fromStored ceiling) e
+stored_entry : (ceiling stored : ℕ) (a : Option ℕ) → stored ≡ entry_of a
+    → from_stored ceiling stored ≡ entry_for (under (suc ceiling) a)
+stored_entry ceiling stored none e = ap (from_stored ceiling) e
+stored_entry ceiling stored (some d) e = ap (from_stored ceiling) e
 
 -- with the distances from the start in region 0, the entry of a state comes from the one at its place
-pub start-stored : {f : List ℕ} {h : Header} {w w' : List ℕ} → Valid f h → h.table ≡ 0 → StartDistancesPut (graphIn f h) w w'
-    → (ceiling s : ℕ) → s < h.states → fromStored ceiling (get_or w' s 0) ≡ distanceEntry (graph_of f 0) ceiling s
-start-stored {f} {h} {w} {w'} v first put ceiling s l =
+pub start_stored : {f : List ℕ} {h : Header} {w w' : List ℕ} → Valid f h → h.table ≡ 0 → StartDistancesPut (graph_in f h) w w'
+    → (ceiling s : ℕ) → s < h.states → from_stored ceiling (get_or w' s 0) ≡ distance_entry (graph_of f 0) ceiling s
+start_stored {f} {h} {w} {w'} v first put ceiling s l =
     let g : Graph = graph_of f 0 in
-    let sizes = valid-sizes v in
-    let there = subst (λ (x : Graph). StartDistances x w') (named-graph v first) put.start-distances in
+    let sizes = valid_sizes v in
+    let there = subst (λ (x : Graph). StartDistances x w') (named_graph v first) put.start_distances in
     let at : get_or w' s 0 ≡ entry_of (dist g g.start s) =
-    sym (entry_zero g.size w' s) ∙ there.distances s (omega (arith, sizes.states-are)) in
-    stored-entry ceiling (get_or w' s 0) (dist g g.start s) at
+    sym (entry_zero g.size w' s) ∙ there.distances s (omega (arith, sizes.states_are)) in
+    stored_entry ceiling (get_or w' s 0) (dist g g.start s) at
 
 -- the table has as many entries as there are states
-pub table-length : (g : Graph) (ceiling : ℕ) → length (distanceTable g ceiling) ≡ g.size
-table-length g ceiling = map-below-length (distanceEntry g ceiling) g.size
+pub table_length : (g : Graph) (ceiling : ℕ) → length (distance_table g ceiling) ≡ g.size
+table_length g ceiling = map-below-length (distance_entry g ceiling) g.size
 
 -- a state's entry stands at its own place
-pub table-at : (g : Graph) (ceiling s : ℕ) → s < g.size
-    → get_or (distanceTable g ceiling) s 0 ≡ distanceEntry g ceiling s
-table-at g ceiling s l = map-below-at (distanceEntry g ceiling) g.size s l
+pub table_at_state : (g : Graph) (ceiling s : ℕ) → s < g.size
+    → get_or (distance_table g ceiling) s 0 ≡ distance_entry g ceiling s
+table_at_state g ceiling s l = map-below_at (distance_entry g ceiling) g.size s l
 
 -- the entries of the states below s stand in front of the output, which is as before after them
 abbrev pub Written : Graph → ℕ → List ℕ → List ℕ → ℕ → Type 0
-Written g ceiling d d' s = d' ≡ paste d 0 (distanceTable g ceiling) s
+Written g ceiling d d' s = d' ≡ paste d 0 (distance_table g ceiling) s
 
 -- storing the entry of s writes one more
-pub written-more : (g : Graph) (ceiling : ℕ) (d d' : List ℕ) (s v : ℕ) → s < g.size → s < length d
-    → v ≡ distanceEntry g ceiling s → Written g ceiling d d' s → Written g ceiling d (set d' s v) (s + 1)
-written-more g ceiling d d' s v l room e before =
-    let t : List ℕ = distanceTable g ceiling in
+pub written_more : (g : Graph) (ceiling : ℕ) (d d' : List ℕ) (s v : ℕ) → s < g.size → s < length d
+    → v ≡ distance_entry g ceiling s → Written g ceiling d d' s → Written g ceiling d (set d' s v) (s + 1)
+written_more g ceiling d d' s v l room e before =
+    let t : List ℕ = distance_table g ceiling in
     let at : 0 + s ≡ s = omega arith in
     ap (λ (r : List ℕ). set r s v) before
-    ∙ ap (λ (x : ℕ). set (paste d 0 t s) s x) (e ∙ sym (table-at g ceiling s l))
+    ∙ ap (λ (x : ℕ). set (paste d 0 t s) s x) (e ∙ sym (table_at_state g ceiling s l))
     ∙ ap (λ (i : ℕ). set (paste d 0 t s) i (get_or t s 0)) (sym at)
-    ∙ paste-suc d 0 t s 0 (omega arith) (omega (arith, table-length g ceiling))
+    ∙ paste-suc d 0 t s 0 (omega arith) (omega (arith, table_length g ceiling))
     ∙ ap (λ (i : ℕ). paste d 0 t i) (sym (add-one s))
 
 -- with the entries of all states the whole table is written
 pub written_all : (g : Graph) (ceiling : ℕ) (d d' : List ℕ) (s : ℕ) → s ≡ g.size → Written g ceiling d d' s
-    → d' ≡ written (some (distanceTable g ceiling)) d
+    → d' ≡ written (some (distance_table g ceiling)) d
 written_all g ceiling d d' s e all =
-    let t : List ℕ = distanceTable g ceiling in
-    let long : length t ≡ s = table-length g ceiling ∙ sym e in
+    let t : List ℕ = distance_table g ceiling in
+    let long : length t ≡ s = table_length g ceiling ∙ sym e in
     let at : 0 + s ≡ length t = omega arith in
     all
     ∙ ap (λ (r : List ℕ). r ++ drop (0 + s) d) (take_all s t (omega arith))
@@ -102,4 +102,4 @@ pub written-length : (g : Graph) (ceiling : ℕ) (d d' : List ℕ) (s : ℕ) →
     → Written g ceiling d d' s → length d' ≡ length d
 written-length g ceiling d d' s l room before =
     ap length before
-    ∙ length-paste d 0 (distanceTable g ceiling) s (omega arith) (omega (arith, table-length g ceiling))
+    ∙ length-paste d 0 (distance_table g ceiling) s (omega arith) (omega (arith, table_length g ceiling))

@@ -4,8 +4,8 @@ ghost use Rattle.std.specs.Prelude.{◌≡◌, suc, ◌*◌, ◌≤◌, length};
 ghost use Rattle.lists.specs.Limit.{under};
 ghost use Rattle.frontier.specs.Regions.{value_of};
 ghost use Rattle.model.specs.Values.{Valid};
-ghost use Rattle.gate.specs.Gate.{workOf};
-ghost use Rattle.distances.specs.Distances.{entryFor, distancesOutcomeOf, distancesOutcome, distancesOutput};
+ghost use Rattle.gate.specs.Gate.{work_of};
+ghost use Rattle.distances.specs.Distances.{entry_for, distances_outcome_of, distances_outcome, distances_output};
 
 use candidates::start_distances;
 use gate::{ceiling_too_high, enter, leave};
@@ -14,7 +14,7 @@ use model::{Checked, Header};
 use numbers::{limit, reason};
 
 // The answer of a distance call: refused with a number, or the number of entries written.
-#[derive(Drop)]
+#[derive(Clone, Copy)]
 pub enum DistancesAnswer {
     Refused(u16),
     Written(u16),
@@ -25,7 +25,7 @@ const TABLE_NOT_NAMED: u16 = 0;
 
 // The entry of a state, from what the working table holds for it: one more than its distance, or 0 if it has none.
 fn entry_for(stored: u16, ceiling: Transitions) -> u16
-    ensures { result ≡ entryFor (under (suc ceiling.0) (value_of stored)) }
+    ensures { result ≡ entry_for (under (suc ceiling.0) (value_of stored)) }
 {
     if stored == 0 {
         return limit::NOT_REACHED;
@@ -48,11 +48,11 @@ fn distances_model(
 ) -> DistancesAnswer
     requires valid { Valid file.now h × (h.table ≡ 0) }
     requires states_in_bounds { 6 * h.states ≤ length work.old }
-    ensures outcome { distancesOutcomeOf result
-        ≡ distancesOutcome file.now ceiling.0
+    ensures outcome { distances_outcome_of result
+        ≡ distances_outcome file.now ceiling.0
         (length output.old) (length work.old) }
     ensures output { output.new
-        ≡ distancesOutput file.now ceiling.0 output.old (length work.old) }
+        ≡ distances_output file.now ceiling.0 output.old (length work.old) }
     ensures kept { length work.new ≡ length work.old }
 {
     let n = h.states;
@@ -80,12 +80,12 @@ pub fn distances(
     output: &mut [u16],
     work: &mut [u16],
 ) -> DistancesAnswer
-    ensures outcome { distancesOutcomeOf result
-        ≡ distancesOutcome file.now ceiling.0
+    ensures outcome { distances_outcome_of result
+        ≡ distances_outcome file.now ceiling.0
         (length output.old) (length work.old) }
     ensures output { output.new
-        ≡ distancesOutput file.now ceiling.0 output.old (length work.old) }
-    ensures work { work.new ≡ workOf file.now 0 work.old }
+        ≡ distances_output file.now ceiling.0 output.old (length work.old) }
+    ensures work { work.new ≡ work_of file.now 0 work.old }
 {
     let checked = enter(file, TABLE_NOT_NAMED, work);
     match checked {

@@ -5,11 +5,11 @@ use mathlib.Core.Logic.{◌⊎◌, inl, inr}
 use mathlib.Core.List.{List, [], ◌∷◌}
 use native.Mathlib.Omega.{arith}
 use lib.ListN.{length, get_or}
-use Rattle.lists.proofs.Tests.{lt-or-ge, memb-at, at-memb}
+use Rattle.lists.proofs.Tests.{lt_or_ge, memb_at, at_memb}
 use Rattle.frontier.specs.Regions.{entry, queued}
 use Rattle.frontier.specs.Buckets.{sources, Planned}
 use Rattle.frontier.specs.Search.{Hit, step, ReachedBy, State, Reached}
-use Rattle.frontier.proofs.PushLaws.{reach-state, reach-kept, reach-queue, reach_here}
+use Rattle.frontier.proofs.PushLaws.{reach_state, reach_kept, reach_queue, reach_here}
 
 -- a place of region 3 holds the queue's state after those before it
 pub queued-entry : (n place : ℕ) (w : List ℕ) → 3 * n ≤ place → get_or w place 0 ≡ entry 3 n w (queued n place)
@@ -18,8 +18,8 @@ queued-entry n place w l =
     ap (λ (i : ℕ). get_or w i 0) q
 
 -- after the plan nothing is reached and the queue is empty
-pub planned-state : {n limit target : ℕ} {succs : ℕ → List ℕ} {w₀ w : List ℕ} → limit ≤ n → 6 * n ≤ length w → Planned n limit w₀ w → State n succs limit target w₀ 0 0 0 0 w
-planned-state l fits P =
+pub planned_state : {n limit target : ℕ} {succs : ℕ → List ℕ} {w₀ w : List ℕ} → limit ≤ n → 6 * n ≤ length w → Planned n limit w₀ w → State n succs limit target w₀ 0 0 0 0 w
+planned_state l fits P =
     record {
       limited = l;
       fits = fits;
@@ -38,8 +38,8 @@ planned-state l fits P =
             once = λ i j h k e. absurd (omega arith);
             ordered = λ i j h k. absurd (omega arith);
           };
-      at-end = omega arith;
-      end-count = omega arith;
+      at_end = omega arith;
+      end_count = omega arith;
       earlier = λ i h. absurd (omega arith);
       present = λ i h k. absurd (omega arith);
       later = λ i h k. absurd (omega arith);
@@ -55,8 +55,8 @@ pub record InRow (n : ℕ) (succs : ℕ → List ℕ) (limit target : ℕ) (w₀
   pub missed : (j : ℕ) → j < k → get_or (succs s) j 0 ≡ target → ⊥
 
 -- before the first successor
-pub row-start : {n limit target v at end count s : ℕ} {succs : ℕ → List ℕ} {w₀ w : List ℕ} → at < end → s ≡ entry 3 n w at → State n succs limit target w₀ v at end count w → InRow n succs limit target w₀ v at end count s 0 w
-row-start l e S =
+pub row_start : {n limit target v at end count s : ℕ} {succs : ℕ → List ℕ} {w₀ w : List ℕ} → at < end → s ≡ entry 3 n w at → State n succs limit target w₀ v at end count w → InRow n succs limit target w₀ v at end count s 0 w
+row_start l e S =
     record {
       state = S;
       turn = l;
@@ -67,43 +67,43 @@ row-start l e S =
 
 module _ {n limit target at end count s k : ℕ} {succs : ℕ → List ℕ} {w₀ w : List ℕ} (level : ℕ) (R : InRow n succs limit target w₀ (level + 1) at end count s k w) where
   -- the queue has a state at its turn
-  row-queued : at < count
-  row-queued = omega (arith, R.turn, R.state.end-count)
+  row_queued : at < count
+  row_queued = omega (arith, R.turn, R.state.end_count)
 
   -- s is a state
   pub row_inside : s < n
-  row_inside = rw R.here at (R.state.queue.states at row-queued)
+  row_inside = rw R.here at (R.state.queue.states at row_queued)
 
   -- s is of the level
-  pub row-level : entry 2 n w s ≡ level + 1
-  row-level = rw R.here at (R.state.present at (omega arith) R.turn)
+  pub row_level : entry 2 n w s ≡ level + 1
+  row_level = rw R.here at (R.state.present at (omega arith) R.turn)
 
   -- s is hit at the level
-  pub row-hit : Hit n succs (sources n limit w₀) level s
-  row-hit = R.state.sound level s row_inside (omega (arith, row-level))
+  pub row_hit : Hit n succs (sources n limit w₀) level s
+  row_hit = R.state.sound level s row_inside (omega (arith, row_level))
 
   -- one more successor is reached
   pub row_step : {r : ℕ} {w' : List ℕ} (t : ℕ) → t ≡ get_or (succs s) k 0 → k < length (succs s) → t < n → (t ≡ target → ⊥) → Reached n t (level + 1 + 1) count w w' r → InRow n succs limit target w₀ (level + 1) at end r s (k + 1) w'
   row_step t e l i d Q =
       record {
-        state = reach-state t (level + 1 + 1) R.state i (omega arith) (step row-hit (rw e (at-memb (succs s) k l)) (omega arith)) Q;
+        state = reach_state t (level + 1 + 1) R.state i (omega arith) (step row_hit (rw e (at_memb (succs s) k l)) (omega arith)) Q;
         turn = R.turn;
-        here = reach-queue t (level + 1 + 1) R.state i at row-queued Q ∙ R.here;
+        here = reach_queue t (level + 1 + 1) R.state i at row_queued Q ∙ R.here;
         passed = λ j h.
-            elim (lt-or-ge j k) [
-              | inl m ↦ reach-kept t (level + 1 + 1) R.state i Q (R.passed j m)
+            elim (lt_or_ge j k) [
+              | inl m ↦ reach_kept t (level + 1 + 1) R.state i Q (R.passed j m)
               | inr m ↦ let q : j ≡ k = omega arith in rw (q, ← e) (reach_here t (level + 1 + 1) R.state i (omega arith) Q)
             ];
         missed = λ j h f.
-            elim (lt-or-ge j k) [
+            elim (lt_or_ge j k) [
               | inl m ↦ R.missed j m f
               | inr m ↦ let q : j ≡ k = omega arith in d (e ∙ (rw q at f))
             ];
       }
 
   -- a state whose only successor is itself, and not the target, has been looked at: it is reached already
-  row-alone : succs s ≡ s ∷ [] → (s ≡ target → ⊥) → InRow n succs limit target w₀ (level + 1) at end count s 1 w
-  row-alone e d =
+  row_alone : succs s ≡ s ∷ [] → (s ≡ target → ⊥) → InRow n succs limit target w₀ (level + 1) at end count s 1 w
+  row_alone e d =
       let only : (j : ℕ) → j < 1 → get_or (succs s) j 0 ≡ s =
       λ j l. let q : j ≡ 0 = omega arith in ap₂ (λ (ts : List ℕ) (i : ℕ). get_or ts i 0) e q in
       record {
@@ -112,7 +112,7 @@ module _ {n limit target at end count s k : ℕ} {succs : ℕ → List ℕ} {w�
         here = R.here;
         passed = λ j l.
             rw (only j l)
-            (record { inside = row_inside; reached = omega (arith, row-level); by = omega (arith, row-level) });
+            (record { inside = row_inside; reached = omega (arith, row_level); by = omega (arith, row_level) });
         missed = λ j l f. d (sym (only j l) ∙ f);
       }
 
@@ -128,46 +128,46 @@ module _ {n limit target at end count s k : ℕ} {succs : ℕ → List ℕ} {w�
         sound = S.sound;
         started = S.started;
         passed = λ i t h m.
-            elim (lt-or-ge i at) [
+            elim (lt_or_ge i at) [
               | inl p ↦ S.passed i t p m
               | inr p ↦
                   let q : i ≡ at = omega arith in
-                  let x : (j : ℕ) × (j < length (succs s)) × (get_or (succs s) j 0 ≡ t) = memb-at t (succs s) (rw (q, R.here) at m) in
-                  rw (q, R.here, row-level) (rw x.2 at (R.passed x.0 (omega arith)))
+                  let x : (j : ℕ) × (j < length (succs s)) × (get_or (succs s) j 0 ≡ t) = memb_at t (succs s) (rw (q, R.here) at m) in
+                  rw (q, R.here, row_level) (rw x.2 at (R.passed x.0 (omega arith)))
             ];
         missed = λ i h m.
-            elim (lt-or-ge i at) [
+            elim (lt_or_ge i at) [
               | inl p ↦ S.missed i p m
               | inr p ↦
                   let q : i ≡ at = omega arith in
-                  let x : (j : ℕ) × (j < length (succs s)) × (get_or (succs s) j 0 ≡ target) = memb-at target (succs s) (rw (q, R.here) at m) in
+                  let x : (j : ℕ) × (j < length (succs s)) × (get_or (succs s) j 0 ≡ target) = memb_at target (succs s) (rw (q, R.here) at m) in
                   R.missed x.0 (omega arith) x.2
             ];
         queue = S.queue;
-        at-end = omega (arith, R.turn);
-        end-count = S.end-count;
+        at_end = omega (arith, R.turn);
+        end_count = S.end_count;
         earlier = λ i h.
-            elim (lt-or-ge i at) [
+            elim (lt_or_ge i at) [
               | inl p ↦ S.earlier i p
-              | inr p ↦ let q : i ≡ at = omega arith in rw (q, R.here) (omega (arith, row-level))
+              | inr p ↦ let q : i ≡ at = omega arith in rw (q, R.here) (omega (arith, row_level))
             ];
         present = λ i h k. S.present i (omega arith) k;
         later = S.later;
       }
 
 -- all edges es have been looked at, and if there is one step to the state itself instead, it does not lead into the target
-pub row-end :
+pub row_end :
     {n limit target at end count s k next : ℕ} {succs : ℕ → List ℕ} {w₀ w : List ℕ} (level : ℕ)
     → InRow n succs limit target w₀ (level + 1) at end count s k w
     → (es : List ℕ) → (succs s ≡ es) ⊎ (succs s ≡ s ∷ []) → length es ≤ k
     → (succs s ≡ s ∷ [] → s ≡ target → ⊥) → next ≡ at + 1
     → State n succs limit target w₀ (level + 1) next end count w
-row-end level R es (inl e) l apart q = row_done level R q (omega (arith, ap length e))
-row-end level R es (inr e) l apart q = row_done level (row-alone level R e (apart e)) q (omega (arith, ap length e))
+row_end level R es (inl e) l apart q = row_done level R q (omega (arith, ap length e))
+row_end level R es (inr e) l apart q = row_done level (row_alone level R e (apart e)) q (omega (arith, ap length e))
 
 -- all states of the level have been looked at: those after them are the next level's
-pub level-done : {n limit target v at end count : ℕ} {succs : ℕ → List ℕ} {w₀ w : List ℕ} → end ≤ at → State n succs limit target w₀ v at end count w → State n succs limit target w₀ v at at count w
-level-done l S =
+pub level_done : {n limit target v at end count : ℕ} {succs : ℕ → List ℕ} {w₀ w : List ℕ} → end ≤ at → State n succs limit target w₀ v at end count w → State n succs limit target w₀ v at at count w
+level_done l S =
     record {
       limited = S.limited;
       fits = S.fits;
@@ -178,8 +178,8 @@ level-done l S =
       passed = S.passed;
       missed = S.missed;
       queue = S.queue;
-      at-end = omega arith;
-      end-count = omega (arith, S.at-end, S.end-count);
+      at_end = omega arith;
+      end_count = omega (arith, S.at_end, S.end_count);
       earlier = S.earlier;
       present = λ i h k. absurd (omega arith);
       later = λ i h k. S.later i (omega arith) k;

@@ -9,20 +9,20 @@ use Rattle.frontier.specs.Regions.{entry, entry_of}
 use Rattle.frontier.specs.Buckets.{sources, Planned}
 use Rattle.frontier.specs.Search.{Queue}
 use Rattle.lists.specs.Limit.{under}
-use Rattle.hits.specs.Hit.{hitLevel, hitLength}
+use Rattle.hits.specs.Hit.{hit_level, hit_length}
 
 -- a walk from a source into the target was found: its length is the least, and at most the limit
 pub record FoundFrom (g : Graph) (source : ℕ → Option ℕ) (limit target : ℕ) (w w' : List ℕ) (l : ℕ) : Type 0 where
   pub outside : SameOutside (2 * g.size) (6 * g.size) w w'
-  pub length : under (suc limit) (hitLength g source target) ≡ some l
+  pub length : under (suc limit) (hit_length g source target) ≡ some l
 
 -- no walk from a source into the target has a length up to the limit: region 2 holds the level at which each state is
 -- first hit, up to and including the limit, and region 3 the states reached
 pub record ExhaustedFrom (g : Graph) (source : ℕ → Option ℕ) (limit target : ℕ) (w w' : List ℕ) (count : ℕ)
     : Type 0 where
   pub outside : SameOutside (2 * g.size) (6 * g.size) w w'
-  pub length : under (suc limit) (hitLength g source target) ≡ none
-  pub levels : (t : ℕ) → t < g.size → entry 2 g.size w' t ≡ entry_of (under (suc limit) (hitLevel g source t))
+  pub length : under (suc limit) (hit_length g source target) ≡ none
+  pub levels : (t : ℕ) → t < g.size → entry 2 g.size w' t ≡ entry_of (under (suc limit) (hit_level g source t))
   pub queue : Queue g.size count w'
 
 -- what a search from the sources leaves, by its answer

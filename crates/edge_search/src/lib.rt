@@ -1,8 +1,10 @@
 // The search by the edges of the file, breadth-first by levels, from listed sources. The working table has the regions of
 // the frontier.
+#![tactic(auto)]
+
 ghost use Rattle.std.specs.Prelude.{◌*◌, ◌≤◌, ◌<◌, length};
 ghost use Rattle.model.specs.Values.{Valid};
-ghost use Rattle.model.specs.Model.{graphIn};
+ghost use Rattle.model.specs.Model.{graph_in};
 ghost use Rattle.table.specs.Changes.{SameOutside};
 ghost use Rattle.frontier.specs.Buckets.{HasPlan};
 ghost use Rattle.edge_search.specs.Promises.{ApartInPlan, SearchedFromPlan};
@@ -13,7 +15,7 @@ use table::get;
 
 // The answer of a search: the length at which an edge into the target was found, or that there is none, with the
 // number of states reached.
-#[derive(Drop)]
+#[derive(Clone, Copy)]
 pub enum SpreadAnswer {
     Length(usize),
     Nothing(usize),
@@ -34,8 +36,8 @@ pub fn search_edges(
     requires limit_le_states { limit ≤ h.states }
     requires states_in_bounds { 6 * h.states ≤ length work.old }
     requires has_plan { HasPlan h.states limit work.old }
-    requires apart_in_plan { ApartInPlan (graphIn file.now h) limit target work.old }
-    ensures left { SearchedFromPlan (graphIn file.now h) limit target
+    requires apart_in_plan { ApartInPlan (graph_in file.now h) limit target work.old }
+    ensures left { SearchedFromPlan (graph_in file.now h) limit target
         work.old work.new result }
     ensures same { SameOutside (2 * h.states) (4 * h.states) work.old work.new }
 {

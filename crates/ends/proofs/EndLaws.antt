@@ -7,19 +7,19 @@ use mathlib.Core.List.{List, ◌∷◌}
 use lib.ListN.{length, get_or, set}
 use lib.Seq.{get_or-set_same, get_or-set_other}
 use Rattle.lasso.specs.Graph.{Graph, WellFormed}
-use Rattle.lists.proofs.Tests.{lt-or-ge}
+use Rattle.lists.proofs.Tests.{lt_or_ge}
 use Rattle.table.specs.Changes.{SameOutside}
-use Rattle.table.proofs.Laws.{sameOutside-refl, sameOutside-sym, sameOutside-set}
+use Rattle.table.proofs.Laws.{same_outside_refl, same_outside_sym, same_outside_set}
 use Rattle.frontier.specs.Regions.{entry}
-use Rattle.current.proofs.CurrentLaws.{list-kept}
+use Rattle.current.proofs.CurrentLaws.{list_kept}
 use Rattle.looks.specs.Looks.{GoalAt, Closes, FlagFor}
 use Rattle.ends.specs.Ends.{MarkedEnd, FlagMore, as_before, flagged, ClosingPut, MarkedPut}
 
 -- a change of region 4 keeps goals
-pub goal-same : {n bound y : ℕ} {w w' : List ℕ} (start : ℕ) → SameOutside (4 * n) (5 * n) w w' → bound ≤ n → y < n → GoalAt n start w bound y → GoalAt n start w' bound y
-goal-same {n} {bound} {y} {w} {w'} start same low h (odd, least, most, holds) =
-    let e : entry 1 n w' y ≡ entry 1 n w y = same.same-before (1 * n + y) (omega arith) in
-    let place : get_or (start ∷ w') (entry 1 n w y / 2 - 1) 0 ≡ get_or (start ∷ w) (entry 1 n w y / 2 - 1) 0 = list-kept start (entry 1 n w y / 2 - 1) same (omega arith) in
+pub goal_same : {n bound y : ℕ} {w w' : List ℕ} (start : ℕ) → SameOutside (4 * n) (5 * n) w w' → bound ≤ n → y < n → GoalAt n start w bound y → GoalAt n start w' bound y
+goal_same {n} {bound} {y} {w} {w'} start same low h (odd, least, most, holds) =
+    let e : entry 1 n w' y ≡ entry 1 n w y = same.same_before (1 * n + y) (omega arith) in
+    let place : get_or (start ∷ w') (entry 1 n w y / 2 - 1) 0 ≡ get_or (start ∷ w) (entry 1 n w y / 2 - 1) 0 = list_kept start (entry 1 n w y / 2 - 1) same (omega arith) in
     subst (λ (x : ℕ). (x % 2 ≡ 1) × (1 ≤ x / 2) × (x / 2 ≤ bound) × (get_or (start ∷ w') (x / 2 - 1) 0 ≡ y)) (sym e) (odd, least, most, place ∙ holds)
 
 -- a flag is at most 1
@@ -28,31 +28,31 @@ flag_small P zero h = omega arith
 flag_small P (suc v) h = omega (arith, h.1)
 
 -- a flag for an equivalent statement
-flag-iff : {P Q : Type 0} (v : ℕ) → (P → Q) → (Q → P) → FlagFor P v → FlagFor Q v
-flag-iff zero to back h = λ x. h (back x)
-flag-iff (suc v) to back h = (to h.0, h.1)
+flag_iff : {P Q : Type 0} (v : ℕ) → (P → Q) → (Q → P) → FlagFor P v → FlagFor Q v
+flag_iff zero to back h = λ x. h (back x)
+flag_iff (suc v) to back h = (to h.0, h.1)
 
 -- what closes after a change of region 4 closed before
-closes-same : {g : Graph} {n level bound s : ℕ} {w w' : List ℕ} (start : ℕ) → WellFormed g → g.size ≡ n → SameOutside (4 * n) (5 * n) w w' → bound ≤ n → s < n → Closes g n start w level bound s → Closes g n start w' level bound s
-closes-same {g} {n} {level} {bound} {s} start wf size same low h (at, (y, edge, goal)) =
-    (same.same-before (2 * n + s) (omega arith) ∙ at, (y, edge, goal-same start same low (omega (arith, (wf.edge-states s y edge).1)) goal))
+closes_same : {g : Graph} {n level bound s : ℕ} {w w' : List ℕ} (start : ℕ) → WellFormed g → g.size ≡ n → SameOutside (4 * n) (5 * n) w w' → bound ≤ n → s < n → Closes g n start w level bound s → Closes g n start w' level bound s
+closes_same {g} {n} {level} {bound} {s} start wf size same low h (at, (y, edge, goal)) =
+    (same.same_before (2 * n + s) (omega arith) ∙ at, (y, edge, goal_same start same low (omega (arith, (wf.edge_states s y edge).1)) goal))
 
 -- at first no flag is put
-pub closing-none : (g : Graph) (n start level bound : ℕ) (w : List ℕ) → ClosingPut g n start level bound 0 w w
-closing-none g n start level bound w = record { outside = sameOutside-refl (4 * n) (5 * n) w; put = λ s h. absurd (omega arith) }
+pub closing_none : (g : Graph) (n start level bound : ℕ) (w : List ℕ) → ClosingPut g n start level bound 0 w w
+closing_none g n start level bound w = record { outside = same_outside_refl (4 * n) (5 * n) w; put = λ s h. absurd (omega arith) }
 
 -- one more is
-pub closing-more : (g : Graph) (n start level bound i : ℕ) (w w' : List ℕ) (v : ℕ) → WellFormed g → g.size ≡ n → bound ≤ n → i < n → 5 * n ≤ length w
+pub closing_more : (g : Graph) (n start level bound i : ℕ) (w w' : List ℕ) (v : ℕ) → WellFormed g → g.size ≡ n → bound ≤ n → i < n → 5 * n ≤ length w
     → ClosingPut g n start level bound i w w' → FlagFor (Closes g n start w' level bound i) v → ClosingPut g n start level bound (i + 1) w (set w' (4 * n + i) v)
-closing-more g n start level bound i w w' v wf size low h room o flag =
+closing_more g n start level bound i w w' v wf size low h room o flag =
     record {
-      outside = sameOutside-set (4 * n + i) v (omega arith) (omega arith) o.outside;
-      put = λ s k. elim (lt-or-ge s i) [
+      outside = same_outside_set (4 * n + i) v (omega arith) (omega arith) o.outside;
+      put = λ s k. elim (lt_or_ge s i) [
         | inl less ↦ subst (FlagFor (Closes g n start w level bound s)) (sym (other s (omega arith))) (o.put s less)
         | inr ge ↦
             let z : i ≡ s = omega arith in
             subst (λ (x : ℕ). FlagFor (Closes g n start w level bound x) (entry 4 n (set w' (4 * n + i) v) x)) z
-            (subst (FlagFor (Closes g n start w level bound i)) (sym here) (flag-iff v (closes-same start wf size (sameOutside-sym o.outside) low h) (closes-same start wf size o.outside low h) flag))
+            (subst (FlagFor (Closes g n start w level bound i)) (sym here) (flag_iff v (closes_same start wf size (same_outside_sym o.outside) low h) (closes_same start wf size o.outside low h) flag))
       ];
     }
   where
@@ -63,26 +63,26 @@ closing-more g n start level bound i w w' v wf size low h room o flag =
     here = get_or-set_same w' (4 * n + i) v 0 (omega (arith, o.outside.same_length))
 
 -- at first no marked end is flagged
-pub marked-none : (g : Graph) (n : ℕ) (w : List ℕ) → MarkedPut g n 0 w w
-marked-none g n w = record { outside = sameOutside-refl (4 * n) (5 * n) w; put = λ s h. absurd (omega arith); rest = λ s p h. refl }
+pub marked_none : (g : Graph) (n : ℕ) (w : List ℕ) → MarkedPut g n 0 w w
+marked_none g n w = record { outside = same_outside_refl (4 * n) (5 * n) w; put = λ s h. absurd (omega arith); rest = λ s p h. refl }
 
 -- more flags for an equivalent statement
-more-iff : {P Q : Type 0} {old old' r : ℕ} → (P → Q) → (Q → P) → old ≡ old' → FlagMore P old r → FlagMore Q old' r
-more-iff to back e (as_before q never) = as_before (q ∙ e) (λ x. never (back x))
-more-iff to back e (flagged q p) = flagged q (to p)
+more_iff : {P Q : Type 0} {old old' r : ℕ} → (P → Q) → (Q → P) → old ≡ old' → FlagMore P old r → FlagMore Q old' r
+more_iff to back e (as_before q never) = as_before (q ∙ e) (λ x. never (back x))
+more_iff to back e (flagged q p) = flagged q (to p)
 
 -- one more is
 pub marked_more : (g : Graph) (n i : ℕ) (w w' : List ℕ) (v : ℕ) → i < n → 6 * n ≤ length w → MarkedPut g n i w w'
     → FlagMore (MarkedEnd g n w' i) (entry 4 n w' i) v → MarkedPut g n (i + 1) w (set w' (4 * n + i) v)
 marked_more g n i w w' v h room o flag =
     record {
-      outside = sameOutside-set (4 * n + i) v (omega arith) (omega arith) o.outside;
-      put = λ s k. elim (lt-or-ge s i) [
+      outside = same_outside_set (4 * n + i) v (omega arith) (omega arith) o.outside;
+      put = λ s k. elim (lt_or_ge s i) [
         | inl less ↦ subst (FlagMore (MarkedEnd g n w s) (entry 4 n w s)) (sym (other s (omega arith))) (o.put s less)
         | inr ge ↦
             let z : i ≡ s = omega arith in
             subst (λ (x : ℕ). FlagMore (MarkedEnd g n w x) (entry 4 n w x) (entry 4 n (set w' (4 * n + i) v) x)) z
-            (subst (FlagMore (MarkedEnd g n w i) (entry 4 n w i)) (sym here) (more-iff before after (o.rest i (omega arith) h) flag))
+            (subst (FlagMore (MarkedEnd g n w i) (entry 4 n w i)) (sym here) (more_iff before after (o.rest i (omega arith) h) flag))
       ];
       rest = λ s p k. other s (omega arith) ∙ o.rest s (omega arith) k;
     }
@@ -94,7 +94,7 @@ marked_more g n i w w' v h room o flag =
     here = get_or-set_same w' (4 * n + i) v 0 (omega (arith, o.outside.same_length))
 
     two : entry 2 n w' i ≡ entry 2 n w i
-    two = o.outside.same-before (2 * n + i) (omega arith)
+    two = o.outside.same_before (2 * n + i) (omega arith)
 
     five : entry 5 n w' i ≡ entry 5 n w i
     five = o.outside.same_after (5 * n + i) (omega arith)

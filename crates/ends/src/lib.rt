@@ -2,7 +2,7 @@
 // states whose entries in two regions are the same.
 ghost use Rattle.std.specs.Prelude.{◌*◌, ◌≤◌, ◌<◌, length};
 ghost use Rattle.model.specs.Values.{Valid};
-ghost use Rattle.model.specs.Model.{graphIn};
+ghost use Rattle.model.specs.Model.{graph_in};
 ghost use Rattle.frontier.specs.Regions.{entry};
 ghost use Rattle.ends.specs.Ends.{MarkedEnd, FlagMore, ClosingPut, MarkedPut};
 
@@ -16,7 +16,7 @@ pub fn flag_closing(file: &[u8], h: Header, work: &mut [u16], level: usize, boun
     requires states_in_bounds { 6 * h.states ≤ length work.old }
     requires level_le_states { level ≤ h.states }
     requires bound_le_states { bound ≤ h.states }
-    ensures { ClosingPut (graphIn file.now h) h.states h.start level bound h.states
+    ensures { ClosingPut (graph_in file.now h) h.states h.start level bound h.states
         work.old work.new }
 {
     let n = h.states;
@@ -33,7 +33,7 @@ fn marked_flag(file: &[u8], h: Header, work: &[u16], s: usize) -> usize
     requires valid { Valid file.now h }
     requires states_in_bounds { 6 * h.states ≤ length work.now }
     requires s_lt_states { s < h.states }
-    ensures flag { FlagMore (MarkedEnd (graphIn file.now h) h.states work.now s)
+    ensures flag { FlagMore (MarkedEnd (graph_in file.now h) h.states work.now s)
         (entry 4 h.states work.now s) result }
     ensures small { result < 65536 }
 {
@@ -56,7 +56,7 @@ fn marked_flag(file: &[u8], h: Header, work: &[u16], s: usize) -> usize
 pub fn flag_marked(file: &[u8], h: Header, work: &mut [u16])
     requires valid { Valid file.now h }
     requires states_in_bounds { 6 * h.states ≤ length work.old }
-    ensures { MarkedPut (graphIn file.now h) h.states h.states
+    ensures { MarkedPut (graph_in file.now h) h.states h.states
         work.old work.new }
 {
     let n = h.states;

@@ -2,5 +2,5 @@
 use mathlib.Core.Path.{refl}
 use Rattle.examples.specs.Distances.{DistancesHold}
 
-pub distances-hold : DistancesHold
-distances-hold = refl
+pub distances_hold : DistancesHold
+distances_hold = refl

@@ -2,5 +2,5 @@
 use mathlib.Core.Path.{refl}
 use Rattle.examples.specs.Grades.{GradesHold}
 
-pub grades-hold : GradesHold
-grades-hold = refl
+pub grades_hold : GradesHold
+grades_hold = refl

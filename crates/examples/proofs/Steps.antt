@@ -2,5 +2,5 @@
 use mathlib.Core.Path.{refl}
 use Rattle.examples.specs.Steps.{StepsHold}
 
-pub steps-hold : StepsHold
-steps-hold = refl
+pub steps_hold : StepsHold
+steps_hold = refl

@@ -12,32 +12,32 @@ pub record Report : Type 0 where
   pub figures : List ℕ
 
 -- whether there is one, a best length or a place: 0 for none, else 1
-abbrev pub isThere : Option ℕ → ℕ
-isThere none = 0
-isThere (some x) = 1
+abbrev pub is_there : Option ℕ → ℕ
+is_there none = 0
+is_there (some x) = 1
 
 -- the best length: 0 for none
-abbrev pub bestFigure : Option ℕ → ℕ
-bestFigure none = 0
-bestFigure (some l) = l
+abbrev pub best_figure : Option ℕ → ℕ
+best_figure none = 0
+best_figure (some l) = l
 
 -- the three figures of a record: the rounds done, whether there is a best length, and that length
-abbrev pub recordFigures : Record → List ℕ
-recordFigures rec = rec.done ∷ isThere rec.best ∷ bestFigure rec.best ∷ []
+abbrev pub record_figures : Record → List ℕ
+record_figures rec = rec.done ∷ is_there rec.best ∷ best_figure rec.best ∷ []
 
 -- the record that three figures stand for: every `has` but 0 says that there is a best length
-abbrev pub recordGiven : (done has best : ℕ) → Record
-recordGiven done has best = record { done = done; best = pick (eqb has 0) none (some best) }
+abbrev pub record_given : (done has best : ℕ) → Record
+record_given done has best = record { done = done; best = pick (eqb has 0) none (some best) }
 
 -- a refusal: its number stands for the kind, and there are no figures
 abbrev pub refusal : ℕ → Report
 refusal n = record { kind = n; figures = [] }
 
 -- a combination or a distance call: 107 written (bytes of the one, entries of the other)
-abbrev pub writtenReport : Outcome ℕ → Report
-writtenReport (refused n) = refusal n
-writtenReport (answered count) = record { kind = 107; figures = count ∷ [] }
+abbrev pub written_report : Outcome ℕ → Report
+written_report (refused n) = refusal n
+written_report (answered count) = record { kind = 107; figures = count ∷ [] }
 
 -- a table afterwards: the figures from entry 0 on; later entries do not change
-abbrev pub figuresIn : List ℕ → Report → List ℕ
-figuresIn out r = written (some r.figures) out
+abbrev pub figures_in : List ℕ → Report → List ℕ
+figures_in out r = written (some r.figures) out

@@ -1,11 +1,13 @@
 // The figures of answers, for callers that have no enums: a kind, and figures at the front of a lent table. A refusal is its
 // number, and has no figures; every other answer is a kind above 100.
+#![tactic(auto)]
+
 ghost use Rattle.std.specs.Prelude.{◌≡◌, ◌≤◌, length};
 ghost use Rattle.std.proofs.Math.Option.{some};
-ghost use Rattle.lasso.specs.Values.{recordOf};
+ghost use Rattle.lasso.specs.Values.{record_of};
 ghost use Rattle.outcomes.specs.Tables.{written};
-ghost use Rattle.figures.specs.Kinds.{recordFigures};
-ghost use Rattle.figures.specs.Short.{tooFew};
+ghost use Rattle.figures.specs.Kinds.{record_figures};
+ghost use Rattle.figures.specs.Short.{too_few};
 
 use lasso::{Best, RoundRecord};
 
@@ -38,7 +40,7 @@ const OUT_ENTRIES: usize = 4;
 
 // So many entries are too few for the table for the figures.
 pub fn too_few(entries: usize) -> bool
-    ensures { result ≡ tooFew entries }
+    ensures { result ≡ too_few entries }
 {
     entries < OUT_ENTRIES
 }
@@ -61,7 +63,7 @@ pub fn report_figures(kind: u16, figures: &[u16], out: &mut [u16]) -> u16
 pub fn report_record(kind: u16, r: RoundRecord, out: &mut [u16]) -> u16
     requires { 3 ≤ length out.old }
     ensures kind { result ≡ kind }
-    ensures out { out.new ≡ written (some (recordFigures (recordOf r))) out.old }
+    ensures out { out.new ≡ written (some (record_figures (record_of r))) out.old }
 {
     let done = r.done;
     let best = r.best;

@@ -2,26 +2,26 @@
 use Rattle.std.specs.Prelude.{ℕ, suc, ◌+◌, ◌*◌, ◌/◌, ◌%◌, ◌≤◌, ◌<◌, ◌≡◌, List, [], ◌∷◌, ◌++◌, length, get_or, T}
 use Rattle.std.proofs.Math.Option.{some}
 use Rattle.lasso.specs.Graph.{Graph}
-use Rattle.lasso.specs.Roll.{leastLength}
+use Rattle.lasso.specs.Roll.{least_length}
 use Rattle.lasso.specs.Extends.{Extends}
 use Rattle.model.specs.declared.Header.{Header}
 use Rattle.model.specs.Values.{Valid}
-use Rattle.model.specs.Model.{graphIn}
+use Rattle.model.specs.Model.{graph_in}
 use Rattle.frontier.specs.Regions.{entry}
-use Rattle.current.specs.Current.{listIn, stateAt}
+use Rattle.current.specs.Current.{list_in, state_at}
 use Rattle.stems.specs.Stems.{StemEntries}
 
 -- what stands in the list up to a place are states
 abbrev pub StatesTo : Header → List ℕ → ℕ → Type 0
-StatesTo h w place = (k : ℕ) → k ≤ place → stateAt h w k < h.states
+StatesTo h w place = (k : ℕ) → k ≤ place → state_at h w k < h.states
 
 -- what is prepared for the lists: an accepted file with its header, room for the regions, the least length of an
 -- accepting path, and the stems in region 1
 pub record Prepared (f : List ℕ) (h : Header) (w : List ℕ) (l : ℕ) : Type 0 where
   pub valid : Valid f h
   pub room : 6 * h.states ≤ length w
-  pub least : leastLength (graphIn f h) ≡ some l
-  pub stems : StemEntries (graphIn f h) l w
+  pub least : least_length (graph_in f h) ≡ some l
+  pub stems : StemEntries (graph_in f h) l w
 
 -- region 1 says that state t stands on a stem at the place after the given one
 abbrev pub OnStem : ℕ → List ℕ → ℕ → ℕ → Type 0
@@ -45,4 +45,4 @@ ClosesStart n start w place left =
 
 -- state t may stand after the list up to a place: the two begin a lasso with l transitions
 abbrev pub MayFollow : Graph → ℕ → List ℕ → ℕ → ℕ → Type 0
-MayFollow g l w place t = Extends g l (listIn g.start w place ++ t ∷ [])
+MayFollow g l w place t = Extends g l (list_in g.start w place ++ t ∷ [])

@@ -4,9 +4,9 @@ use Rattle.lists.specs.Decides.{Decides}
 use Rattle.lasso.specs.Graph.{Graph}
 use Rattle.lasso.specs.Extends.{Extends}
 use Rattle.model.specs.declared.Header.{Header}
-use Rattle.model.specs.Model.{graphIn}
+use Rattle.model.specs.Model.{graph_in}
 use Rattle.table.specs.Changes.{SameOutside}
-use Rattle.current.specs.Current.{listIn}
+use Rattle.current.specs.Current.{list_in}
 use Rattle.follow.specs.Follow.{MayFollow}
 use Rattle.follow.specs.Places.{LeastFollower}
 use Rattle.passed.specs.Passed.{PassedAt}
@@ -18,27 +18,27 @@ use Rattle.followers.specs.declared.Follower.TheVariants.{State, Nothing}
 
 -- what may stand after the list up to a place, from a bound on: the least such state, or nothing
 abbrev pub FollowerOf : Graph → ℕ → List ℕ → ℕ → ℕ → Follower → Type 0
-FollowerOf g l w place bound (State t) = LeastFollower g l (listIn g.start w place) bound t
-FollowerOf g l w place bound Nothing = (y : ℕ) → bound ≤ y → Extends g l (listIn g.start w place ++ y ∷ []) → ⊥
+FollowerOf g l w place bound (State t) = LeastFollower g l (list_in g.start w place) bound t
+FollowerOf g l w place bound Nothing = (y : ℕ) → bound ≤ y → Extends g l (list_in g.start w place ++ y ∷ []) → ⊥
 
 -- the answer of a test with a bound: it is right, regions 2 to 5 alone changed, and what is known of the list is so
 pub record TrySays (f : List ℕ) (h : Header) (w w' : List ℕ) (l place bound t : ℕ) (r : Tested) : Type 0 where
-  pub decides : Decides ((bound ≤ t) × MayFollow (graphIn f h) l w place t) r.yes
+  pub decides : Decides ((bound ≤ t) × MayFollow (graph_in f h) l w place t) r.yes
   pub same : SameOutside (2 * h.states) (6 * h.states) w w'
   pub passed : PassedAt f h w' l place r.passed
 
 -- what may stand after the list from a bound on was found
 pub record LeastFound (f : List ℕ) (h : Header) (w w' : List ℕ) (l place bound : ℕ) (r : Found) : Type 0 where
-  pub found : FollowerOf (graphIn f h) l w place bound r.follower
+  pub found : FollowerOf (graph_in f h) l w place bound r.follower
   pub same : SameOutside (2 * h.states) (6 * h.states) w w'
   pub passed : PassedAt f h w' l place r.passed
 
 -- the least state that may stand after the list up to a place
 abbrev pub FirstFollower : Graph → ℕ → List ℕ → ℕ → ℕ → Type 0
-FirstFollower g l w place t = LeastFollower g l (listIn g.start w place) 0 t
+FirstFollower g l w place t = LeastFollower g l (list_in g.start w place) 0 t
 
 -- the least state that may stand there was found
 pub record FirstFound (f : List ℕ) (h : Header) (w w' : List ℕ) (l place : ℕ) (r : Chosen) : Type 0 where
-  pub found : FirstFollower (graphIn f h) l w place r.state
+  pub found : FirstFollower (graph_in f h) l w place r.state
   pub same : SameOutside (2 * h.states) (6 * h.states) w w'
   pub passed : PassedAt f h w' l place r.passed

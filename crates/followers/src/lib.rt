@@ -3,8 +3,8 @@
 ghost use Rattle.std.specs.Prelude.{[], ◌∷◌, ◌++◌, ◌<◌, T};
 ghost use Rattle.lasso.specs.Graph.{pathb};
 ghost use Rattle.lasso.specs.Extends.{Extends};
-ghost use Rattle.model.specs.Model.{graphIn};
-ghost use Rattle.current.specs.Current.{listIn};
+ghost use Rattle.model.specs.Model.{graph_in};
+ghost use Rattle.current.specs.Current.{list_in};
 ghost use Rattle.follow.specs.Follow.{Prepared};
 ghost use Rattle.passed.specs.Passed.{PassedAt, KnownFrom};
 ghost use Rattle.followers.specs.Followers.{TrySays, LeastFound, FirstFound};
@@ -17,21 +17,21 @@ use passed::Passed;
 use tested::{Tested, may_follow};
 
 // What may stand at the next place: a state, or nothing.
-#[derive(Drop)]
+#[derive(Clone, Copy)]
 pub enum Follower {
     State(usize),
     Nothing,
 }
 
 // What may stand there, and what is known of the list then.
-#[derive(Drop)]
+#[derive(Clone, Copy)]
 pub struct Found {
     pub follower: Follower,
     pub passed: Passed,
 }
 
 // The state that may stand there, and what is known of the list then.
-#[derive(Drop)]
+#[derive(Clone, Copy)]
 pub struct Chosen {
     pub state: usize,
     pub passed: Passed,
@@ -51,7 +51,7 @@ fn try_next(
     requires prepared { Prepared file.now h work.old transitions.0 }
     requires place_lt_transitions { place < transitions.0 }
     requires t_lt_states { t < h.states }
-    requires t { T (pathb (graphIn file.now h) (listIn h.start work.old place ++ t ∷ [])) }
+    requires t { T (pathb (graph_in file.now h) (list_in h.start work.old place ++ t ∷ [])) }
     requires passed_at { PassedAt file.now h work.old transitions.0 place passed }
     ensures { TrySays file.now h work.old work.new transitions.0 place bound t result }
 {
@@ -76,7 +76,7 @@ pub fn least_follower(
 ) -> Found
     requires prepared { Prepared file.now h work.old transitions.0 }
     requires place_lt_transitions { place < transitions.0 }
-    requires t { T (pathb (graphIn file.now h) (listIn h.start work.old place)) }
+    requires t { T (pathb (graph_in file.now h) (list_in h.start work.old place)) }
     requires known_from { KnownFrom file.now h work.old transitions.0 place passed }
     ensures { LeastFound file.now h work.old work.new transitions.0 place bound result }
 {
@@ -114,7 +114,7 @@ pub fn first_follower(
 ) -> Chosen
     requires prepared { Prepared file.now h work.old transitions.0 }
     requires place_lt_transitions { place < transitions.0 }
-    requires extends { Extends (graphIn file.now h) transitions.0 (listIn h.start work.old place) }
+    requires extends { Extends (graph_in file.now h) transitions.0 (list_in h.start work.old place) }
     requires passed_at { PassedAt file.now h work.old transitions.0 place passed }
     ensures { FirstFound file.now h work.old work.new transitions.0 place result }
 {

@@ -7,9 +7,9 @@ use mathlib.Core.Option.{Option, some, none, some-ne-none}
 use native.Mathlib.Omega.{arith}
 use lib.ListN.{drop}
 use lib.Dec.{T}
-use Rattle.lists.specs.Lists.{someIf}
+use Rattle.lists.specs.Lists.{some_if}
 use Rattle.lists.proofs.Sorted.{All}
-use Rattle.format.specs.Rules.{Reason, firstBroken}
+use Rattle.format.specs.Rules.{Reason, first_broken}
 
 -- no reason of a table holds
 abbrev pub Clear : List Reason → Type 0
@@ -17,16 +17,16 @@ Clear [] = Unit {0}
 Clear (r ∷ rs) = T (not r.holds) × Clear rs
 
 -- a skipped reason does not hold, and the table after it decides
-skipped : (b : Bool) (n : ℕ) (o : Option ℕ) → someIf b n o ≡ none → T (not b) × (o ≡ none)
+skipped : (b : Bool) (n : ℕ) (o : Option ℕ) → some_if b n o ≡ none → T (not b) × (o ≡ none)
 skipped true n o e = absurd (some-ne-none n e)
 skipped false n o e = (tt, e)
 
 -- a table without a first reason that holds is clear
-pub none-clear : (rs : List Reason) → firstBroken rs ≡ none → Clear rs
-none-clear [] e = tt
-none-clear (r ∷ rs) e =
-    let p : T (not r.holds) × (firstBroken rs ≡ none) = skipped r.holds r.number (firstBroken rs) e in
-    (p.0, none-clear rs p.1)
+pub none_clear : (rs : List Reason) → first_broken rs ≡ none → Clear rs
+none_clear [] e = tt
+none_clear (r ∷ rs) e =
+    let p : T (not r.holds) × (first_broken rs ≡ none) = skipped r.holds r.number (first_broken rs) e in
+    (p.0, none_clear rs p.1)
 
 -- the first value, or the second if there is none
 abbrev or_else : Option ℕ → Option ℕ → Option ℕ
@@ -34,45 +34,45 @@ or_else none b = b
 or_else (some a) b = some a
 
 -- a test in front of two tables is in front of the first
-someIf-orElse : (b : Bool) (n : ℕ) (p q : Option ℕ) → someIf b n (or_else p q) ≡ or_else (someIf b n p) q
-someIf-orElse true n p q = refl
-someIf-orElse false n p q = refl
+some_if_or_else : (b : Bool) (n : ℕ) (p q : Option ℕ) → some_if b n (or_else p q) ≡ or_else (some_if b n p) q
+some_if_or_else true n p q = refl
+some_if_or_else false n p q = refl
 
 -- the first reason of two tables, one after the other
-firstBroken-append : (rs ss : List Reason) → firstBroken (rs ++ ss) ≡ or_else (firstBroken rs) (firstBroken ss)
-firstBroken-append [] ss = refl
-firstBroken-append (r ∷ rs) ss =
-    rw (firstBroken-append rs ss) (someIf-orElse r.holds r.number (firstBroken rs) (firstBroken ss))
+first_broken-append : (rs ss : List Reason) → first_broken (rs ++ ss) ≡ or_else (first_broken rs) (first_broken ss)
+first_broken-append [] ss = refl
+first_broken-append (r ∷ rs) ss =
+    rw (first_broken-append rs ss) (some_if_or_else r.holds r.number (first_broken rs) (first_broken ss))
 
 -- if no reason of a table holds, those after it decide
-pub clear-append : (rs ss : List Reason) → firstBroken rs ≡ none → firstBroken (rs ++ ss) ≡ firstBroken ss
-clear-append rs ss e = firstBroken-append rs ss ∙ ap (λ (o : Option ℕ). or_else o (firstBroken ss)) e
+pub clear_append : (rs ss : List Reason) → first_broken rs ≡ none → first_broken (rs ++ ss) ≡ first_broken ss
+clear_append rs ss e = first_broken-append rs ss ∙ ap (λ (o : Option ℕ). or_else o (first_broken ss)) e
 
 -- if a reason of a table holds, those after it do not count
-pub broken-append : (rs ss : List Reason) (n : ℕ) → firstBroken rs ≡ some n → firstBroken (rs ++ ss) ≡ some n
-broken-append rs ss n e = firstBroken-append rs ss ∙ ap (λ (o : Option ℕ). or_else o (firstBroken ss)) e
+pub broken_append : (rs ss : List Reason) (n : ℕ) → first_broken rs ≡ some n → first_broken (rs ++ ss) ≡ some n
+broken_append rs ss n e = first_broken-append rs ss ∙ ap (λ (o : Option ℕ). or_else o (first_broken ss)) e
 
 -- if no reason of two tables holds, none of the first does
-pub append-clear : (rs ss : List Reason) → firstBroken (rs ++ ss) ≡ none → firstBroken rs ≡ none
-append-clear rs ss e = go (firstBroken rs) (sym (firstBroken-append rs ss) ∙ e)
+pub append_clear : (rs ss : List Reason) → first_broken (rs ++ ss) ≡ none → first_broken rs ≡ none
+append_clear rs ss e = go (first_broken rs) (sym (first_broken-append rs ss) ∙ e)
   where
-    go : (o : Option ℕ) → or_else o (firstBroken ss) ≡ none → o ≡ none
+    go : (o : Option ℕ) → or_else o (first_broken ss) ≡ none → o ≡ none
     go none q = refl
     go (some n) q = let z : ◌≡◌ {A = ℕ} 0 1 = cc in absurd (omega arith)
 
 -- the number of the first reason is one of the table's
-pub broken-number : (P : ℕ → Type 0) (rs : List Reason) → All (λ r. P r.number) rs → (n : ℕ) → firstBroken rs ≡ some n → P n
-broken-number P [] h n e = let z : ◌≡◌ {A = ℕ} 0 1 = cc in absurd (omega arith)
-broken-number P (r ∷ rs) h n e = go r.holds e (λ q. broken-number P rs h.1 n q)
+pub broken_number : (P : ℕ → Type 0) (rs : List Reason) → All (λ r. P r.number) rs → (n : ℕ) → first_broken rs ≡ some n → P n
+broken_number P [] h n e = let z : ◌≡◌ {A = ℕ} 0 1 = cc in absurd (omega arith)
+broken_number P (r ∷ rs) h n e = go r.holds e (λ q. broken_number P rs h.1 n q)
   where
-    go : (b : Bool) → someIf b r.number (firstBroken rs) ≡ some n → (firstBroken rs ≡ some n → P n) → P n
+    go : (b : Bool) → some_if b r.number (first_broken rs) ≡ some n → (first_broken rs ≡ some n → P n) → P n
     go true q later = let same : r.number ≡ n = cc in subst P same h.0
     go false q later = later q
 
 -- the first k reasons of a table do not hold: those after them decide
 abbrev pub KeptTo : ℕ → List Reason → Type 0
-KeptTo k rs = firstBroken rs ≡ firstBroken (drop k rs)
+KeptTo k rs = first_broken rs ≡ first_broken (drop k rs)
 
 -- a reason that does not hold leaves the answer to the reasons after it
-pub unheld-skipped : (o : Option ℕ) (b : Bool) (n : ℕ) (rest : Option ℕ) → o ≡ someIf b n rest → b ≡ false → o ≡ rest
-unheld-skipped o b n rest e q = e ∙ ap (λ (x : Bool). someIf x n rest) q
+pub unheld_skipped : (o : Option ℕ) (b : Bool) (n : ℕ) (rest : Option ℕ) → o ≡ some_if b n rest → b ≡ false → o ≡ rest
+unheld_skipped o b n rest e q = e ∙ ap (λ (x : Bool). some_if x n rest) q

@@ -1,9 +1,9 @@
 // Where the tables of a model file stand, by its numbers of states and edges, and the part of a row. Each function of
 // these numbers is named as its definition in specs/Layout.antt.
 ghost use Rattle.std.specs.Prelude.{◌≡◌, ◌+◌, ◌*◌, ◌≤◌, ◌<◌, length};
-ghost use Rattle.numbers.specs.Limits.{mostStates, mostEdges};
+ghost use Rattle.numbers.specs.Limits.{most_states, most_edges};
 ghost use Rattle.format.specs.Bytes.{words};
-ghost use Rattle.format.specs.Layout.{states, rows_at, edges_at, marksAt, markBytes, totalOf, table_at, rowEntry, rowNumbers, rowTargets};
+ghost use Rattle.format.specs.Layout.{states, rows_at, edges_at, marks_at, mark_bytes, total_of, table_at, row_entry, row_numbers, row_targets};
 
 use crate::bytes::entry_at;
 
@@ -12,7 +12,7 @@ const ROWS_AT: usize = 24;
 
 // The offset of the edge table.
 pub fn edges_at(n: usize) -> usize
-    requires { n ≤ mostStates }
+    requires { n ≤ most_states }
     ensures { result ≡ edges_at n }
 {
     ROWS_AT + 2 * (n + 1)
@@ -20,23 +20,23 @@ pub fn edges_at(n: usize) -> usize
 
 // The offset of the marks.
 pub fn marks_at(n: usize, m: usize) -> usize
-    requires { (n ≤ mostStates) × (m ≤ mostEdges) }
-    ensures { result ≡ marksAt n m }
+    requires { (n ≤ most_states) × (m ≤ most_edges) }
+    ensures { result ≡ marks_at n m }
 {
     edges_at(n) + 2 * m
 }
 
 // The number of bytes of a mark table.
 pub fn mark_bytes(n: usize) -> usize
-    requires { n ≤ mostStates }
-    ensures { result ≡ markBytes n }
+    requires { n ≤ most_states }
+    ensures { result ≡ mark_bytes n }
 {
     (n + 7) / 8
 }
 
 // The offset of mark table t.
 pub fn table_at(n: usize, m: usize, t: usize) -> usize
-    requires { (n ≤ mostStates) × (m ≤ mostEdges) × (t ≤ 1) }
+    requires { (n ≤ most_states) × (m ≤ most_edges) × (t ≤ 1) }
     ensures { result ≡ table_at n m t }
 {
     marks_at(n, m) + t * mark_bytes(n)
@@ -44,8 +44,8 @@ pub fn table_at(n: usize, m: usize, t: usize) -> usize
 
 // The total length of a model file with one mark table.
 pub fn total_of(n: usize, m: usize) -> usize
-    requires { (n ≤ mostStates) × (m ≤ mostEdges) }
-    ensures { result ≡ totalOf n m }
+    requires { (n ≤ most_states) × (m ≤ most_edges) }
+    ensures { result ≡ total_of n m }
 {
     marks_at(n, m) + mark_bytes(n)
 }
@@ -53,7 +53,7 @@ pub fn total_of(n: usize, m: usize) -> usize
 // The row entry at a place of the row table.
 pub fn row_entry(file: &[u8], s: usize) -> usize
     requires { rows_at + 2 * s + 1 < length file.now }
-    ensures { (result ≡ rowEntry file.now s) × (result < 65536) }
+    ensures { (result ≡ row_entry file.now s) × (result < 65536) }
 {
     entry_at(file, ROWS_AT, s)
 }
@@ -62,9 +62,9 @@ pub fn row_entry(file: &[u8], s: usize) -> usize
 // byte `base`; the row's entries s and s + 1 are in order and within the table.
 pub fn edge_part(file: &[u8], base: usize, s: usize) -> &[u8]
     requires s_in_bounds { rows_at + 2 * (s + 1) + 1 < length file.now }
-    requires s_bound { rowEntry file.now s ≤ rowEntry file.now (s + 1) }
-    requires s_in_bounds_2 { base + 2 * rowEntry file.now (s + 1) ≤ length file.now }
-    ensures { words result.now ≡ rowNumbers file.now base s }
+    requires s_bound { row_entry file.now s ≤ row_entry file.now (s + 1) }
+    requires s_in_bounds_2 { base + 2 * row_entry file.now (s + 1) ≤ length file.now }
+    ensures { words result.now ≡ row_numbers file.now base s }
 {
     let from = base + 2 * row_entry(file, s);
     let to = base + 2 * row_entry(file, s + 1);
@@ -74,11 +74,11 @@ pub fn edge_part(file: &[u8], base: usize, s: usize) -> &[u8]
 // The part of the file that holds the targets of row s, in a file of n states whose entries s and s + 1 are in order
 // and within the edge table.
 pub fn row(file: &[u8], n: usize, s: usize) -> &[u8]
-    requires n_value { (n ≡ states file.now) × (n ≤ mostStates) }
+    requires n_value { (n ≡ states file.now) × (n ≤ most_states) }
     requires s_lt_n { s < n }
-    requires s_bound { rowEntry file.now s ≤ rowEntry file.now (s + 1) }
-    requires s_in_bounds { edges_at n + 2 * rowEntry file.now (s + 1) ≤ length file.now }
-    ensures { words result.now ≡ rowTargets file.now s }
+    requires s_bound { row_entry file.now s ≤ row_entry file.now (s + 1) }
+    requires s_in_bounds { edges_at n + 2 * row_entry file.now (s + 1) ≤ length file.now }
+    ensures { words result.now ≡ row_targets file.now s }
 {
     edge_part(file, edges_at(n), s)
 }

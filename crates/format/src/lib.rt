@@ -1,4 +1,5 @@
 // The bytes of a model file: its numbers, where its tables stand, and the part of a row.
+#![tactic(auto)]
 mod bytes;
 mod layout;
 

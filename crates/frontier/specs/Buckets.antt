@@ -22,8 +22,8 @@ pub record SourcesListed (source : ℕ → Option ℕ) (n limit b : ℕ) (w : Li
   pub nexts : (s a : ℕ) → s < b → source s ≡ some a → Greatest source a s (entry 5 n w s)
 
 -- the table after source s is put in front of the list of level a
-abbrev pub withSource : ℕ → ℕ → ℕ → List ℕ → List ℕ
-withSource n a s w = set (set w (5 * n + s) (entry 4 n w a)) (4 * n + a) (s + 1)
+abbrev pub with_source : ℕ → ℕ → ℕ → List ℕ → List ℕ
+with_source n a s w = set (set w (5 * n + s) (entry 4 n w a)) (4 * n + a) (s + 1)
 
 -- the plan of a search: region 2 is clear, and the sources that it held are listed
 pub record Planned (n limit : ℕ) (w w' : List ℕ) : Type 0 where

@@ -41,8 +41,8 @@ pub record State (n : ℕ) (succs : ℕ → List ℕ) (limit target : ℕ) (w₀
       → ReachedBy n (suc (entry 2 n w (entry 3 n w i))) t w
   pub missed : (i : ℕ) → i < at → T (memb target (succs (entry 3 n w i))) → ⊥
   pub queue : Queue n count w
-  pub at-end : at ≤ end
-  pub end-count : end ≤ count
+  pub at_end : at ≤ end
+  pub end_count : end ≤ count
   pub earlier : (i : ℕ) → i < at → entry 2 n w (entry 3 n w i) ≤ v
   pub present : (i : ℕ) → at ≤ i → i < end → entry 2 n w (entry 3 n w i) ≡ v
   pub later : (i : ℕ) → end ≤ i → i < count → entry 2 n w (entry 3 n w i) ≡ suc v

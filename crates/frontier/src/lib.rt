@@ -3,22 +3,24 @@
 //   0 distances from the start   1 loop lengths   2 levels   3 queue   4 first source of a level   5 next source
 // An entry 0 stands for nothing; a level l stands as l + 1, a state s in a list of sources as s + 1. Between searches the
 // listing has other uses for some: the list in 0, the stems in 1, flags of ends in 4, the tables after a loop start in 2 and 5.
+#![tactic(auto)]
+
 ghost use Rattle.std.specs.Prelude.{◌≡◌, ◌+◌, ◌*◌, ◌≤◌, ◌<◌, length};
-ghost use Rattle.numbers.specs.Limits.{mostStates};
+ghost use Rattle.numbers.specs.Limits.{most_states};
 ghost use Rattle.table.specs.Changes.{SameOutside};
 ghost use Rattle.frontier.specs.Regions.{entry, queued};
-ghost use Rattle.frontier.specs.Buckets.{withSource, Planned};
+ghost use Rattle.frontier.specs.Buckets.{with_source, Planned};
 ghost use Rattle.frontier.specs.Search.{Reached, LevelReady, Admitted};
 
 use table::{clear, get, put};
 
 // Puts a source in front of the list of its level.
 pub fn list_source(work: &mut [u16], n: usize, level: usize, s: usize)
-    requires n_le_most_states { n ≤ mostStates }
+    requires n_le_most_states { n ≤ most_states }
     requires level_lt_n { level < n }
     requires s_lt_n { s < n }
     requires n_in_bounds { 6 * n ≤ length work.old }
-    ensures { work.new ≡ withSource n level s work.old }
+    ensures { work.new ≡ with_source n level s work.old }
 {
     let first = get(work, 4 * n + level);
     put(work, 5 * n + s, first);
@@ -29,7 +31,7 @@ pub fn list_source(work: &mut [u16], n: usize, level: usize, s: usize)
 // the sources.
 fn level_of(start: usize) -> usize
     ensures level { 1 ≤ start → result + 1 ≡ start }
-    ensures none { start ≡ 0 → mostStates ≤ result }
+    ensures none { start ≡ 0 → most_states ≤ result }
 {
     if start == 0 {
         return usize::MAX;
@@ -39,7 +41,7 @@ fn level_of(start: usize) -> usize
 
 // Lists the sources of each level below the limit, from the start levels in region 2, which it clears.
 pub fn plan(work: &mut [u16], n: usize, limit: usize)
-    requires n_le_most_states { n ≤ mostStates }
+    requires n_le_most_states { n ≤ most_states }
     requires limit_le_n { limit ≤ n }
     requires n_in_bounds { 6 * n ≤ length work.old }
     ensures { Planned n limit work.old work.new }
@@ -60,7 +62,7 @@ pub fn plan(work: &mut [u16], n: usize, limit: usize)
 // Marks a state with its level and puts it at the end of the queue, unless it was reached before. The end of the queue
 // is a place of the table; answers the end afterwards.
 pub fn reach(work: &mut [u16], n: usize, t: usize, level: usize, tail: usize) -> usize
-    requires n_le_most_states { n ≤ mostStates }
+    requires n_le_most_states { n ≤ most_states }
     requires t_lt_n { t < n }
     requires level_le_n { level ≤ n }
     requires n_in_bounds { 6 * n ≤ length work.old }
@@ -80,7 +82,7 @@ pub fn reach(work: &mut [u16], n: usize, t: usize, level: usize, tail: usize) ->
 
 // Reaches the sources of a level; answers the end of the queue afterwards.
 pub fn admit(work: &mut [u16], n: usize, level: usize, tail: usize) -> usize
-    requires n_le_most_states { n ≤ mostStates }
+    requires n_le_most_states { n ≤ most_states }
     requires n_bound { 3 * n ≤ tail }
     requires level_ready { LevelReady n level (queued n tail) work.old }
     ensures change { Admitted n level (queued n tail) work.old work.new (queued n result) }

@@ -3,12 +3,12 @@ use Rattle.std.specs.Prelude.{ℕ, suc, ◌*◌, ◌<◌, ◌≡◌, ◌↔◌, 
 use Rattle.std.proofs.Math.Option.{some}
 use Rattle.lasso.specs.Graph.{Graph, edgeb}
 use Rattle.model.specs.declared.Header.{Header}
-use Rattle.model.specs.Model.{graphIn}
+use Rattle.model.specs.Model.{graph_in}
 use Rattle.table.specs.Changes.{SameOutside}
 use Rattle.frontier.specs.Regions.{entry}
 use Rattle.frontier.specs.Search.{Queue}
-use Rattle.walks.specs.Through.{viaMark}
-use Rattle.current.specs.Current.{stateAt}
+use Rattle.walks.specs.Through.{via_mark}
+use Rattle.current.specs.Current.{state_at}
 use Rattle.stems.specs.Stems.{LoopAt}
 use Rattle.follow.specs.Follow.{Prepared}
 use Rattle.goals.specs.Goals.{LastMark, LaterTable, SoonerTable}
@@ -16,13 +16,13 @@ use Rattle.goals.specs.Goals.{LastMark, LaterTable, SoonerTable}
 -- what is prepared, and the list up to place b, where a loop start stands at its distance
 pub record Ground (f : List ℕ) (h : Header) (w : List ℕ) (l b : ℕ) : Type 0 where
   pub prepared : Prepared f h w l
-  pub edge : (k : ℕ) → k < b → T (edgeb (graphIn f h) (stateAt h w k) (stateAt h w (suc k)))
-  pub loop : LoopAt (graphIn f h) l (stateAt h w) b
+  pub edge : (k : ℕ) → k < b → T (edgeb (graph_in f h) (state_at h w k) (state_at h w (suc k)))
+  pub loop : LoopAt (graph_in f h) l (state_at h w) b
 
 -- region 2 holds the least steps from x through a mark, below the limit, and region 3 the queue of a search
 pub record LevelsVia (g : Graph) (x limit : ℕ) (w w' : List ℕ) (count : ℕ) : Type 0 where
   pub outside : SameOutside (2 * g.size) (6 * g.size) w w'
-  pub level : (t c : ℕ) → t < g.size → c < limit → (entry 2 g.size w' t ≡ suc c) ↔ (viaMark g x t ≡ some c)
+  pub level : (t c : ℕ) → t < g.size → c < limit → (entry 2 g.size w' t ≡ suc c) ↔ (via_mark g x t ≡ some c)
   pub queue : Queue g.size count w'
 
 -- region 5 holds the table for lists with a mark after the loop start, and region 2 the same entries

@@ -1,9 +1,9 @@
 // Makes the two tables after a loop start: which state may stand at which place after it.
 ghost use Rattle.std.specs.Prelude.{◌*◌, ◌≤◌, ◌<◌, length};
 ghost use Rattle.model.specs.Values.{Valid};
-ghost use Rattle.model.specs.Model.{graphIn};
+ghost use Rattle.model.specs.Model.{graph_in};
 ghost use Rattle.table.specs.Changes.{SameOutside};
-ghost use Rattle.current.specs.Current.{stateAt};
+ghost use Rattle.current.specs.Current.{state_at};
 ghost use Rattle.follow.specs.Follow.{StatesTo};
 ghost use Rattle.goals.specs.Goals.{LastMark, LaterTable};
 ghost use Rattle.goal_tables.specs.Tables.{Ground, LevelsVia, LaterMade, SoonerMade, Tables};
@@ -23,7 +23,7 @@ pub fn last_mark(file: &[u8], h: Header, work: &[u16], place: usize) -> usize
     requires states_in_bounds { 2 * h.states ≤ length work.now }
     requires place_le_states { place ≤ h.states }
     requires states_to { StatesTo h work.now place }
-    ensures { LastMark (graphIn file.now h) (stateAt h work.now) place result }
+    ensures { LastMark (graph_in file.now h) (state_at h work.now) place result }
 {
     let mut k = place + 1;
     while 0 < k {
@@ -44,7 +44,7 @@ fn later_levels(file: &[u8], h: Header, work: &mut [u16], x: usize, limit: usize
     requires le_limit { 1 ≤ limit }
     requires limit_le_states { limit ≤ h.states }
     requires states_in_bounds { 6 * h.states ≤ length work.old }
-    ensures { LevelsVia (graphIn file.now h) x limit work.old work.new result }
+    ensures { LevelsVia (graph_in file.now h) x limit work.old work.new result }
 {
     let n = h.states;
     let count = distances_from(file, h, work, x, limit);
@@ -61,7 +61,7 @@ fn later_levels(file: &[u8], h: Header, work: &mut [u16], x: usize, limit: usize
 // Makes the table for lists with a mark after the loop start at place b.
 fn make_later(file: &[u8], h: Header, work: &mut [u16], transitions: Transitions, b: usize)
     requires { Ground file.now h work.old transitions.0 b }
-    ensures { LaterMade (graphIn file.now h) transitions.0 (stateAt h work.old) b
+    ensures { LaterMade (graph_in file.now h) transitions.0 (state_at h work.old) b
         work.old work.new }
 {
     let n = h.states;
@@ -83,9 +83,9 @@ fn make_sooner(
     mark: usize,
 )
     requires ground { Ground file.now h work.old transitions.0 b }
-    requires last_mark { LastMark (graphIn file.now h) (stateAt h work.old) b mark }
-    requires later_table { LaterTable (graphIn file.now h) transitions.0 (stateAt h work.old) b work.old }
-    ensures { SoonerMade (graphIn file.now h) transitions.0 (stateAt h work.old) b mark
+    requires last_mark { LastMark (graph_in file.now h) (state_at h work.old) b mark }
+    requires later_table { LaterTable (graph_in file.now h) transitions.0 (state_at h work.old) b work.old }
+    ensures { SoonerMade (graph_in file.now h) transitions.0 (state_at h work.old) b mark
         work.old work.new }
 {
     let n = h.states;
@@ -102,7 +102,7 @@ fn make_sooner(
 // Makes both tables after the loop start at place b; if it is marked itself, they are the same.
 pub fn make_tables(file: &[u8], h: Header, work: &mut [u16], transitions: Transitions, b: usize)
     requires { Ground file.now h work.old transitions.0 b }
-    ensures tables { Tables (graphIn file.now h) transitions.0 (stateAt h work.old) b
+    ensures tables { Tables (graph_in file.now h) transitions.0 (state_at h work.old) b
         work.new }
     ensures same { SameOutside (2 * h.states) (6 * h.states) work.old work.new }
 {

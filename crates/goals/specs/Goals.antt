@@ -5,9 +5,9 @@ use Rattle.std.specs.Prelude.{ℕ, suc, ◌+◌, ◌≤◌, ◌<◌, ◌≡◌, 
 use Rattle.std.proofs.Math.Option.{some}
 use Rattle.lasso.specs.Graph.{Graph, WellFormed, edgeb}
 use Rattle.lasso.specs.Distance.{dist, reachb}
-use Rattle.lasso.specs.Roll.{leastLength}
+use Rattle.lasso.specs.Roll.{least_length}
 use Rattle.frontier.specs.Regions.{entry}
-use Rattle.walks.specs.Through.{viaMark}
+use Rattle.walks.specs.Through.{via_mark}
 use Rattle.stems.specs.Stems.{IsStart, LoopAt}
 
 -- the last place up to a given one with a property, plus 1; or 0 if none has it
@@ -27,8 +27,8 @@ LastMark g p = LastOf (λ k. T (g.marked (p k)))
 -- the list up to place b: a path from the initial state whose state at place b can start the loop and stands at its
 -- distance
 pub record Base (g : Graph) (l : ℕ) (p : ℕ → ℕ) (b : ℕ) : Type 0 where
-  pub well-formed : WellFormed g
-  pub least : leastLength g ≡ some l
+  pub well_formed : WellFormed g
+  pub least : least_length g ≡ some l
   pub first : p 0 ≡ g.start
   pub edge : (k : ℕ) → k < b → T (edgeb g (p k) (p (suc k)))
   pub loop : LoopAt g l p b
@@ -58,7 +58,7 @@ StepTo g l p m s = (y : ℕ) × Goal g l p m y × T (edgeb g s y)
 -- what is left of the least length leads to a goal
 abbrev pub Later : Graph → ℕ → (ℕ → ℕ) → ℕ → ℕ → ℕ → Type 0
 Later g l p b t c =
-    (viaMark g (p b) t ≡ some c) × ((m : ℕ) × (b + c + suc m ≡ l) × WayTo g l p (b + 1) t (suc m))
+    (via_mark g (p b) t ≡ some c) × ((m : ℕ) × (b + c + suc m ≡ l) × WayTo g l p (b + 1) t (suc m))
 
 -- t may stand c places after the loop start if no mark stands between: c is the distance, and what is left of the least
 -- length leads to a goal at or before the last mark, or through a mark to any goal
@@ -77,7 +77,7 @@ pub record SoonerTable (g : Graph) (l : ℕ) (p : ℕ → ℕ) (b mark : ℕ) (w
 
 -- before the pass for region 5: levels are least steps through a mark, ends the states of the last level with a step to a goal
 pub record LaterReady (g : Graph) (l : ℕ) (p : ℕ → ℕ) (b : ℕ) (w : List ℕ) : Type 0 where
-  pub level : (t c : ℕ) → t < g.size → b + c < l → (entry 2 g.size w t ≡ suc c) ↔ (viaMark g (p b) t ≡ some c)
+  pub level : (t c : ℕ) → t < g.size → b + c < l → (entry 2 g.size w t ≡ suc c) ↔ (via_mark g (p b) t ≡ some c)
   pub ends : (s : ℕ) → s < g.size → (1 ≤ entry 4 g.size w s) ↔ ((b + entry 2 g.size w s ≡ l) × StepTo g l p (b + 1) s)
 
 -- before the pass for region 2: levels are distances, ends the states of the last level with a step to a goal at or before the

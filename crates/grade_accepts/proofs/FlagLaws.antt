@@ -10,7 +10,7 @@ use lib.Seq.{get_or-set_same, get_or-set_other, get_or-take, length-take-le}
 use lib.Dec.{T, not_T}
 use Rattle.lists.specs.Lists.{differentb}
 use Rattle.lasso.specs.Graph.{edges}
-use Rattle.lists.proofs.Tests.{T_true, T_false, lt-or-ge, eq-or-apart, different-places, places-different}
+use Rattle.lists.proofs.Tests.{T_true, T_false, lt_or_ge, eq_or_apart, different_places, places_different}
 use Rattle.paths.specs.Breaks.{AllBelow}
 
 -- Up to place j the entries are all different, and the entry s of the table is not zero exactly if s stood at one of those
@@ -24,8 +24,8 @@ pub record Flags (n : ℕ) (xs w : List ℕ) (j : ℕ) : Type 0 where
   pub unflagged : (s : ℕ) → s < n → get_or w s 0 ≡ 0 → (i : ℕ) → i < j → get_or xs i 0 ≡ s → ⊥
 
 -- on a cleared table no place was seen
-pub no-flags : (n : ℕ) (xs w : List ℕ) → AllBelow n xs → n ≤ length w → ((s : ℕ) → s < n → get_or w s 0 ≡ 0) → Flags n xs w 0
-no-flags n xs w low room zeros = record {
+pub no_flags : (n : ℕ) (xs w : List ℕ) → AllBelow n xs → n ≤ length w → ((s : ℕ) → s < n → get_or w s 0 ≡ 0) → Flags n xs w 0
+no_flags n xs w low room zeros = record {
   below = low;
   room = room;
   within = omega arith;
@@ -35,12 +35,12 @@ no-flags n xs w low room zeros = record {
 }
 
 -- the places of a list but the last, as places of what is tested
-taken-place : (xs : List ℕ) (i : ℕ) → i < edges xs → get_or (take (edges xs) xs) i 0 ≡ get_or xs i 0
-taken-place xs i h = get_or-take (edges xs) xs i 0 h
+taken_place : (xs : List ℕ) (i : ℕ) → i < edges xs → get_or (take (edges xs) xs) i 0 ≡ get_or xs i 0
+taken_place xs i h = get_or-take (edges xs) xs i 0 h
 
 -- there are so many of them
-taken-length : (xs : List ℕ) → length (take (edges xs) xs) ≡ edges xs
-taken-length xs = length-take-le (edges xs) xs (omega arith)
+taken_length : (xs : List ℕ) → length (take (edges xs) xs) ≡ edges xs
+taken_length xs = length-take-le (edges xs) xs (omega arith)
 
 module _ {n : ℕ} {xs w : List ℕ} {j : ℕ} (F : Flags n xs w j) where
   -- the entry at place j is a number with a flag
@@ -48,37 +48,37 @@ module _ {n : ℕ} {xs w : List ℕ} {j : ℕ} (F : Flags n xs w j) where
   entry-below h = F.below j (omega arith)
 
   -- an entry whose flag is set stood at an earlier place
-  pub flags-repeat : j < edges xs → (get_or w (get_or xs j 0) 0 ≡ 0 → ⊥) → differentb (take (edges xs) xs) ≡ false
-  flags-repeat h f =
+  pub flags_repeat : j < edges xs → (get_or w (get_or xs j 0) 0 ≡ 0 → ⊥) → differentb (take (edges xs) xs) ≡ false
+  flags_repeat h f =
       T_false (differentb (take (edges xs) xs)) (not_T (differentb (take (edges xs) xs)) (λ d. twice d))
     where
       twice : T (differentb (take (edges xs) xs)) → ⊥
       twice d =
           let (i, before, same) = F.flagged (get_or xs j 0) (entry-below h) f in
-          different-places (take (edges xs) xs) d i j before (omega (arith, taken-length xs))
-          (taken-place xs i (omega arith) ∙ same ∙ sym (taken-place xs j h))
+          different_places (take (edges xs) xs) d i j before (omega (arith, taken_length xs))
+          (taken_place xs i (omega arith) ∙ same ∙ sym (taken_place xs j h))
 
   -- an entry whose flag is zero is new, and its flag is set
-  pub flags-next : j < edges xs → get_or w (get_or xs j 0) 0 ≡ 0 → Flags n xs (set w (get_or xs j 0) 1) (j + 1)
-  flags-next h z = record {
+  pub flags_next : j < edges xs → get_or w (get_or xs j 0) 0 ≡ 0 → Flags n xs (set w (get_or xs j 0) 1) (j + 1)
+  flags_next h z = record {
     below = F.below;
     room = omega (arith, F.room, length-set w (get_or xs j 0) 1);
     within = omega arith;
-    apart = λ i m l b e. elim (lt-or-ge m j) [
+    apart = λ i m l b e. elim (lt_or_ge m j) [
       | inl less ↦ F.apart i m l less e
       | inr more ↦
           let q : m ≡ j = omega arith in
           F.unflagged (get_or xs j 0) (entry-below h) z i (omega arith) (e ∙ ap (λ (k : ℕ). get_or xs k 0) q)
     ];
-    flagged = λ s l f. elim (eq-or-apart s (get_or xs j 0)) [
+    flagged = λ s l f. elim (eq_or_apart s (get_or xs j 0)) [
       | inl q ↦ (j, omega arith, sym q)
       | inr d ↦
           let (i, before, same) = F.flagged s l (λ e. f (other s d ∙ e)) in
           (i, omega arith, same)
     ];
-    unflagged = λ s l e i b same. elim (eq-or-apart s (get_or xs j 0)) [
+    unflagged = λ s l e i b same. elim (eq_or_apart s (get_or xs j 0)) [
       | inl q ↦ omega (arith, get_or-set_same w (get_or xs j 0) 1 0 (omega (arith, F.room, entry-below h)), ap (λ (k : ℕ). get_or (set w (get_or xs j 0) 1) k 0) q)
-      | inr d ↦ elim (lt-or-ge i j) [
+      | inr d ↦ elim (lt_or_ge i j) [
         | inl less ↦ F.unflagged s l (sym (other s d) ∙ e) i less same
         | inr more ↦
             let q : i ≡ j = omega arith in
@@ -93,9 +93,9 @@ module _ {n : ℕ} {xs w : List ℕ} {j : ℕ} (F : Flags n xs w j) where
       other s (inr a) = get_or-set_other w (get_or xs j 0) s 1 0 (omega arith)
 
   -- at the last place all are different
-  pub flags-end : edges xs ≤ j → differentb (take (edges xs) xs) ≡ true
-  flags-end last =
-      T_true (differentb (take (edges xs) xs)) (places-different (take (edges xs) xs) (λ i m l b e. F.apart i m l (omega (arith, taken-length xs)) (two i m l (omega (arith, taken-length xs)) e)))
+  pub flags_end : edges xs ≤ j → differentb (take (edges xs) xs) ≡ true
+  flags_end last =
+      T_true (differentb (take (edges xs) xs)) (places_different (take (edges xs) xs) (λ i m l b e. F.apart i m l (omega (arith, taken_length xs)) (two i m l (omega (arith, taken_length xs)) e)))
     where
       two : (i m : ℕ) → i < m → m < edges xs → get_or (take (edges xs) xs) i 0 ≡ get_or (take (edges xs) xs) m 0 → get_or xs i 0 ≡ get_or xs m 0
-      two i m l b e = sym (taken-place xs i (omega arith)) ∙ e ∙ taken-place xs m b
+      two i m l b e = sym (taken_place xs i (omega arith)) ∙ e ∙ taken_place xs m b

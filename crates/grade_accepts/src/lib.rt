@@ -1,12 +1,14 @@
 // Whether a list that breaks nowhere is an accepting path with a claimed k.
+#![tactic(auto)]
+
 ghost use Rattle.std.specs.Prelude.{◌≡◌, ◌*◌, ◌≤◌, length, take};
 ghost use Rattle.std.proofs.Math.Option.{none};
 ghost use Rattle.lists.specs.Lists.{differentb};
 ghost use Rattle.lasso.specs.Graph.{edges};
-ghost use Rattle.model.specs.Model.{graphIn};
+ghost use Rattle.model.specs.Model.{graph_in};
 ghost use Rattle.model.specs.Values.{Valid};
-ghost use Rattle.paths.specs.Breaks.{firstBreak, AllBelow};
-ghost use Rattle.grade_verdicts.specs.Verdict.{acceptsAt};
+ghost use Rattle.paths.specs.Breaks.{first_break, AllBelow};
+ghost use Rattle.grade_verdicts.specs.Verdict.{accepts_at};
 
 use lasso::{Entries, Transitions};
 use model::Header;
@@ -41,8 +43,8 @@ fn all_different(list: &[u16], n: usize, work: &mut [u16]) -> bool
 pub fn accepts(file: &[u8], h: Header, list: &[u16], k: u16, work: &mut [u16]) -> bool
     requires valid { Valid file.now h }
     requires states_in_bounds { 6 * h.states ≤ length work.old }
-    requires list_value { firstBreak (graphIn file.now h) list.now ≡ none }
-    ensures tells { result ≡ acceptsAt (graphIn file.now h) list.now k }
+    requires list_value { first_break (graph_in file.now h) list.now ≡ none }
+    ensures tells { result ≡ accepts_at (graph_in file.now h) list.now k }
     ensures kept { length work.new ≡ length work.old }
 {
     let given = Entries(list.len());

@@ -5,25 +5,25 @@ use Rattle.outcomes.specs.Outcome.{Outcome, refused, answered}
 use Rattle.outcomes.specs.Tables.{written}
 use Rattle.grade.specs.Grade.{Grade}
 use Rattle.grade_verdicts.specs.Verdict.{Said, accepting, shortest}
-use Rattle.figures.specs.Kinds.{Report, isThere, refusal}
+use Rattle.figures.specs.Kinds.{Report, is_there, refusal}
 
 -- the kind of a verdict: 108 false, 109 accepting, 110 shortest
-abbrev pub verdictKind : Said → ℕ
-verdictKind Said.false = 108
-verdictKind accepting = 109
-verdictKind shortest = 110
+abbrev pub verdict_kind : Said → ℕ
+verdict_kind Said.false = 108
+verdict_kind accepting = 109
+verdict_kind shortest = 110
 
 -- a grade: the kind of its verdict, and whether there is a place where the list breaks (1 or 0)
-abbrev pub gradeReport : Outcome Grade → Report
-gradeReport (refused n) = refusal n
-gradeReport (answered g) = record { kind = verdictKind g.verdict; figures = isThere g.place ∷ [] }
+abbrev pub grade_report : Outcome Grade → Report
+grade_report (refused n) = refusal n
+grade_report (answered g) = record { kind = verdict_kind g.verdict; figures = is_there g.place ∷ [] }
 
 -- what is written to the table that is lent for a place: the place, if there is one
-abbrev pub placeDue : Option ℕ → Option (List ℕ)
-placeDue none = none
-placeDue (some j) = some (j ∷ [])
+abbrev pub place_due : Option ℕ → Option (List ℕ)
+place_due none = none
+place_due (some j) = some (j ∷ [])
 
 -- that table after a grade: the place at entry 0; no other entry changes, and none does where there is no place
 abbrev pub place_in : List ℕ → Outcome Grade → List ℕ
 place_in table (refused n) = table
-place_in table (answered g) = written (placeDue g.place) table
+place_in table (answered g) = written (place_due g.place) table

@@ -1,8 +1,8 @@
 // The report of a grade: a kind and one figure, and the place where the list breaks in a table of its own.
 ghost use Rattle.std.specs.Prelude.{◌≡◌, ◌≤◌, length};
-ghost use Rattle.grade.specs.Grade.{verdictOf, gradeOutcomeOf};
-ghost use Rattle.figures.specs.Kinds.{figuresIn};
-ghost use Rattle.grade_report.specs.Grades.{verdictKind, gradeReport, place_in};
+ghost use Rattle.grade.specs.Grade.{verdict_of, grade_outcome_of};
+ghost use Rattle.figures.specs.Kinds.{figures_in};
+ghost use Rattle.grade_report.specs.Grades.{verdict_kind, grade_report, place_in};
 
 use figures::{ACCEPTING, FALSE, SHORTEST};
 use grade::{GradeAnswer, Verdict};
@@ -10,7 +10,7 @@ use paths::FirstBreak;
 
 // The kind of a verdict.
 fn kind_of(v: Verdict) -> u16
-    ensures { result ≡ verdictKind (verdictOf v) }
+    ensures { result ≡ verdict_kind (verdict_of v) }
 {
     match v {
         Verdict::False => FALSE,
@@ -24,9 +24,9 @@ fn kind_of(v: Verdict) -> u16
 pub fn report_grade(answer: GradeAnswer, place: &mut [usize], out: &mut [u16]) -> u16
     requires in_bounds { 1 ≤ length place.old }
     requires in_bounds_2 { 1 ≤ length out.old }
-    ensures kind { result ≡ (gradeReport (gradeOutcomeOf answer)).kind }
-    ensures out { out.new ≡ figuresIn out.old (gradeReport (gradeOutcomeOf answer)) }
-    ensures place { place.new ≡ place_in place.old (gradeOutcomeOf answer) }
+    ensures kind { result ≡ (grade_report (grade_outcome_of answer)).kind }
+    ensures out { out.new ≡ figures_in out.old (grade_report (grade_outcome_of answer)) }
+    ensures place { place.new ≡ place_in place.old (grade_outcome_of answer) }
 {
     match answer {
         GradeAnswer::Refused(number) => number,

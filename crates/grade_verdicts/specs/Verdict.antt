@@ -4,12 +4,12 @@ use Rattle.std.proofs.Math.Bool as Bool
 use Rattle.std.proofs.Math.Option.{Option, some, none}
 use Rattle.lists.specs.Lists.{pick, differentb}
 use Rattle.lasso.specs.Graph.{Graph, edges, pathb, loopsb}
-use Rattle.lasso.specs.Roll.{leastLength}
+use Rattle.lasso.specs.Roll.{least_length}
 
 -- the list with that k is an accepting path: s0, .., sL with L ≥ 1 and k below L, s0 the initial state, an edge from each
 -- to the next, sL = sk, one of sk to s(L−1) marked, and s0 to s(L−1) all different
-abbrev pub acceptsAt : Graph → List ℕ → ℕ → Bool
-acceptsAt g xs k =
+abbrev pub accepts_at : Graph → List ℕ → ℕ → Bool
+accepts_at g xs k =
     (leb 2 (length xs) && ltb k (edges xs)) &&
     ((eqb (get_or xs 0 0) g.start && pathb g xs) && (loopsb g xs k && differentb (take (edges xs) xs)))
 
@@ -26,4 +26,4 @@ pub data Said : Type 0 where
 
 -- "false" if the list with that k is no accepting path, "shortest" if it is one of least length, else "accepting"
 abbrev pub verdict : Graph → List ℕ → ℕ → Said
-verdict g xs k = pick (acceptsAt g xs k) (pick (leastb (leastLength g) (edges xs)) shortest accepting) Said.false
+verdict g xs k = pick (accepts_at g xs k) (pick (leastb (least_length g) (edges xs)) shortest accepting) Said.false

@@ -4,8 +4,8 @@ use mathlib.Core.List.{List, [], Memᴰ}
 use Rattle.lists.specs.Lists.{memb}
 use Rattle.lists.specs.Least.{IsLeast, lesser}
 use Rattle.lasso.specs.Graph.{Graph, WellFormed, edges, acceptingb, loop}
-use Rattle.lasso.specs.Roll.{roll, rollWithin}
-use Rattle.lasso.specs.Rounds.{candidates, roundWithin, Record, bestLength, afterRound}
+use Rattle.lasso.specs.Roll.{roll, roll_within}
+use Rattle.lasso.specs.Rounds.{candidates, round_within, Record, best_length, after_round}
 use Rattle.lasso.specs.Shown.{OfLeastLength}
 
 -- an accepting path exists that is not longer than the ceiling
@@ -29,19 +29,19 @@ RollAbove g ceiling = (roll g ≡ []) ⊎ AllLonger ceiling (roll g)
 pub record CeilingSays (g : Graph) (ceiling : ℕ) : Type 0 where
   -- a candidate's round has the least length of an accepting path whose loop holds it and that is not longer than the
   -- ceiling, if there is one
-  pub round-least : (r : ℕ) → T (memb r (candidates g)) → IsLeast (LengthWithin g ceiling r) (roundWithin g ceiling r)
+  pub round_least : (r : ℕ) → T (memb r (candidates g)) → IsLeast (LengthWithin g ceiling r) (round_within g ceiling r)
   -- a best already in the record is kept, also one above the ceiling: the best after one more round is the lesser of it and
   -- of that round's length
-  pub best-kept : (rec : Record)
-      → bestLength (afterRound g ceiling rec) ≡ lesser (bestLength rec) (roundWithin g ceiling (get_or (candidates g) rec.done 0))
+  pub best_kept : (rec : Record)
+      → best_length (after_round g ceiling rec) ≡ lesser (best_length rec) (round_within g ceiling (get_or (candidates g) rec.done 0))
   -- the roll within the ceiling holds exactly the accepting paths of least length that are not longer than the ceiling
-  pub roll-holds : (xs : List ℕ) → Memᴰ xs (rollWithin g ceiling) ↔ (OfLeastLength (acceptingb g) xs × (edges xs ≤ ceiling))
+  pub roll_holds : (xs : List ℕ) → Memᴰ xs (roll_within g ceiling) ↔ (OfLeastLength (acceptingb g) xs × (edges xs ≤ ceiling))
   -- it is empty exactly if no accepting path has that length or less
-  pub empty-exactly : (rollWithin g ceiling ≡ []) ↔ (PathWithin g ceiling → ⊥)
+  pub empty_exactly : (roll_within g ceiling ≡ []) ↔ (PathWithin g ceiling → ⊥)
   -- that is, exactly if the roll is empty or its lists are longer than the ceiling
-  pub empty-by-roll : (rollWithin g ceiling ≡ []) ↔ RollAbove g ceiling
+  pub empty_by_roll : (roll_within g ceiling ≡ []) ↔ RollAbove g ceiling
   -- otherwise it is the whole roll
-  pub all-or-none : (rollWithin g ceiling ≡ roll g) ⊎ (rollWithin g ceiling ≡ [])
+  pub all_or_none : (roll_within g ceiling ≡ roll g) ⊎ (roll_within g ceiling ≡ [])
 
 -- so it is with every well-formed graph and every ceiling
 abbrev pub CeilingShown : Type 0

@@ -14,5 +14,5 @@ abbrev pub dist : Graph → ℕ → ℕ → Option ℕ
 dist g s t = seek (λ m. reachb g m s t) 0 g.size
 
 -- the least length of a path with at least one edge from s to t, if there is one
-abbrev pub distPlus : Graph → ℕ → ℕ → Option ℕ
-distPlus g s t = seek (λ m. reachb g m s t) 1 g.size
+abbrev pub dist_plus : Graph → ℕ → ℕ → Option ℕ
+dist_plus g s t = seek (λ m. reachb g m s t) 1 g.size

@@ -16,8 +16,8 @@ edgeb g s t = memb t (g.succs s)
 -- What a file's graph always is: the initial state is a state, edges are pairs of states, at most one from a state to a
 -- given state (each list of successors ascends).
 pub record WellFormed (g : Graph) : Type 0 where
-  pub start-state : g.start < g.size
-  pub edge-states : (s t : ℕ) → T (edgeb g s t) → (s < g.size) × (t < g.size)
+  pub start_state : g.start < g.size
+  pub edge_states : (s t : ℕ) → T (edgeb g s t) → (s < g.size) × (t < g.size)
   pub ascending : (s : ℕ) → T (ascendingb (g.succs s))
 
 -- path: a list of states with an edge from each to the next
@@ -46,13 +46,13 @@ abbrev pub acceptingb : Graph → List ℕ → Bool
 acceptingb g xs = lassob g xs && differentb (take (edges xs) xs)
 
 -- k, the place where the loop starts: the first place of the last state
-abbrev pub loopStart : List ℕ → ℕ
-loopStart xs = place_of (get_or xs (edges xs) 0) xs
+abbrev pub loop_start : List ℕ → ℕ
+loop_start xs = place_of (get_or xs (edges xs) 0) xs
 
 -- the stem: s0 to s(k−1)
 abbrev pub stem : List ℕ → List ℕ
-stem xs = take (loopStart xs) xs
+stem xs = take (loop_start xs) xs
 
 -- the loop: sk to s(L−1)
 abbrev pub loop : List ℕ → List ℕ
-loop xs = drop (loopStart xs) (take (edges xs) xs)
+loop xs = drop (loop_start xs) (take (edges xs) xs)

@@ -9,6 +9,6 @@ beforeb (x ∷ xs) [] = false
 beforeb (x ∷ xs) (y ∷ ys) = ltb x y || (eqb x y && beforeb xs ys)
 
 -- all lists of len entries below n, in dictionary order
-abbrev pub allLists : ℕ → ℕ → List (List ℕ)
-allLists n zero = [] ∷ []
-allLists n (suc len) = collect (λ x. map (λ xs. x ∷ xs) (allLists n len)) (below n)
+abbrev pub all_lists : ℕ → ℕ → List (List ℕ)
+all_lists n zero = [] ∷ []
+all_lists n (suc len) = collect (λ x. map (λ xs. x ∷ xs) (all_lists n len)) (below n)

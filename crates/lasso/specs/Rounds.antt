@@ -2,10 +2,10 @@
 use Rattle.std.specs.Prelude.{ℕ, zero, suc, ◌+◌, min, Bool, ◌&&◌, List, length, get_or, leb}
 use Rattle.std.proofs.Math.Option.{Option, none}
 use Rattle.lists.specs.Lists.{keep, below, is_some}
-use Rattle.lists.specs.Least.{lesser, sum, leastOf}
+use Rattle.lists.specs.Least.{lesser, sum, least_of}
 use Rattle.lists.specs.Limit.{under}
 use Rattle.lasso.specs.Graph.{Graph}
-use Rattle.lasso.specs.Distance.{dist, distPlus}
+use Rattle.lasso.specs.Distance.{dist, dist_plus}
 
 -- a state is a candidate if it is marked and can be reached from the initial state
 abbrev pub candidateb : Graph → ℕ → Bool
@@ -17,13 +17,13 @@ candidates g = keep (candidateb g) (below g.size)
 
 -- a round's length for candidate r: the minimum, over states s, of d(i, s) + d(r, s) plus the least length of a path with
 -- at least one edge from s to r
-abbrev pub roundLength : Graph → ℕ → Option ℕ
-roundLength g r =
-    leastOf (λ s. sum (sum (dist g g.start s) (dist g r s)) (distPlus g s r)) (below g.size)
+abbrev pub round_length : Graph → ℕ → Option ℕ
+round_length g r =
+    least_of (λ s. sum (sum (dist g g.start s) (dist g r s)) (dist_plus g s r)) (below g.size)
 
 -- a round's length under a ceiling: a round whose least length lies above the ceiling has no length
-abbrev pub roundWithin : Graph → (ceiling r : ℕ) → Option ℕ
-roundWithin g ceiling r = under (suc ceiling) (roundLength g r)
+abbrev pub round_within : Graph → (ceiling r : ℕ) → Option ℕ
+round_within g ceiling r = under (suc ceiling) (round_length g r)
 
 -- the round record: the number of rounds done, and the best length so far
 pub record Record : Type 0 where
@@ -31,26 +31,26 @@ pub record Record : Type 0 where
   pub best : Option ℕ
 
 -- the length of the best so far, if there is one
-abbrev pub bestLength : Record → Option ℕ
-bestLength rec = rec.best
+abbrev pub best_length : Record → Option ℕ
+best_length rec = rec.best
 
 -- the record after one more round, given that round's length
-abbrev pub withRound : Record → Option ℕ → Record
-withRound rec found = record { done = rec.done + 1; best = lesser rec.best found }
+abbrev pub with_round : Record → Option ℕ → Record
+with_round rec found = record { done = rec.done + 1; best = lesser rec.best found }
 
 -- no candidate is left: the count equals or exceeds the number of candidates
 abbrev pub finishedb : Graph → Record → Bool
 finishedb g rec = leb (length (candidates g)) rec.done
 
 -- the record after the round, under a ceiling, for the candidate whose place is the count
-abbrev pub afterRound : Graph → (ceiling : ℕ) → Record → Record
-afterRound g ceiling rec = withRound rec (roundWithin g ceiling (get_or (candidates g) rec.done 0))
+abbrev pub after_round : Graph → (ceiling : ℕ) → Record → Record
+after_round g ceiling rec = with_round rec (round_within g ceiling (get_or (candidates g) rec.done 0))
 
 -- the record after n rounds of a search under a ceiling, which starts from count 0 and best none
-abbrev pub afterRounds : Graph → (ceiling n : ℕ) → Record
-afterRounds g ceiling zero = record { done = 0; best = none }
-afterRounds g ceiling (suc n) = afterRound g ceiling (afterRounds g ceiling n)
+abbrev pub after_rounds : Graph → (ceiling n : ℕ) → Record
+after_rounds g ceiling zero = record { done = 0; best = none }
+after_rounds g ceiling (suc n) = after_round g ceiling (after_rounds g ceiling n)
 
 -- the record of a search after all rounds that the allowance admits
-abbrev pub afterAllowed : Graph → (ceiling allowance : ℕ) → Record
-afterAllowed g ceiling allowance = afterRounds g ceiling (min allowance (length (candidates g)))
+abbrev pub after_allowed : Graph → (ceiling allowance : ℕ) → Record
+after_allowed g ceiling allowance = after_rounds g ceiling (min allowance (length (candidates g)))

@@ -5,10 +5,10 @@ use mathlib.Core.List.{List, [], Memᴰ}
 use Rattle.std.proofs.Math.Option.{Option}
 use Rattle.lists.specs.Lists.{memb, differentb}
 use Rattle.lists.specs.Least.{IsLeast}
-use Rattle.lasso.specs.Graph.{Graph, WellFormed, pathb, edges, loopsb, lassob, acceptingb, loopStart, loop}
+use Rattle.lasso.specs.Graph.{Graph, WellFormed, pathb, edges, loopsb, lassob, acceptingb, loop_start, loop}
 use Rattle.lasso.specs.Order.{beforeb}
-use Rattle.lasso.specs.Roll.{leastLength, roll}
-use Rattle.lasso.specs.Distance.{dist, distPlus}
+use Rattle.lasso.specs.Roll.{least_length, roll}
+use Rattle.lasso.specs.Distance.{dist, dist_plus}
 
 -- some list passes the test
 abbrev pub Exists : (List ℕ → Bool) → Type 0
@@ -30,21 +30,21 @@ ClosesAt xs k = (k < edges xs) × (get_or xs k 0 ≡ get_or xs (edges xs) 0)
 -- dropped. This is what the rule does not change, and what it gives.
 pub record Shown (g : Graph) : Type 0 where
   -- there is a lasso exactly if there is an accepting path
-  pub same-existence : Exists (lassob g) ↔ Exists (acceptingb g)
+  pub same_existence : Exists (lassob g) ↔ Exists (acceptingb g)
   -- without the rule the least length is the same
-  pub same-least : (l : Option ℕ) → IsLeast (HasLength (lassob g)) l ↔ IsLeast (HasLength (acceptingb g)) l
+  pub same_least : (l : Option ℕ) → IsLeast (HasLength (lassob g)) l ↔ IsLeast (HasLength (acceptingb g)) l
   -- it is the length that the roll is made with
-  pub least-length : IsLeast (HasLength (lassob g)) (leastLength g)
+  pub least_length : IsLeast (HasLength (lassob g)) (least_length g)
   -- each lasso of that length obeys the rule
-  pub rule-obeyed : (xs : List ℕ) → OfLeastLength (lassob g) xs → T (differentb (take (edges xs) xs))
+  pub rule_obeyed : (xs : List ℕ) → OfLeastLength (lassob g) xs → T (differentb (take (edges xs) xs))
   -- so the lassos of least length are exactly the accepting paths of least length
-  pub same-paths : (xs : List ℕ) → OfLeastLength (lassob g) xs ↔ OfLeastLength (acceptingb g) xs
+  pub same_paths : (xs : List ℕ) → OfLeastLength (lassob g) xs ↔ OfLeastLength (acceptingb g) xs
   -- L is at most N
-  pub length-le : (xs : List ℕ) → T (acceptingb g xs) → edges xs ≤ g.size
+  pub length_le : (xs : List ℕ) → T (acceptingb g xs) → edges xs ≤ g.size
   -- k follows from the list: exactly one place below L holds the last state
-  pub one_place : (xs : List ℕ) → T (acceptingb g xs) → (k : ℕ) → ClosesAt xs k ↔ (k ≡ loopStart xs)
+  pub one_place : (xs : List ℕ) → T (acceptingb g xs) → (k : ℕ) → ClosesAt xs k ↔ (k ≡ loop_start xs)
   -- and from that place on the list is a closed walk with a mark
-  pub loop-there : (xs : List ℕ) → T (acceptingb g xs) → T (loopsb g xs (loopStart xs))
+  pub loop_there : (xs : List ℕ) → T (acceptingb g xs) → T (loopsb g xs (loop_start xs))
 
 -- "To be shown": all of it, for every well-formed graph
 abbrev pub ToBeShown : Type 0
@@ -53,8 +53,8 @@ ToBeShown = (g : Graph) → WellFormed g → Shown g
 -- The first place where two lists differ, with the smaller state in the first list.
 pub record Differ (xs ys : List ℕ) : Type 0 where
   pub place : ℕ
-  pub in-first : place < length xs
-  pub in-second : place < length ys
+  pub in_first : place < length xs
+  pub in_second : place < length ys
   pub same : take place xs ≡ take place ys
   pub less : get_or xs place 0 < get_or ys place 0
 
@@ -87,7 +87,7 @@ pub record EndsRun (g : Graph) (s : ℕ) : Type 0 where
   -- no path goes on from s
   pub last : (xs : List ℕ) → T (pathb g xs) → (j : ℕ) → get_or xs j 0 ≡ s → j < edges xs → ⊥
   -- no path with at least one edge that ends where it starts holds s
-  pub no-closed-path : (xs : List ℕ) → T (pathb g xs) → ClosesAt xs 0 → T (memb s xs) → ⊥
+  pub no_closed_path : (xs : List ℕ) → T (pathb g xs) → ClosesAt xs 0 → T (memb s xs) → ⊥
   -- the loop of no accepting path holds s
   pub no_loop : (xs : List ℕ) → T (acceptingb g xs) → T (memb s (loop xs)) → ⊥
 
@@ -107,4 +107,4 @@ DistanceShown = (g : Graph) → WellFormed g → (s t : ℕ) → s < g.size → 
 
 -- the least length of a path with at least one edge from s to t is found, though lengths above N are not tried
 abbrev pub DistancePlusShown : Type 0
-DistancePlusShown = (g : Graph) → WellFormed g → (s t : ℕ) → IsLeast (λ n. (1 ≤ n) × PathLength g s t n) (distPlus g s t)
+DistancePlusShown = (g : Graph) → WellFormed g → (s t : ℕ) → IsLeast (λ n. (1 ≤ n) × PathLength g s t n) (dist_plus g s t)

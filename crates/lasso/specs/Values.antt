@@ -9,15 +9,15 @@ use Rattle.lasso.specs.declared.RoundRecord.{RoundRecord}
 use Rattle.lasso.specs.Rounds.{Record}
 
 -- the best length that a value of the code holds
-abbrev pub bestOf : Best → Option ℕ
-bestOf None = none
-bestOf (Length l) = some l.0
+abbrev pub best_of : Best → Option ℕ
+best_of None = none
+best_of (Length l) = some l.0
 
 -- the length that a round found, by a value of the code
-abbrev pub foundOf : LengthFound → Option ℕ
-foundOf found.None = none
-foundOf (found.Length l) = some l.0
+abbrev pub found_of : LengthFound → Option ℕ
+found_of found.None = none
+found_of (found.Length l) = some l.0
 
 -- the round record that a value of the code holds
-abbrev pub recordOf : RoundRecord → Record
-recordOf r = record { done = r.done; best = bestOf r.best }
+abbrev pub record_of : RoundRecord → Record
+record_of r = record { done = r.done; best = best_of r.best }

@@ -2,15 +2,15 @@
 // hand to each other. What they stand for is in specs/.
 ghost use Rattle.std.specs.Prelude.{◌≡◌, ◌+◌, ◌<◌};
 ghost use Rattle.lists.specs.Least;
-ghost use Rattle.lasso.specs.Rounds.{withRound};
-ghost use Rattle.lasso.specs.Values.{recordOf, bestOf, foundOf};
+ghost use Rattle.lasso.specs.Rounds.{with_round};
+ghost use Rattle.lasso.specs.Values.{record_of, best_of, found_of};
 
 // A count of transitions: the length of a path.
-#[derive(Drop)]
+#[derive(Clone, Copy)]
 pub struct Transitions(pub u16);
 
 // A count of path entries: what a table that holds a path must have room for.
-#[derive(Drop)]
+#[derive(Clone, Copy)]
 pub struct Entries(pub usize);
 
 impl Transitions {
@@ -30,21 +30,21 @@ impl Transitions {
 }
 
 // The length that a round found: none, or a length.
-#[derive(Drop)]
+#[derive(Clone, Copy)]
 pub enum LengthFound {
     None,
     Length(Transitions),
 }
 
 // The best length so far: none, or a length.
-#[derive(Drop)]
+#[derive(Clone, Copy)]
 pub enum Best {
     None,
     Length(Transitions),
 }
 
 // The number of rounds done, and the best length that they found.
-#[derive(Drop)]
+#[derive(Clone, Copy)]
 pub struct RoundRecord {
     pub done: u16,
     pub best: Best,
@@ -52,7 +52,7 @@ pub struct RoundRecord {
 
 // The lesser of the best so far and the length that a round found, where none counts as more than every length.
 pub fn lesser(best: Best, found: LengthFound) -> Best
-    ensures { bestOf result ≡ Least.lesser (bestOf best) (foundOf found) }
+    ensures { best_of result ≡ Least.lesser (best_of best) (found_of found) }
 {
     match found {
         LengthFound::None => best,
@@ -73,7 +73,7 @@ impl RoundRecord {
     // The record after one more round, given the length that it found.
     pub fn with_round(self, found: LengthFound) -> RoundRecord
         requires { self.done < 65535 }
-        ensures { recordOf result ≡ withRound (recordOf self) (foundOf found) }
+        ensures { record_of result ≡ with_round (record_of self) (found_of found) }
     {
         let best = self.best;
         RoundRecord {

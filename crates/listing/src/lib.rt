@@ -2,8 +2,8 @@
 // makes, and the one after a given one.
 ghost use mathlib.Core.List.{Memᴰ};
 ghost use Rattle.lasso.specs.Roll.{roll};
-ghost use Rattle.model.specs.Model.{graphIn};
-ghost use Rattle.current.specs.Current.{listIn};
+ghost use Rattle.model.specs.Model.{graph_in};
+ghost use Rattle.current.specs.Current.{list_in};
 ghost use Rattle.follow.specs.Follow.{Prepared};
 ghost use Rattle.follow.specs.Places.{Kept, Replaced};
 
@@ -19,8 +19,8 @@ use table::get;
 // Puts the path after the one in region 0 there, and answers true; or answers false if that one is the last.
 pub fn advance(file: &[u8], h: Header, work: &mut [u16], transitions: Transitions) -> bool
     requires prepared { Prepared file.now h work.old transitions.0 }
-    requires fact { Memᴰ (listIn h.start work.old transitions.0) (roll (graphIn file.now h)) }
-    ensures replaced { Replaced (graphIn file.now h) transitions.0 work.old work.new result }
+    requires fact { Memᴰ (list_in h.start work.old transitions.0) (roll (graph_in file.now h)) }
+    ensures replaced { Replaced (graph_in file.now h) transitions.0 work.old work.new result }
     ensures kept { Kept h.states work.old work.new }
 {
     let mut place = transitions.number();

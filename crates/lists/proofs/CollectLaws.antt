@@ -13,18 +13,19 @@ use Rattle.lists.proofs.Sorted.{All}
 
 module _ {A B : Type 0} where
   -- what is collected comes from the part of some entry
-  pub mem-collect : (f : A → List B) (xs : List A) (u : B) → Memᴰ u (collect f xs) → (x : A) × Memᴰ x xs × Memᴰ u (f x)
-  mem-collect f [] u m = absurd (Memᴰ.not-nil m)
-  mem-collect f (x ∷ xs) u m =
+  pub mem_collect : (f : A → List B) (xs : List A) (u : B) → Memᴰ u (collect f xs) → (x : A) × Memᴰ x xs × Memᴰ u (f x)
+  mem_collect f [] u m = absurd (Memᴰ.not-nil m)
+  mem_collect f (x ∷ xs) u m =
       elim (Memᴰ.append_cases (f x) m) [
         | inl h ↦ (x, Memᴰ.head refl, h)
-        | inr h ↦ let r : (y : A) × Memᴰ y xs × Memᴰ u (f y) = mem-collect f xs u h in (r.0, Memᴰ.tail r.1, r.2)
+        | inr h ↦ let r : (y : A) × Memᴰ y xs × Memᴰ u (f y) = mem_collect f xs u h in (r.0, Memᴰ.tail r.1, r.2)
       ]
 
   -- the part of each entry is collected
-  pub collect-mem : (f : A → List B) (xs : List A) (x : A) (u : B) → Memᴰ x xs → Memᴰ u (f x) → Memᴰ u (collect f xs)
-  collect-mem f (y ∷ ys) x u (Memᴰ.head e) h = Memᴰ.append_left (collect f ys) (subst (λ z. Memᴰ u (f z)) e h)
-  collect-mem f (y ∷ ys) x u (Memᴰ.tail m) h = Memᴰ.append_right (f y) (collect-mem f ys x u m h)
+  pub collect_mem : (f : A → List B) (xs : List A) (x : A) (u : B) → Memᴰ x xs → Memᴰ u (f x) → Memᴰ u (collect f xs)
+  collect_mem f [] x u x4 h = elim x4 [ ]
+  collect_mem f (y ∷ ys) x u (Memᴰ.head e) h = Memᴰ.append_left (collect f ys) (subst (λ z. Memᴰ u (f z)) e h)
+  collect_mem f (y ∷ ys) x u (Memᴰ.tail m) h = Memᴰ.append_right (f y) (collect_mem f ys x u m h)
 
 -- one entry more of a list is taken
 pub take_next : {A : Type 0} (ss : List A) (i : ℕ) (d : A) → i < length ss → take (i + 1) ss ≡ take i ss ++ get_or ss i d ∷ []
@@ -38,29 +39,29 @@ collect-append {B = B} f (x ∷ xs) ys =
 
 module _ {A : Type 0} (f : A → List ℕ) where
   -- one entry more
-  pub collect-next : (ss : List A) (i : ℕ) (d : A) → i < length ss
+  pub collect_next : (ss : List A) (i : ℕ) (d : A) → i < length ss
       → collect f (take (i + 1) ss) ≡ collect f (take i ss) ++ f (get_or ss i d)
-  collect-next ss i d less =
+  collect_next ss i d less =
       ap (λ (r : List A). collect f r) (take_next ss i d less)
       ∙ collect-append f (take i ss) (get_or ss i d ∷ [])
       ∙ ap (λ (r : List ℕ). collect f (take i ss) ++ r) (append-nil (f (get_or ss i d)))
 
   -- the first entries take no more room than all
-  pub collect-take-le : (ss : List A) (i : ℕ) → length (collect f (take i ss)) ≤ length (collect f ss)
-  collect-take-le ss i =
+  pub collect-take_le : (ss : List A) (i : ℕ) → length (collect f (take i ss)) ≤ length (collect f ss)
+  collect-take_le ss i =
       let e : collect f ss ≡ collect f (take i ss) ++ collect f (drop i ss) =
       ap (λ (r : List A). collect f r) (sym (take-append-drop i ss)) ∙ collect-append f (take i ss) (drop i ss) in
       omega (arith, ap length e, length-append (collect f (take i ss)) (collect f (drop i ss)))
 
   -- the next entry has room where all have
-  pub collect-room : (ss : List A) (i : ℕ) (d : A) → i < length ss
+  pub collect_room : (ss : List A) (i : ℕ) (d : A) → i < length ss
       → length (collect f (take i ss)) + length (f (get_or ss i d)) ≤ length (collect f ss)
-  collect-room ss i d less =
-      omega (arith, collect-take-le ss (i + 1), ap length (collect-next ss i d less), length-append (collect f (take i ss)) (f (get_or ss i d)))
+  collect_room ss i d less =
+      omega (arith, collect-take_le ss (i + 1), ap length (collect_next ss i d less), length-append (collect f (take i ss)) (f (get_or ss i d)))
 
   -- if no entry takes more than m, n of them take no more than n * m
-  pub collect-length-le : (m : ℕ) (ss : List A) → All (λ s. length (f s) ≤ m) ss → length (collect f ss) ≤ length ss * m
-  collect-length-le m [] h = omega arith
-  collect-length-le m (s ∷ ss) h =
+  pub collect-length_le : (m : ℕ) (ss : List A) → All (λ s. length (f s) ≤ m) ss → length (collect f ss) ≤ length ss * m
+  collect-length_le m [] h = omega arith
+  collect-length_le m (s ∷ ss) h =
       let sum : suc (length ss) * m ≡ length ss * m + m = omega arith in
-      omega (arith, length-append (f s) (collect f ss), collect-length-le m ss h.1, h.0)
+      omega (arith, length-append (f s) (collect f ss), collect-length_le m ss h.1, h.0)

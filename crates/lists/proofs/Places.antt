@@ -12,25 +12,25 @@ use Rattle.lists.specs.Lists.{place_of}
 use Rattle.lists.proofs.Tests.{decide, T_true, T_false, eq→eqb}
 
 -- the first place of an entry: it holds the entry and is no later than any place that does
-pub placeOf-first : (x : ℕ) (xs : List ℕ) (m : ℕ) → m < length xs → get_or xs m 0 ≡ x
+pub place_of_first : (x : ℕ) (xs : List ℕ) (m : ℕ) → m < length xs → get_or xs m 0 ≡ x
     → (place_of x xs ≤ m) × (get_or xs (place_of x xs) 0 ≡ x)
-placeOf-first x [] m h e = absurd (omega arith)
-placeOf-first x (y ∷ ys) zero h e = rw (T_true (eqb x y) (eq→eqb x y (sym e))) (omega arith, e)
-placeOf-first x (y ∷ ys) (suc m) h e =
-    let (low, holds) = placeOf-first x ys m (omega arith) e in
+place_of_first x [] m h e = absurd (omega arith)
+place_of_first x (y ∷ ys) zero h e = rw (T_true (eqb x y) (eq→eqb x y (sym e))) (omega arith, e)
+place_of_first x (y ∷ ys) (suc m) h e =
+    let (low, holds) = place_of_first x ys m (omega arith) e in
     elim (decide (eqb x y)) [
       | inl t ↦ rw (T_true (eqb x y) t) (omega arith, sym (eqb→eq x y t))
       | inr n ↦ rw (T_false (eqb x y) n) (omega arith, holds)
     ]
 
 -- what follows does not change the first entry
-pub joined-start : (q : List ℕ) (t : ℕ) (us : List ℕ) → get_or (q ++ t ∷ us) 0 0 ≡ get_or (q ++ t ∷ []) 0 0
-joined-start [] t us = refl
-joined-start (x ∷ q) t us = refl
+pub joined_start : (q : List ℕ) (t : ℕ) (us : List ℕ) → get_or (q ++ t ∷ us) 0 0 ≡ get_or (q ++ t ∷ []) 0 0
+joined_start [] t us = refl
+joined_start (x ∷ q) t us = refl
 
 -- what follows does not change the entries before it
-pub joined-passed : (q : List ℕ) (t : ℕ) (us : List ℕ) (j : ℕ) → j < length q → get_or (q ++ t ∷ us) j 0 ≡ get_or q j 0
-joined-passed q t us j h = get_or-append q (t ∷ us) 0 j h
+pub joined_passed : (q : List ℕ) (t : ℕ) (us : List ℕ) (j : ℕ) → j < length q → get_or (q ++ t ∷ us) j 0 ≡ get_or q j 0
+joined_passed q t us j h = get_or-append q (t ∷ us) 0 j h
 
 -- lists with the same first j entries have the same entry at each place below j
 pub take_same : (xs ys : List ℕ) (j i : ℕ) → take j xs ≡ take j ys → i < j → get_or xs i 0 ≡ get_or ys i 0

@@ -20,6 +20,6 @@ sum (some a) none = none
 sum (some a) (some b) = some (a + b)
 
 -- the least of the numbers that f gives for the entries
-abbrev pub leastOf : (ℕ → Option ℕ) → List ℕ → Option ℕ
-leastOf f [] = none
-leastOf f (s ∷ ss) = lesser (f s) (leastOf f ss)
+abbrev pub least_of : (ℕ → Option ℕ) → List ℕ → Option ℕ
+least_of f [] = none
+least_of f (s ∷ ss) = lesser (f s) (least_of f ss)

@@ -29,14 +29,14 @@ pick true a b = a
 pick false a b = b
 
 -- x in front of the list if the test was passed
-abbrev pub consIf : {A : Type 0} → Bool → A → List A → List A
-consIf true x xs = x ∷ xs
-consIf false x xs = xs
+abbrev pub cons_if : {A : Type 0} → Bool → A → List A → List A
+cons_if true x xs = x ∷ xs
+cons_if false x xs = xs
 
 -- the entries that pass the test, in their order
 abbrev pub keep : {A : Type 0} → (A → Bool) → List A → List A
 keep p [] = []
-keep p (x ∷ xs) = consIf (p x) x (keep p xs)
+keep p (x ∷ xs) = cons_if (p x) x (keep p xs)
 
 -- the lists that f gives for the entries, one after another
 abbrev pub collect : {A B : Type 0} → (A → List B) → List A → List B
@@ -53,14 +53,14 @@ abbrev pub below : ℕ → List ℕ
 below n = up_from 0 n
 
 -- x if the test was passed, else the other answer
-abbrev pub someIf : {A : Type 0} → Bool → A → Option A → Option A
-someIf true x other = some x
-someIf false x other = other
+abbrev pub some_if : {A : Type 0} → Bool → A → Option A → Option A
+some_if true x other = some x
+some_if false x other = other
 
 -- the least of the n numbers a, a + 1, .. that passes the test, if one does
 abbrev pub seek : (ℕ → Bool) → ℕ → ℕ → Option ℕ
 seek p a zero = none
-seek p a (suc n) = let later : Option ℕ = seek p (suc a) n in someIf (p a) a later
+seek p a (suc n) = let later : Option ℕ = seek p (suc a) n in some_if (p a) a later
 
 -- there is a value
 abbrev pub is_some : {A : Type 0} → Option A → Bool
@@ -68,9 +68,9 @@ is_some none = false
 is_some (some x) = true
 
 -- the list has an entry
-abbrev pub nonEmptyb : {A : Type 0} → List A → Bool
-nonEmptyb [] = false
-nonEmptyb (x ∷ xs) = true
+abbrev pub non_emptyb : {A : Type 0} → List A → Bool
+non_emptyb [] = false
+non_emptyb (x ∷ xs) = true
 
 -- the first place that holds x, counted from 0; the number of entries if none does
 abbrev pub place_of : ℕ → List ℕ → ℕ

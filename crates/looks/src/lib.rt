@@ -1,10 +1,10 @@
 // Looks after the last loop start of a list: whether a state is a goal, so that the list can close there; at a place before
 // the last whether a table has the state there; and whether a step leads from a state of a level to a goal.
 ghost use Rattle.std.specs.Prelude.{◌*◌, ◌≤◌, ◌<◌, length};
-ghost use Rattle.numbers.specs.Limits.{mostStates};
+ghost use Rattle.numbers.specs.Limits.{most_states};
 ghost use Rattle.lists.specs.Decides.{Decides};
 ghost use Rattle.model.specs.Values.{Valid};
-ghost use Rattle.model.specs.Model.{graphIn};
+ghost use Rattle.model.specs.Model.{graph_in};
 ghost use Rattle.looks.specs.Looks.{GoalAt, LastSays, PlaceSays, Closes, FlagFor};
 
 use current::list_at;
@@ -14,7 +14,7 @@ use table::get;
 // State y is a goal: it can start the loop, and stands on the list at the place of its distance, which is below the bound.
 fn is_goal(h: Header, work: &[u16], bound: usize, y: usize) -> bool
     requires states_in_bounds { 2 * h.states ≤ length work.now }
-    requires states_le_most_states { h.states ≤ mostStates }
+    requires states_le_most_states { h.states ≤ most_states }
     requires bound_le_states { bound ≤ h.states }
     requires y_lt_states { y < h.states }
     ensures { Decides (GoalAt h.states h.start work.now bound y) result }
@@ -41,7 +41,7 @@ fn is_goal(h: Header, work: &[u16], bound: usize, y: usize) -> bool
 // more.
 pub fn at_last(h: Header, work: &[u16], start: usize, mark: usize, t: usize) -> bool
     requires states_in_bounds { 2 * h.states ≤ length work.now }
-    requires states_le_most_states { h.states ≤ mostStates }
+    requires states_le_most_states { h.states ≤ most_states }
     requires start_le_states { start ≤ h.states }
     requires t_lt_states { t < h.states }
     ensures { Decides (LastSays h.states h.start work.now start mark t) result }
@@ -55,7 +55,7 @@ pub fn at_last(h: Header, work: &[u16], start: usize, mark: usize, t: usize) -> 
 // At a place before the last: the table says that t may stand there.
 pub fn before_last(n: usize, work: &[u16], b: usize, mark: usize, place: usize, t: usize) -> bool
     requires n_in_bounds { 6 * n ≤ length work.now }
-    requires n_le_most_states { n ≤ mostStates }
+    requires n_le_most_states { n ≤ most_states }
     requires b_le_place { b ≤ place }
     requires place_lt_n { place < n }
     requires t_lt_n { t < n }
@@ -81,7 +81,7 @@ pub fn closing_flag(
     requires level_le_states { level ≤ h.states }
     requires bound_le_states { bound ≤ h.states }
     requires s_lt_states { s < h.states }
-    ensures { FlagFor (Closes (graphIn file.now h) h.states h.start work.now
+    ensures { FlagFor (Closes (graph_in file.now h) h.states h.start work.now
         level bound s) result }
 {
     let n = h.states;

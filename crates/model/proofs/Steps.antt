@@ -6,29 +6,29 @@ use mathlib.Core.Logic.{◌⊎◌}
 use lib.ListN.{length, get_or, drop}
 use Rattle.format.specs.Bytes.{words}
 use Rattle.model.specs.declared.Header.{Header}
-use Rattle.model.specs.Model.{listIf, withImplied, steps_of}
-use Rattle.model.proofs.Implied.{implied-some, implied-none, implied-or-itself, implied-behind-first}
+use Rattle.model.specs.Model.{list_if, with_implied, steps_of}
+use Rattle.model.proofs.Implied.{implied_some, implied_none, implied_or_itself, implied_behind_first}
 
 module _ (h : Header) (s : ℕ) (part : List ℕ) where
   -- the successors are the numbers of the part, with the implied step
-  steps-are : steps_of h s part ≡ withImplied h.stays s (words part)
+  steps_are : steps_of h s part ≡ with_implied h.stays s (words part)
   unfolding steps_of
-  steps-are = refl
+  steps_are = refl
 
   -- a part that holds a number stands for its numbers
-  pub steps-edges : 1 ≤ length (words part) → steps_of h s part ≡ words part
-  steps-edges l = steps-are ∙ implied-some h.stays s (words part) l
+  pub steps_edges : 1 ≤ length (words part) → steps_of h s part ≡ words part
+  steps_edges l = steps_are ∙ implied_some h.stays s (words part) l
 
   -- a part that holds none stands for the implied step, if there is one
-  pub steps-none : length (words part) ≡ 0 → steps_of h s part ≡ listIf h.stays (s ∷ [])
-  steps-none e = steps-are ∙ implied-none h.stays s (words part) e
+  pub steps_none : length (words part) ≡ 0 → steps_of h s part ≡ list_if h.stays (s ∷ [])
+  steps_none e = steps_are ∙ implied_none h.stays s (words part) e
 
   -- a part stands for its numbers, or for one step to the state itself
-  pub steps-or-itself : (steps_of h s part ≡ words part) ⊎ (steps_of h s part ≡ s ∷ [])
+  pub steps_or_itself : (steps_of h s part ≡ words part) ⊎ (steps_of h s part ≡ s ∷ [])
   unfolding steps_of
-  steps-or-itself = implied-or-itself h.stays s (words part)
+  steps_or_itself = implied_or_itself h.stays s (words part)
 
   -- after the first successor there are only edges
-  pub steps-behind-first : 0 < length (steps_of h s part) → steps_of h s part ≡ get_or (steps_of h s part) 0 0 ∷ drop 1 (words part)
+  pub steps_behind_first : 0 < length (steps_of h s part) → steps_of h s part ≡ get_or (steps_of h s part) 0 0 ∷ drop 1 (words part)
   unfolding steps_of
-  steps-behind-first l = implied-behind-first h.stays s (words part) l
+  steps_behind_first l = implied_behind_first h.stays s (words part) l

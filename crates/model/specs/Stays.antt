@@ -3,22 +3,22 @@ use Rattle.std.specs.Prelude.{ℕ, ◌<◌, ◌≡◌, List, [], ◌↔◌, ◌�
 use Rattle.lists.specs.Lists.{memb}
 use Rattle.lasso.specs.Graph.{edgeb}
 use Rattle.lasso.specs.Shown.{EndsRun}
-use Rattle.format.specs.Layout.{states, staysWord, rowTargets}
+use Rattle.format.specs.Layout.{states, stays_word, row_targets}
 use Rattle.format.specs.Rules.{Accepted}
-use Rattle.model.specs.Model.{rowGraph, graph_of}
-use Rattle.model.specs.Values.{headerOf}
+use Rattle.model.specs.Model.{row_graph, graph_of}
+use Rattle.model.specs.Values.{header_of}
 
 -- The edges of the model that a file holds, by its rows and its bytes 6–7, whichever mark table is named.
 pub record ImpliedSteps (f : List ℕ) (table : ℕ) : Type 0 where
   -- s has an edge to itself exactly if the file says so, or bytes 6–7 are 1 and its row is empty
-  pub to-itself : (s : ℕ) → s < states f
-      → T (edgeb (graph_of f table) s s) ↔ (T (memb s (rowTargets f s)) ⊎ ((staysWord f ≡ 1) × (rowTargets f s ≡ [])))
+  pub to_itself : (s : ℕ) → s < states f
+      → T (edgeb (graph_of f table) s s) ↔ (T (memb s (row_targets f s)) ⊎ ((stays_word f ≡ 1) × (row_targets f s ≡ [])))
   -- every other edge is one of the file's
-  pub to-another : (s t : ℕ) → s < states f → (s ≡ t → ⊥) → edgeb (graph_of f table) s t ≡ memb t (rowTargets f s)
+  pub to_another : (s t : ℕ) → s < states f → (s ≡ t → ⊥) → edgeb (graph_of f table) s t ≡ memb t (row_targets f s)
   -- with 0 the model is the graph of the rows and marks
-  pub zero-rows-alone : staysWord f ≡ 0 → graph_of f table ≡ rowGraph f (headerOf f table)
+  pub zero_rows_alone : stays_word f ≡ 0 → graph_of f table ≡ row_graph f (header_of f table)
   -- so it is whatever bytes 6–7 are, if no row is empty
-  pub full-rows-alone : ((s : ℕ) → s < states f → rowTargets f s ≡ [] → ⊥) → graph_of f table ≡ rowGraph f (headerOf f table)
+  pub full_rows_alone : ((s : ℕ) → s < states f → row_targets f s ≡ [] → ⊥) → graph_of f table ≡ row_graph f (header_of f table)
 
 -- So it is for every file, accepted or not.
 abbrev pub StepsAreImplied : Type 0
@@ -28,4 +28,4 @@ StepsAreImplied = (f : List ℕ) (table : ℕ) → ImpliedSteps f table
 -- accepted file ends the run exactly if its row is empty and bytes 6–7 are 0.
 abbrev pub RunEndsExactly : Type 0
 RunEndsExactly = (f : List ℕ) (table : ℕ) → Accepted f → (s : ℕ) → s < states f
-    → EndsRun (graph_of f table) s ↔ ((rowTargets f s ≡ []) × (staysWord f ≡ 0))
+    → EndsRun (graph_of f table) s ↔ ((row_targets f s ≡ []) × (stays_word f ≡ 0))

@@ -1,15 +1,16 @@
 // The model file: its header, the answer of its check, and the leaves by which the layers above read it.
 // The leaves speak of the graph that the file holds; those that are given the part of a row alone, of its numbers.
+#![tactic(auto)]
 ghost use Rattle.std.specs.Prelude.{◌≡◌, ◌<◌, length, get_or};
 ghost use Rattle.format.specs.Bytes.{words};
-ghost use Rattle.model.specs.Model.{graphIn, steps_of};
+ghost use Rattle.model.specs.Model.{graph_in, steps_of};
 ghost use Rattle.model.specs.Values.{naming, Valid};
 
 use format::{bit, mark_bytes, row, table_at, word};
 
 // The fields of an accepted file that its readers need, and the mark table by which they read it. `stays`: a state without
 // edges has an implied step to itself.
-#[derive(Drop)]
+#[derive(Clone, Copy)]
 pub struct Header {
     pub states: usize,
     pub edges: usize,
@@ -34,7 +35,7 @@ impl Header {
 }
 
 // The answer of the check: the number of the first broken rule, or the header.
-#[derive(Drop)]
+#[derive(Clone, Copy)]
 pub enum Checked {
     Refused(u16),
     Accept(Header),
@@ -44,7 +45,7 @@ pub enum Checked {
 pub fn row_part(file: &[u8], h: Header, s: usize) -> &[u8]
     requires valid { Valid file.now h }
     requires s_lt_states { s < h.states }
-    ensures { steps_of h s result.now ≡ (graphIn file.now h).succs s }
+    ensures { steps_of h s result.now ≡ (graph_in file.now h).succs s }
 {
     let states = h.states;
     row(file, states, s)
@@ -94,7 +95,7 @@ pub fn successor(part: &[u8], h: Header, s: usize, k: usize) -> usize
 pub fn is_marked(file: &[u8], h: Header, s: usize) -> bool
     requires valid { Valid file.now h }
     requires s_lt_states { s < h.states }
-    ensures { result ≡ (graphIn file.now h).marked s }
+    ensures { result ≡ (graph_in file.now h).marked s }
 {
     let states = h.states;
     let edges = h.edges;

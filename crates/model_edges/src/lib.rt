@@ -1,7 +1,9 @@
 // Whether a model file has an edge: it is looked for in the row of its source.
+#![tactic(auto)]
+
 ghost use Rattle.std.specs.Prelude.{◌≡◌, ◌<◌};
 ghost use Rattle.lasso.specs.Graph.{edgeb};
-ghost use Rattle.model.specs.Model.{graphIn};
+ghost use Rattle.model.specs.Model.{graph_in};
 ghost use Rattle.model.specs.Values.{Valid};
 
 use model::{Header, degree, row_part, successor};
@@ -11,7 +13,7 @@ use model::{Header, degree, row_part, successor};
 pub fn has_edge(file: &[u8], h: Header, s: usize, t: usize) -> bool
     requires valid { Valid file.now h }
     requires s_lt_states { s < h.states }
-    ensures { result ≡ edgeb (graphIn file.now h) s t }
+    ensures { result ≡ edgeb (graph_in file.now h) s t }
 {
     let part = row_part(file, h, s);
     let d = degree(part, h, s);

@@ -1,11 +1,11 @@
 // The list as it grows by a state and shrinks by places, and what is known of it then: its last loop start, its last mark,
 // and whether the tables after that loop start are there.
 ghost use Rattle.std.specs.Prelude.{◌+◌, ◌*◌, ◌≤◌, ◌<◌, length};
-ghost use Rattle.numbers.specs.Limits.{mostStates};
+ghost use Rattle.numbers.specs.Limits.{most_states};
 ghost use Rattle.lists.specs.Decides.{Decides};
 ghost use Rattle.model.specs.Values.{Valid};
-ghost use Rattle.model.specs.Model.{graphIn};
-ghost use Rattle.current.specs.Current.{stateAt};
+ghost use Rattle.model.specs.Model.{graph_in};
+ghost use Rattle.current.specs.Current.{state_at};
 ghost use Rattle.follow.specs.Follow.{StatesTo, Prepared};
 ghost use Rattle.goals.specs.Goals.{LastOf, LastMark};
 ghost use Rattle.passed.specs.Passed.{PassedAt, KnownFrom};
@@ -21,9 +21,9 @@ use table::{get, put};
 // The state at place k can start the loop, and stands at its distance.
 fn starts_at(h: Header, work: &[u16], k: usize) -> bool
     requires states_in_bounds { 2 * h.states ≤ length work.now }
-    requires states_le_most_states { h.states ≤ mostStates }
+    requires states_le_most_states { h.states ≤ most_states }
     requires k_le_states { k ≤ h.states }
-    requires k_bound { stateAt h work.now k < h.states }
+    requires k_bound { state_at h work.now k < h.states }
     ensures { Decides (LoopEntry h.states h.start work.now k) result }
 {
     let n = h.states;
@@ -41,7 +41,7 @@ fn starts_at(h: Header, work: &[u16], k: usize) -> bool
 // The last place of the list up to a given one with such a state, plus 1; or 0.
 fn last_start(h: Header, work: &[u16], place: usize) -> usize
     requires states_in_bounds { 2 * h.states ≤ length work.now }
-    requires states_le_most_states { h.states ≤ mostStates }
+    requires states_le_most_states { h.states ≤ most_states }
     requires place_le_states { place ≤ h.states }
     requires states_to { StatesTo h work.now place }
     ensures { LastOf (LoopEntry h.states h.start work.now) place result }
@@ -59,7 +59,7 @@ fn last_start(h: Header, work: &[u16], place: usize) -> usize
 // The last loop start up to a place, where `start` is it unless it stands after.
 fn start_back(h: Header, work: &[u16], place: usize, start: usize) -> usize
     requires states_in_bounds { 2 * h.states ≤ length work.now }
-    requires states_le_most_states { h.states ≤ mostStates }
+    requires states_le_most_states { h.states ≤ most_states }
     requires place_le_states { place ≤ h.states }
     requires states_to { StatesTo h work.now place }
     requires last_of { start ≤ place + 1 → LastOf (LoopEntry h.states h.start work.now) place start }
@@ -77,8 +77,8 @@ fn mark_back(file: &[u8], h: Header, work: &[u16], place: usize, mark: usize) ->
     requires states_in_bounds { 2 * h.states ≤ length work.now }
     requires place_le_states { place ≤ h.states }
     requires states_to { StatesTo h work.now place }
-    requires last_mark { mark ≤ place + 1 → LastMark (graphIn file.now h) (stateAt h work.now) place mark }
-    ensures { LastMark (graphIn file.now h) (stateAt h work.now) place result }
+    requires last_mark { mark ≤ place + 1 → LastMark (graph_in file.now h) (state_at h work.now) place mark }
+    ensures { LastMark (graph_in file.now h) (state_at h work.now) place result }
 {
     if mark <= place + 1 {
         return mark;
@@ -109,7 +109,7 @@ pub fn retreat(
 // The last loop start up to the place after the given one.
 fn start_after(h: Header, work: &[u16], place: usize, start: usize) -> usize
     requires states_in_bounds { 2 * h.states ≤ length work.now }
-    requires states_le_most_states { h.states ≤ mostStates }
+    requires states_le_most_states { h.states ≤ most_states }
     requires place_lt_states { place < h.states }
     requires states_to { StatesTo h work.now (place + 1) }
     requires last_of { LastOf (LoopEntry h.states h.start work.now) place start }
@@ -127,8 +127,8 @@ fn mark_after(file: &[u8], h: Header, work: &[u16], place: usize, mark: usize) -
     requires states_in_bounds { 2 * h.states ≤ length work.now }
     requires place_lt_states { place < h.states }
     requires states_to { StatesTo h work.now (place + 1) }
-    requires last_mark { LastMark (graphIn file.now h) (stateAt h work.now) place mark }
-    ensures { LastMark (graphIn file.now h) (stateAt h work.now) (place + 1) result }
+    requires last_mark { LastMark (graph_in file.now h) (state_at h work.now) place mark }
+    ensures { LastMark (graph_in file.now h) (state_at h work.now) (place + 1) result }
 {
     let s = list_at(h, work, place + 1);
     if is_marked(file, h, s) {

@@ -3,12 +3,12 @@
 ghost use Rattle.std.specs.Prelude.{◌≡◌, ◌*◌, ◌≤◌, length};
 ghost use Rattle.std.proofs.Math.Option.{some};
 ghost use Rattle.std.proofs.Math.ListN;
-ghost use Rattle.lasso.specs.Roll.{leastLength};
-ghost use Rattle.model.specs.Model.{graphIn};
+ghost use Rattle.lasso.specs.Roll.{least_length};
+ghost use Rattle.model.specs.Model.{graph_in};
 ghost use Rattle.model.specs.Values.{Valid};
-ghost use Rattle.gate.specs.Gate.{workOf};
+ghost use Rattle.gate.specs.Gate.{work_of};
 ghost use Rattle.candidates.specs.Promises.{RoundsReady};
-ghost use Rattle.next.specs.Next.{nextOutcomeOf, nextOutcome, nextAnswer};
+ghost use Rattle.next.specs.Next.{next_outcome_of, next_outcome, next_answer};
 
 use begun::{AllRounds, all_rounds};
 use cursor::{to_list, to_next, write_list};
@@ -19,7 +19,7 @@ use numbers::{limit, reason};
 use paths::is_lasso;
 
 // The answer of next: refused with a number, found with the length and the loop's start, or no more.
-#[derive(Drop)]
+#[derive(Clone, Copy)]
 pub enum NextAnswer {
     Refused(u16),
     Found(Transitions, u16),
@@ -36,13 +36,13 @@ fn next_list(
     work: &mut [u16],
 ) -> NextAnswer
     requires rounds_ready { RoundsReady file.now h work.old }
-    requires h_value { leastLength (graphIn file.now h) ≡ some transitions.0 }
-    ensures outcome { nextOutcomeOf result
-        ≡ nextOutcome file.now h.table earlier.now
+    requires h_value { least_length (graph_in file.now h) ≡ some transitions.0 }
+    ensures outcome { next_outcome_of result
+        ≡ next_outcome file.now h.table earlier.now
         (length answer.old)
         (length work.old) }
     ensures answer { answer.new
-        ≡ nextAnswer file.now h.table earlier.now answer.old
+        ≡ next_answer file.now h.table earlier.now answer.old
         (length work.old) }
     ensures kept { length work.new ≡ length work.old }
 {
@@ -76,11 +76,11 @@ fn next_of_model(
 ) -> NextAnswer
     requires valid { Valid file.now h }
     requires states_in_bounds { 6 * h.states ≤ length work.old }
-    ensures outcome { nextOutcomeOf result
-        ≡ nextOutcome file.now h.table earlier.now
+    ensures outcome { next_outcome_of result
+        ≡ next_outcome file.now h.table earlier.now
         (length answer.old) (length work.old) }
     ensures answer { answer.new
-        ≡ nextAnswer file.now h.table earlier.now answer.old
+        ≡ next_answer file.now h.table earlier.now answer.old
         (length work.old) }
     ensures kept { length work.new ≡ length work.old }
 {
@@ -99,12 +99,12 @@ pub fn next(
     answer: &mut [u16],
     work: &mut [u16],
 ) -> NextAnswer
-    ensures outcome { nextOutcomeOf result
-        ≡ nextOutcome file.now mark_table earlier.now (length answer.old)
+    ensures outcome { next_outcome_of result
+        ≡ next_outcome file.now mark_table earlier.now (length answer.old)
         (length work.old) }
     ensures answer { answer.new
-        ≡ nextAnswer file.now mark_table earlier.now answer.old (length work.old) }
-    ensures work { work.new ≡ workOf file.now mark_table work.old }
+        ≡ next_answer file.now mark_table earlier.now answer.old (length work.old) }
+    ensures work { work.new ≡ work_of file.now mark_table work.old }
 {
     let checked = enter(file, mark_table, work);
     match checked {

@@ -5,21 +5,21 @@ use Rattle.numbers.specs.Reasons as reason
 
 -- a call that names a mark table applies 22 before 1; a step, a search and a distance call apply 21 after 12, a search
 -- skips 13, the grader goes no further than 12
-abbrev pub stepNumbers : List ℕ
-stepNumbers = reason.noTable ∷ up_from 1 12 ++ reason.highCeiling ∷ []
+abbrev pub step_numbers : List ℕ
+step_numbers = reason.no_table ∷ up_from 1 12 ++ reason.high_ceiling ∷ []
 
-abbrev pub searchNumbers : List ℕ
-searchNumbers = reason.noTable ∷ up_from 1 12 ++ reason.highCeiling ∷ reason.tooLong ∷ reason.noRoom ∷ []
+abbrev pub search_numbers : List ℕ
+search_numbers = reason.no_table ∷ up_from 1 12 ++ reason.high_ceiling ∷ reason.too_long ∷ reason.no_room ∷ []
 
-abbrev pub nextNumbers : List ℕ
-nextNumbers = reason.noTable ∷ up_from 1 12 ++ reason.notShortest ∷ reason.tooLong ∷ reason.noRoom ∷ []
+abbrev pub next_numbers : List ℕ
+next_numbers = reason.no_table ∷ up_from 1 12 ++ reason.not_shortest ∷ reason.too_long ∷ reason.no_room ∷ []
 
-abbrev pub gradeNumbers : List ℕ
-gradeNumbers = reason.noTable ∷ up_from 1 12
+abbrev pub grade_numbers : List ℕ
+grade_numbers = reason.no_table ∷ up_from 1 12
 
-abbrev pub distanceNumbers : List ℕ
-distanceNumbers = up_from 1 12 ++ reason.highCeiling ∷ reason.noRoom ∷ []
+abbrev pub distance_numbers : List ℕ
+distance_numbers = up_from 1 12 ++ reason.high_ceiling ∷ reason.no_room ∷ []
 
 -- a combination applies 1 to 11 to its rule, then 16, 17 and 18, last 15
-abbrev pub combineNumbers : List ℕ
-combineNumbers = up_from 1 11 ++ reason.badLetters ∷ reason.badProperty ∷ reason.tooLarge ∷ reason.noRoom ∷ []
+abbrev pub combine_numbers : List ℕ
+combine_numbers = up_from 1 11 ++ reason.bad_letters ∷ reason.bad_property ∷ reason.too_large ∷ reason.no_room ∷ []

@@ -1,12 +1,12 @@
 // What is known of a list up to a place: its last loop start, its last mark, and whether the tables after that loop start
 // are there.
 ghost use Rattle.std.specs.Prelude.{false, ◌≡◌, ◌+◌, ◌≤◌, ◌<◌};
-ghost use Rattle.numbers.specs.Limits.{mostStates};
+ghost use Rattle.numbers.specs.Limits.{most_states};
 ghost use Rattle.passed.specs.Passed.{Moved};
 
 // What is known of a list up to a place: the places of its last loop start and of its last mark, plus 1, or 0; how many
 // tests after that loop start were done by a search; and whether the tables after it are there.
-#[derive(Drop)]
+#[derive(Clone, Copy)]
 pub struct Passed {
     pub start: usize,
     pub mark: usize,
@@ -16,7 +16,7 @@ pub struct Passed {
 
 // Nothing is known of the list up to a place: what is said to be last stands after it.
 pub fn unknown(place: usize) -> Passed
-    requires { place ≤ mostStates }
+    requires { place ≤ most_states }
     ensures { (place + 1 < result.start) × (place + 1 < result.mark) × (result.made ≡ false) }
 {
     Passed {

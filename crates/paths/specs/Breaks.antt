@@ -12,13 +12,13 @@ breakb g xs j =
     not (ltb (get_or xs j 0) g.size) || (leb 1 j && not (edgeb g (get_or xs (j - 1) 0) (get_or xs j 0)))
 
 -- the first such place, if any, counted from 0
-abbrev pub firstBreak : Graph → List ℕ → Option ℕ
-firstBreak g xs = seek (breakb g xs) 0 (length xs)
+abbrev pub first_break : Graph → List ℕ → Option ℕ
+first_break g xs = seek (breakb g xs) 0 (length xs)
 
 -- the place that a value of the code holds
-abbrev pub breakOf : FirstBreak → Option ℕ
-breakOf None = none
-breakOf (At j) = some j
+abbrev pub break_of : FirstBreak → Option ℕ
+break_of None = none
+break_of (At j) = some j
 
 -- every entry is below n
 abbrev pub AllBelow : ℕ → List ℕ → Type 0
@@ -37,11 +37,11 @@ pub record BreaksFirst (g : Graph) (xs : List ℕ) (j : ℕ) : Type 0 where
 -- What the first place says, whatever the list and the graph.
 pub record BreakShown (g : Graph) : Type 0 where
   -- there is such a place j exactly if the list breaks there and at no place before it
-  pub some-exactly : (xs : List ℕ) (j : ℕ) → (firstBreak g xs ≡ some j) ↔ BreaksFirst g xs j
+  pub some_exactly : (xs : List ℕ) (j : ℕ) → (first_break g xs ≡ some j) ↔ BreaksFirst g xs j
   -- there is none exactly if the list is a path of states
-  pub none-exactly : (xs : List ℕ) → (firstBreak g xs ≡ none) ↔ (T (pathb g xs) × AllBelow g.size xs)
+  pub none_exactly : (xs : List ℕ) → (first_break g xs ≡ none) ↔ (T (pathb g xs) × AllBelow g.size xs)
   -- an accepting path has none, where the initial state is a state and edges are pairs of states
-  pub accepting-none : WellFormed g → (xs : List ℕ) → T (acceptingb g xs) → firstBreak g xs ≡ none
+  pub accepting_none : WellFormed g → (xs : List ℕ) → T (acceptingb g xs) → first_break g xs ≡ none
 
 -- So it is for every graph.
 abbrev pub BreaksShown : Type 0

@@ -1,12 +1,14 @@
 // Tests of a given list: the first place where it breaks, whether it is a path, whether it closes at a mark, whether it is
 // a lasso of a length.
+#![tactic(auto)]
+
 ghost use Rattle.std.specs.Prelude.{◌≡◌, ◌&&◌, ◌≤◌, ◌<◌, length, get_or, T, eqb};
 ghost use Rattle.std.proofs.Math.Option.{none};
 ghost use Rattle.lists.specs.Lists.{anyb, below};
 ghost use Rattle.lasso.specs.Graph.{edges, pathb, loopsb, lassob};
-ghost use Rattle.model.specs.Model.{graphIn};
+ghost use Rattle.model.specs.Model.{graph_in};
 ghost use Rattle.model.specs.Values.{Valid};
-ghost use Rattle.paths.specs.Breaks.{breakOf, firstBreak};
+ghost use Rattle.paths.specs.Breaks.{break_of, first_break};
 
 use lasso::{Entries, Transitions};
 use model::{Header, is_marked};
@@ -14,7 +16,7 @@ use model_edges::has_edge;
 use table::get;
 
 // The first place where a list breaks, counted from 0: none, or a place, which may be as great as a list is long.
-#[derive(Drop)]
+#[derive(Clone, Copy)]
 pub enum FirstBreak {
     None,
     At(usize),
@@ -23,7 +25,7 @@ pub enum FirstBreak {
 // The first place whose entry is no state or, past place 0, is not reached by an edge from the entry before it.
 pub fn first_break(file: &[u8], h: Header, list: &[u16]) -> FirstBreak
     requires { Valid file.now h }
-    ensures { breakOf result ≡ firstBreak (graphIn file.now h) list.now }
+    ensures { break_of result ≡ first_break (graph_in file.now h) list.now }
 {
     if list.len() == 0 {
         return FirstBreak::None;
@@ -51,7 +53,7 @@ pub fn is_path(file: &[u8], h: Header, list: &[u16]) -> bool
     requires in_bounds { 1 ≤ length list.now }
     ensures { result
         ≡ (eqb (get_or list.now 0 0) h.start
-        && pathb (graphIn file.now h) list.now) }
+        && pathb (graph_in file.now h) list.now) }
 {
     if get(list, 0) != h.start {
         return false;
@@ -67,9 +69,9 @@ pub fn is_path(file: &[u8], h: Header, list: &[u16]) -> bool
 // those from k to before the last is marked.
 pub fn loops_at(file: &[u8], h: Header, list: &[u16], k: usize) -> bool
     requires valid { Valid file.now h }
-    requires list_value { firstBreak (graphIn file.now h) list.now ≡ none }
+    requires list_value { first_break (graph_in file.now h) list.now ≡ none }
     requires k_bound { k < edges list.now }
-    ensures { result ≡ loopsb (graphIn file.now h) list.now k }
+    ensures { result ≡ loopsb (graph_in file.now h) list.now k }
 {
     let end = list.len() - 1;
     if get(list, end) != get(list, k) {
@@ -91,9 +93,9 @@ pub fn loops_at(file: &[u8], h: Header, list: &[u16], k: usize) -> bool
 pub fn closes(file: &[u8], h: Header, list: &[u16]) -> bool
     requires valid { Valid file.now h }
     requires in_bounds { 1 ≤ length list.now }
-    requires list_value { (get_or list.now 0 0 ≡ h.start) × T (pathb (graphIn file.now h) list.now) }
+    requires list_value { (get_or list.now 0 0 ≡ h.start) × T (pathb (graph_in file.now h) list.now) }
     ensures { result
-        ≡ anyb (loopsb (graphIn file.now h) list.now) (below (edges list.now)) }
+        ≡ anyb (loopsb (graph_in file.now h) list.now) (below (edges list.now)) }
 {
     let end = list.len() - 1;
     let last = get(list, end);
@@ -111,7 +113,7 @@ pub fn closes(file: &[u8], h: Header, list: &[u16]) -> bool
 pub fn is_lasso(file: &[u8], h: Header, list: &[u16], transitions: Transitions) -> bool
     requires { Valid file.now h }
     ensures { result
-        ≡ (lassob (graphIn file.now h) list.now
+        ≡ (lassob (graph_in file.now h) list.now
         && eqb (edges list.now) transitions.0) }
 {
     let entries = transitions.entries();

@@ -1,10 +1,11 @@
 // The property file: its check, and the leaves that read its targets, masks and marks by rows.
+#![tactic(auto)]
 ghost use Rattle.std.specs.Prelude.{◌≡◌, ◌≤◌, ◌<◌, length};
-ghost use Rattle.numbers.specs.Limits.{highestLetter};
+ghost use Rattle.numbers.specs.Limits.{highest_letter};
 ghost use Rattle.lists.specs.Lists.{keep};
 ghost use Rattle.format.specs.Bytes.{words, bitb};
-ghost use Rattle.format.specs.Layout.{rowTargets, markBit};
-ghost use Rattle.property.specs.Property.{propertyCheckOf, rowMasks, zeroMask, ValidProperty};
+ghost use Rattle.format.specs.Layout.{row_targets, mark_bit};
+ghost use Rattle.property.specs.Property.{property_check_of, row_masks, zero_mask, ValidProperty};
 
 use checking::{check_head, check_tables};
 use format::{bit, edge_part, entry_at, row, table_at, total_of, word};
@@ -12,7 +13,7 @@ use model::{Checked, Header};
 
 // Applies the rules 1 to 11 in order; there is one mark table, and the total length counts the masks after it.
 pub fn check_property(file: &[u8]) -> Checked
-    ensures { result ≡ propertyCheckOf file.now }
+    ensures { result ≡ property_check_of file.now }
 {
     let head = check_head(file);
     match head {
@@ -27,7 +28,7 @@ pub fn check_property(file: &[u8]) -> Checked
 // Some edge has a zero mask.
 pub fn has_zero_mask(file: &[u8], h: Header) -> bool
     requires { ValidProperty file.now h }
-    ensures { result ≡ zeroMask file.now }
+    ensures { result ≡ zero_mask file.now }
 {
     let m = h.edges;
     let masks = total_of(h.states, m);
@@ -45,7 +46,7 @@ pub fn has_zero_mask(file: &[u8], h: Header) -> bool
 pub fn target_part(file: &[u8], h: Header, q: usize) -> &[u8]
     requires valid_property { ValidProperty file.now h }
     requires q_lt_states { q < h.states }
-    ensures { words result.now ≡ rowTargets file.now q }
+    ensures { words result.now ≡ row_targets file.now q }
 {
     let states = h.states;
     row(file, states, q)
@@ -55,14 +56,14 @@ pub fn target_part(file: &[u8], h: Header, q: usize) -> &[u8]
 pub fn mask_part(file: &[u8], h: Header, q: usize) -> &[u8]
     requires valid_property { ValidProperty file.now h }
     requires q_lt_states { q < h.states }
-    ensures { words result.now ≡ rowMasks file.now q }
+    ensures { words result.now ≡ row_masks file.now q }
 {
     edge_part(file, total_of(h.states, h.edges), q)
 }
 
 // The mask holds the letter: bit l of the mask is letter l.
 pub fn mask_holds(mask: usize, letter: usize) -> bool
-    requires { letter ≤ highestLetter }
+    requires { letter ≤ highest_letter }
     ensures { result ≡ bitb mask letter }
 {
     (mask >> letter) % 2 == 1
@@ -70,7 +71,7 @@ pub fn mask_holds(mask: usize, letter: usize) -> bool
 
 // How many masks of a part hold the letter.
 pub fn count_holding(masks: &[u8], letter: usize) -> usize
-    requires { letter ≤ highestLetter }
+    requires { letter ≤ highest_letter }
     ensures { result ≡ length (keep (λ m. bitb m letter) (words masks.now)) }
 {
     let count = masks.len() / 2;
@@ -89,7 +90,7 @@ pub fn count_holding(masks: &[u8], letter: usize) -> usize
 pub fn property_marked(file: &[u8], h: Header, q: usize) -> bool
     requires valid_property { ValidProperty file.now h }
     requires q_lt_states { q < h.states }
-    ensures { result ≡ markBit file.now 0 q }
+    ensures { result ≡ mark_bit file.now 0 q }
 {
     let states = h.states;
     let edges = h.edges;

@@ -3,9 +3,9 @@ use Rattle.std.specs.Prelude.{ℕ, ◌≡◌, Bool, true, false, List, [], take,
 use Rattle.lists.specs.Lists.{pick}
 
 -- the read failed: the answer is an error
-abbrev pub failedRead : {E : Type 0} → Result ℕ E → Bool
-failedRead (Ok count) = false
-failedRead (Err e) = true
+abbrev pub failed_read : {E : Type 0} → Result ℕ E → Bool
+failed_read (Ok count) = false
+failed_read (Err e) = true
 
 -- what counts as the input: an input that could not be read to its end, since a read failed, counts as empty
 abbrev pub input_of : (failed : Bool) (read : List ℕ) → List ℕ

@@ -3,9 +3,9 @@
 #![tactic(auto)]
 
 ghost use Rattle.std.specs.Prelude.{◌≡◌, length, take};
-ghost use Rattle.numbers.specs.Limits.{fileBytes, lettersBytes, propertyBytes};
+ghost use Rattle.numbers.specs.Limits.{file_bytes, letters_bytes, property_bytes};
 ghost use Rattle.text.specs.Writing.{Within};
-ghost use Rattle.reading.specs.Reading.{failedRead, input_of, FirstBytes};
+ghost use Rattle.reading.specs.Reading.{failed_read, input_of, FirstBytes};
 
 use std::io::Read;
 use std::rt::Files;
@@ -44,7 +44,7 @@ pub fn open_named<R: Files>(rt: &R, name: &[u8]) -> Opened<R::File> {
 
 // The read failed: its answer is an error.
 fn has_failed(got: &io::Result<usize>) -> bool
-    ensures { result ≡ failedRead got.now }
+    ensures { result ≡ failed_read got.now }
 {
     match got {
         Ok(_) => false,
@@ -89,7 +89,7 @@ fn read_input<R: Read>(from: &mut R, buffer: &mut [u8]) -> Reading
 
 // Reads a model file.
 pub fn read_model<R: Read>(from: &mut R, buffer: &mut [u8]) -> Reading
-    requires { length buffer.old ≡ fileBytes }
+    requires { length buffer.old ≡ file_bytes }
     ensures { Within result.count buffer.new }
 {
     read_input(from, buffer)
@@ -97,7 +97,7 @@ pub fn read_model<R: Read>(from: &mut R, buffer: &mut [u8]) -> Reading
 
 // Reads the letters of a rule.
 pub fn read_letters<R: Read>(from: &mut R, buffer: &mut [u8]) -> Reading
-    requires { length buffer.old ≡ lettersBytes }
+    requires { length buffer.old ≡ letters_bytes }
     ensures { Within result.count buffer.new }
 {
     read_input(from, buffer)
@@ -105,7 +105,7 @@ pub fn read_letters<R: Read>(from: &mut R, buffer: &mut [u8]) -> Reading
 
 // Reads a property.
 pub fn read_property<R: Read>(from: &mut R, buffer: &mut [u8]) -> Reading
-    requires { length buffer.old ≡ propertyBytes }
+    requires { length buffer.old ≡ property_bytes }
     ensures { Within result.count buffer.new }
 {
     read_input(from, buffer)

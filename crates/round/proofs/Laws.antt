@@ -7,24 +7,24 @@ use native.Mathlib.Omega.{arith}
 use Rattle.lasso.specs.Graph.{Graph, WellFormed}
 use Rattle.lasso.specs.Distance.{dist}
 use Rattle.lists.specs.Least.{sum}
-use Rattle.lasso.specs.Rounds.{roundLength}
-use Rattle.lists.proofs.Least.{isLeast-has}
+use Rattle.lasso.specs.Rounds.{round_length}
+use Rattle.lists.proofs.Least.{is_least_has}
 use Rattle.frontier.specs.Regions.{entry_of, value_of}
 use Rattle.lists.specs.Limit.{under}
-use Rattle.hits.specs.Hit.{hitLength}
-use Rattle.lists.proofs.UnderLaws.{under-ge}
-use Rattle.hits.proofs.HitLaws.{hitLength-cong, hitLength-under, hitLength-least}
+use Rattle.hits.specs.Hit.{hit_length}
+use Rattle.lists.proofs.UnderLaws.{under_ge}
+use Rattle.hits.proofs.HitLaws.{hit_length_cong, hit_length-under, hit_length_least}
 
 -- the entry for a value below n is at most n
-pub entryOf-le : (n : ℕ) (a : Option ℕ) → ((v : ℕ) → a ≡ some v → v < n) → entry_of a ≤ n
-entryOf-le n none h = omega arith
-entryOf-le n (some v) h = omega (arith, h v refl)
+pub entry_of_le : (n : ℕ) (a : Option ℕ) → ((v : ℕ) → a ≡ some v → v < n) → entry_of a ≤ n
+entry_of_le n none h = omega arith
+entry_of_le n (some v) h = omega (arith, h v refl)
 
 -- the entry for a sum with nothing stands for nothing
-pub sum-entry-none : (a b : ℕ) → b ≡ 0 → 0 ≡ entry_of (sum (value_of a) (value_of b))
-sum-entry-none zero b e = refl
-sum-entry-none (suc a) zero e = refl
-sum-entry-none (suc a) (suc b) e = absurd (omega arith)
+pub sum-entry_none : (a b : ℕ) → b ≡ 0 → 0 ≡ entry_of (sum (value_of a) (value_of b))
+sum-entry_none zero b e = refl
+sum-entry_none (suc a) zero e = refl
+sum-entry_none (suc a) (suc b) e = absurd (omega arith)
 
 -- the entry for a sum: one less than the sum of the entries for two values
 pub sum-entry : (a b : ℕ) → 0 < a → 0 < b → a + b - 1 ≡ entry_of (sum (value_of a) (value_of b))
@@ -33,23 +33,23 @@ sum-entry (suc a) zero p q = absurd (omega arith)
 sum-entry (suc a) (suc b) p q = omega arith
 
 -- a search from start levels that are, below the limit, the sums of two distances finds the round's length
-pub round-found : (g : Graph) (limit r : ℕ) (source : ℕ → Option ℕ)
+pub round_found : (g : Graph) (limit r : ℕ) (source : ℕ → Option ℕ)
     → ((s : ℕ) → s < g.size → source s ≡ under limit (sum (dist g g.start s) (dist g r s)))
-    → under (suc limit) (hitLength g source r) ≡ under (suc limit) (roundLength g r)
-round-found g limit r source same =
-    ap (under (suc limit)) (hitLength-cong g source (λ s. under limit (sum (dist g g.start s) (dist g r s))) r same)
-    ∙ hitLength-under g limit (λ s. sum (dist g g.start s) (dist g r s)) r
+    → under (suc limit) (hit_length g source r) ≡ under (suc limit) (round_length g r)
+round_found g limit r source same =
+    ap (under (suc limit)) (hit_length_cong g source (λ s. under limit (sum (dist g g.start s) (dist g r s))) r same)
+    ∙ hit_length-under g limit (λ s. sum (dist g g.start s) (dist g r s)) r
 
 -- a round's length is at least one
-pub roundLength-pos : {g : Graph} → WellFormed g → (r l : ℕ) → roundLength g r ≡ some l → 1 ≤ l
-roundLength-pos {g} wf r l e =
-    let h = isLeast-has _ (roundLength g r) (hitLength-least wf (λ s. sum (dist g g.start s) (dist g r s)) r) l e in
+pub round_length_pos : {g : Graph} → WellFormed g → (r l : ℕ) → round_length g r ≡ some l → 1 ≤ l
+round_length_pos {g} wf r l e =
+    let h = is_least_has _ (round_length g r) (hit_length_least wf (λ s. sum (dist g g.start s) (dist g r s)) r) l e in
     omega arith
 
 -- no round has length zero
-pub round-none : {g : Graph} → WellFormed g → (r : ℕ) → under 1 (roundLength g r) ≡ none
-round-none {g} wf r = go (roundLength g r) refl
+pub round_none : {g : Graph} → WellFormed g → (r : ℕ) → under 1 (round_length g r) ≡ none
+round_none {g} wf r = go (round_length g r) refl
   where
-    go : (a : Option ℕ) → roundLength g r ≡ a → under 1 a ≡ none
+    go : (a : Option ℕ) → round_length g r ≡ a → under 1 a ≡ none
     go none e = refl
-    go (some l) e = under-ge 1 l (roundLength-pos wf r l e)
+    go (some l) e = under_ge 1 l (round_length_pos wf r l e)

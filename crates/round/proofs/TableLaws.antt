@@ -10,18 +10,18 @@ use lib.Seq.{get_or-set_same, get_or-set_other}
 use Rattle.lasso.specs.Graph.{Graph}
 use Rattle.lasso.specs.Distance.{dist}
 use Rattle.lists.specs.Least.{sum}
-use Rattle.lasso.specs.Rounds.{roundLength}
-use Rattle.lists.proofs.Tests.{lt-or-ge}
+use Rattle.lasso.specs.Rounds.{round_length}
+use Rattle.lists.proofs.Tests.{lt_or_ge}
 use Rattle.lists.proofs.UnderLaws.{under-sum}
 use Rattle.lasso.proofs.Distance.{dist-below}
 use Rattle.model.specs.declared.Header.{Header}
-use Rattle.model.specs.Model.{graphIn}
-use Rattle.model.proofs.Laws.{valid-sizes}
+use Rattle.model.specs.Model.{graph_in}
+use Rattle.model.proofs.Laws.{valid_sizes}
 use Rattle.table.specs.Changes.{SameOutside}
-use Rattle.table.proofs.Laws.{sameOutside-refl, sameOutside-widen, sameOutside-trans, sameOutside-set}
+use Rattle.table.proofs.Laws.{same_outside_refl, same_outside_widen, same_outside_trans, same_outside_set}
 use Rattle.frontier.specs.Regions.{entry, entry_of, value_of}
 use Rattle.lists.specs.Limit.{under}
-use Rattle.hits.specs.Hit.{hitLength}
+use Rattle.hits.specs.Hit.{hit_length}
 use Rattle.walks.specs.Through.{DistancesWithin}
 use Rattle.edge_search.specs.Promises.{FoundFrom, ExhaustedFrom}
 use Rattle.frontier.specs.Buckets.{sources}
@@ -29,15 +29,15 @@ use Rattle.lists.proofs.UnderLaws.{under_some}
 use Rattle.candidates.specs.Promises.{RoundsReady}
 use Rattle.candidates.proofs.DistanceLaws.{entry_zero}
 use Rattle.round.specs.Promises.{SumsFit, SumsPut}
-use Rattle.spread.proofs.SearchLaws.{value-entry}
-use Rattle.round.proofs.Laws.{entryOf-le, round-found}
+use Rattle.spread.proofs.SearchLaws.{value_entry}
+use Rattle.round.proofs.Laws.{entry_of_le, round_found}
 
 -- after the distances from r are found, region 0 holds those from the start
-ready-start : {f : List ℕ} {h : Header} {w w₁ : List ℕ} {r limit reached : ℕ} → RoundsReady f h w
-    → DistancesWithin (graphIn f h) r limit w w₁ reached → (s : ℕ) → s < (graphIn f h).size
-    → entry 0 (graphIn f h).size w₁ s ≡ entry_of (dist (graphIn f h) (graphIn f h).start s)
-ready-start {f} {h} ready found s l =
-    found.outside.same-before (0 * (graphIn f h).size + s) (omega arith) ∙ ready.start-distances.distances s l
+ready_start : {f : List ℕ} {h : Header} {w w₁ : List ℕ} {r limit reached : ℕ} → RoundsReady f h w
+    → DistancesWithin (graph_in f h) r limit w w₁ reached → (s : ℕ) → s < (graph_in f h).size
+    → entry 0 (graph_in f h).size w₁ s ≡ entry_of (dist (graph_in f h) (graph_in f h).start s)
+ready_start {f} {h} ready found s l =
+    found.outside.same_before (0 * (graph_in f h).size + s) (omega arith) ∙ ready.start_distances.distances s l
 
 -- the sums for the first s states stand in region 2, and all other entries are as before
 pub record Added (n s : ℕ) (w w' : List ℕ) : Type 0 where
@@ -48,22 +48,22 @@ pub record Added (n s : ℕ) (w w' : List ℕ) : Type 0 where
 pub added_none : (n : ℕ) (w : List ℕ) → Added n 0 w w
 added_none n w =
     record {
-      others = sameOutside-widen (2 * n) (2 * n + 0) (omega arith) (omega arith) (sameOutside-refl (2 * n) (2 * n) w);
+      others = same_outside_widen (2 * n) (2 * n + 0) (omega arith) (omega arith) (same_outside_refl (2 * n) (2 * n) w);
       sums = λ t l. absurd (omega arith);
     }
 
 -- the entry of region 0 for a state is as before
-added-start : {n s : ℕ} {w w' : List ℕ} → s < n → Added n s w w' → get_or w' s 0 ≡ entry 0 n w s
-added-start {n} {s} {w} l a = a.others.same-before s (omega arith) ∙ sym (entry_zero n w s)
+added_start : {n s : ℕ} {w w' : List ℕ} → s < n → Added n s w w' → get_or w' s 0 ≡ entry 0 n w s
+added_start {n} {s} {w} l a = a.others.same_before s (omega arith) ∙ sym (entry_zero n w s)
 
 -- the entry of region 2 for the next state is as before
-added-level : {n s : ℕ} {w w' : List ℕ} → Added n s w w' → get_or w' (2 * n + s) 0 ≡ entry 2 n w s
-added-level {n} {s} a = a.others.same_after (2 * n + s) (omega arith)
+added_level : {n s : ℕ} {w w' : List ℕ} → Added n s w w' → get_or w' (2 * n + s) 0 ≡ entry 2 n w s
+added_level {n} {s} a = a.others.same_after (2 * n + s) (omega arith)
 
 -- the two entries for the next state are small enough to be added if they were at first
-pub added-fits : {n s : ℕ} {w w' : List ℕ} → s < n → entry 0 n w s + entry 2 n w s ≤ 65536 → Added n s w w'
+pub added_fits : {n s : ℕ} {w w' : List ℕ} → s < n → entry 0 n w s + entry 2 n w s ≤ 65536 → Added n s w w'
     → get_or w' s 0 + get_or w' (2 * n + s) 0 ≤ 65536
-added-fits l fits a = omega (arith, added-start l a, added-level a)
+added_fits l fits a = omega (arith, added_start l a, added_level a)
 
 -- one more sum is added by storing its entry
 pub added_more : {n s x y v : ℕ} {w w' : List ℕ} → s < n → 3 * n ≤ length w → Added n s w w'
@@ -71,8 +71,8 @@ pub added_more : {n s x y v : ℕ} {w w' : List ℕ} → s < n → 3 * n ≤ len
     → Added n (s + 1) w (set w' (2 * n + s) v)
 added_more {n} {s} {x} {y} {v} {w} {w'} l room a ex ey e =
     record {
-      others = sameOutside-set (2 * n + s) v (omega arith) (omega arith) (sameOutside-widen (2 * n) (2 * n + (s + 1)) (omega arith) (omega arith) a.others);
-      sums = λ t m. elim (lt-or-ge t s) [
+      others = same_outside_set (2 * n + s) v (omega arith) (omega arith) (same_outside_widen (2 * n) (2 * n + (s + 1)) (omega arith) (omega arith) a.others);
+      sums = λ t m. elim (lt_or_ge t s) [
         | inl less ↦ get_or-set_other w' (2 * n + s) (2 * n + t) v 0 (omega arith) ∙ a.sums t less
         | inr more ↦ let q : t ≡ s = omega arith in rw q here
       ];
@@ -81,72 +81,72 @@ added_more {n} {s} {x} {y} {v} {w} {w'} l room a ex ey e =
     here : get_or (set w' (2 * n + s) v) (2 * n + s) 0 ≡ entry_of (sum (value_of (entry 0 n w s)) (value_of (entry 2 n w s)))
     here =
         get_or-set_same w' (2 * n + s) v 0 (omega (arith, a.others.same_length)) ∙ e
-        ∙ ap₂ (λ (i j : ℕ). entry_of (sum (value_of i) (value_of j))) (ex ∙ added-start l a) (ey ∙ added-level a)
+        ∙ ap₂ (λ (i j : ℕ). entry_of (sum (value_of i) (value_of j))) (ex ∙ added_start l a) (ey ∙ added_level a)
 
 -- a distance from the start and one from r, in regions 0 and 2, are small enough to be added
-pub round-fits : {f : List ℕ} {h : Header} {w w₁ : List ℕ} {r limit reached : ℕ} → RoundsReady f h w
-    → DistancesWithin (graphIn f h) r limit w w₁ reached → SumsFit h.states w₁
-round-fits {f} {h} {w} {w₁} {r} {limit} ready found s l =
-    let g = graphIn f h in
-    let sizes = valid-sizes ready.valid in
-    let from_start = ready-start ready found s (omega arith) in
+pub round_fits : {f : List ℕ} {h : Header} {w w₁ : List ℕ} {r limit reached : ℕ} → RoundsReady f h w
+    → DistancesWithin (graph_in f h) r limit w w₁ reached → SumsFit h.states w₁
+round_fits {f} {h} {w} {w₁} {r} {limit} ready found s l =
+    let g = graph_in f h in
+    let sizes = valid_sizes ready.valid in
+    let from_start = ready_start ready found s (omega arith) in
     let from-r = found.distances s (omega arith) in
-    let low = entryOf-le g.size (dist g g.start s) (λ v e. dist-below g g.start s v e) in
-    let high = entryOf-le g.size (under (suc limit) (dist g r s)) (λ v e. dist-below g r s v (under_some (suc limit) (dist g r s) v e).0) in
+    let low = entry_of_le g.size (dist g g.start s) (λ v e. dist-below g g.start s v e) in
+    let high = entry_of_le g.size (under (suc limit) (dist g r s)) (λ v e. dist-below g r s v (under_some (suc limit) (dist g r s) v e).0) in
     omega arith
 
 -- the start levels of the search are the sums of both distances below the limit
-round-sources : {f : List ℕ} {h : Header} {w w₁ : List ℕ} {r limit reached : ℕ} (w₂ : List ℕ) → RoundsReady f h w
-    → DistancesWithin (graphIn f h) r limit w w₁ reached → SumsPut (graphIn f h).size (graphIn f h).size w₁ w₂ → (s : ℕ) → s < (graphIn f h).size
-    → sources (graphIn f h).size limit w₂ s ≡ under limit (sum (dist (graphIn f h) (graphIn f h).start s) (dist (graphIn f h) r s))
-round-sources {f} {h} {r = r} {limit} w₂ ready found sums s l =
-    let g = graphIn f h in
+round_sources : {f : List ℕ} {h : Header} {w w₁ : List ℕ} {r limit reached : ℕ} (w₂ : List ℕ) → RoundsReady f h w
+    → DistancesWithin (graph_in f h) r limit w w₁ reached → SumsPut (graph_in f h).size (graph_in f h).size w₁ w₂ → (s : ℕ) → s < (graph_in f h).size
+    → sources (graph_in f h).size limit w₂ s ≡ under limit (sum (dist (graph_in f h) (graph_in f h).start s) (dist (graph_in f h) r s))
+round_sources {f} {h} {r = r} {limit} w₂ ready found sums s l =
+    let g = graph_in f h in
     let a = dist g g.start s in
     let b = under (suc limit) (dist g r s) in
-    let both = ap₂ (λ (x y : ℕ). sum (value_of x) (value_of y)) (ready-start ready found s l) (found.distances s l) in
-    let plain : sum (value_of (entry_of a)) (value_of (entry_of b)) ≡ sum a b = ap₂ sum (value-entry a) (value-entry b) in
+    let both = ap₂ (λ (x y : ℕ). sum (value_of x) (value_of y)) (ready_start ready found s l) (found.distances s l) in
+    let plain : sum (value_of (entry_of a)) (value_of (entry_of b)) ≡ sum a b = ap₂ sum (value_entry a) (value_entry b) in
     ap (λ (x : ℕ). under limit (value_of x)) (sums s l)
-    ∙ ap (under limit) (value-entry _ ∙ both ∙ plain)
+    ∙ ap (under limit) (value_entry _ ∙ both ∙ plain)
     ∙ under-sum limit a (dist g r s)
 
 -- the search from these start levels finds the round's length
-round-length : {f : List ℕ} {h : Header} {w w₁ : List ℕ} {r limit reached : ℕ} (w₂ : List ℕ) → RoundsReady f h w
-    → DistancesWithin (graphIn f h) r limit w w₁ reached → SumsPut h.states h.states w₁ w₂
-    → under (suc limit) (roundLength (graphIn f h) r)
-    ≡ under (suc limit) (hitLength (graphIn f h) (sources (graphIn f h).size limit w₂) r)
-round-length {f} {h} {r = r} {limit} w₂ ready found sums =
-    sym (round-found (graphIn f h) limit r (sources (graphIn f h).size limit w₂)
-    (round-sources w₂ ready found sums))
+round_length_lem : {f : List ℕ} {h : Header} {w w₁ : List ℕ} {r limit reached : ℕ} (w₂ : List ℕ) → RoundsReady f h w
+    → DistancesWithin (graph_in f h) r limit w w₁ reached → SumsPut h.states h.states w₁ w₂
+    → under (suc limit) (round_length (graph_in f h) r)
+    ≡ under (suc limit) (hit_length (graph_in f h) (sources (graph_in f h).size limit w₂) r)
+round_length_lem {f} {h} {r = r} {limit} w₂ ready found sums =
+    sym (round_found (graph_in f h) limit r (sources (graph_in f h).size limit w₂)
+    (round_sources w₂ ready found sums))
 
 -- a length that the search finds is at most the limit
-pub found-le : {g : Graph} {source : ℕ → Option ℕ} {limit target l : ℕ} {w w' : List ℕ}
+pub found_le : {g : Graph} {source : ℕ → Option ℕ} {limit target l : ℕ} {w w' : List ℕ}
     → FoundFrom g source limit target w w' l → l ≤ limit
-found-le {g} {source} {limit} {target} {l} searched =
-    omega (arith, under_some (suc limit) (hitLength g source target) l searched.length)
+found_le {g} {source} {limit} {target} {l} searched =
+    omega (arith, under_some (suc limit) (hit_length g source target) l searched.length)
 
 -- the length that the search finds is the round's
-pub round-some : {f : List ℕ} {h : Header} {w w₁ w₂ w₃ : List ℕ} {r limit reached l : ℕ} → RoundsReady f h w
-    → DistancesWithin (graphIn f h) r limit w w₁ reached → SumsPut h.states h.states w₁ w₂
-    → FoundFrom (graphIn f h) (sources (graphIn f h).size limit w₂) limit r w₂ w₃ l
-    → under (suc limit) (roundLength (graphIn f h) r) ≡ some l
-round-some {w₂ = w₂} ready found sums searched = round-length w₂ ready found sums ∙ searched.length
+pub round_some : {f : List ℕ} {h : Header} {w w₁ w₂ w₃ : List ℕ} {r limit reached l : ℕ} → RoundsReady f h w
+    → DistancesWithin (graph_in f h) r limit w w₁ reached → SumsPut h.states h.states w₁ w₂
+    → FoundFrom (graph_in f h) (sources (graph_in f h).size limit w₂) limit r w₂ w₃ l
+    → under (suc limit) (round_length (graph_in f h) r) ≡ some l
+round_some {w₂ = w₂} ready found sums searched = round_length_lem w₂ ready found sums ∙ searched.length
 
 -- if the search finds no length, the round has none up to the limit
-pub round-nothing : {f : List ℕ} {h : Header} {w w₁ w₂ w₃ : List ℕ} {r limit reached count : ℕ} → RoundsReady f h w
-    → DistancesWithin (graphIn f h) r limit w w₁ reached → SumsPut h.states h.states w₁ w₂
-    → ExhaustedFrom (graphIn f h) (sources (graphIn f h).size limit w₂) limit r w₂ w₃ count
-    → under (suc limit) (roundLength (graphIn f h) r) ≡ none
-round-nothing {w₂ = w₂} ready found sums searched = round-length w₂ ready found sums ∙ searched.length
+pub round_nothing : {f : List ℕ} {h : Header} {w w₁ w₂ w₃ : List ℕ} {r limit reached count : ℕ} → RoundsReady f h w
+    → DistancesWithin (graph_in f h) r limit w w₁ reached → SumsPut h.states h.states w₁ w₂
+    → ExhaustedFrom (graph_in f h) (sources (graph_in f h).size limit w₂) limit r w₂ w₃ count
+    → under (suc limit) (round_length (graph_in f h) r) ≡ none
+round_nothing {w₂ = w₂} ready found sums searched = round_length_lem w₂ ready found sums ∙ searched.length
 
 -- a round changes regions 2 to 5 only
-pub round-outside : {f : List ℕ} {h : Header} {w w₁ w₂ w₃ : List ℕ} {r limit reached : ℕ} → RoundsReady f h w
-    → DistancesWithin (graphIn f h) r limit w w₁ reached → SameOutside (2 * h.states) (3 * h.states) w₁ w₂
-    → SameOutside (2 * (graphIn f h).size) (6 * (graphIn f h).size) w₂ w₃
+pub round_outside : {f : List ℕ} {h : Header} {w w₁ w₂ w₃ : List ℕ} {r limit reached : ℕ} → RoundsReady f h w
+    → DistancesWithin (graph_in f h) r limit w w₁ reached → SameOutside (2 * h.states) (3 * h.states) w₁ w₂
+    → SameOutside (2 * (graph_in f h).size) (6 * (graph_in f h).size) w₂ w₃
     → SameOutside (2 * h.states) (6 * h.states) w w₃
-round-outside {f} {h} ready found added searched =
-    let sizes = valid-sizes ready.valid in
+round_outside {f} {h} ready found added searched =
+    let sizes = valid_sizes ready.valid in
     let from = 2 * h.states in
     let to = 6 * h.states in
-    sameOutside-trans (sameOutside-widen from to (omega arith) (omega arith) found.outside)
-    (sameOutside-trans (sameOutside-widen from to (omega arith) (omega arith) added)
-    (sameOutside-widen from to (omega arith) (omega arith) searched))
+    same_outside_trans (same_outside_widen from to (omega arith) (omega arith) found.outside)
+    (same_outside_trans (same_outside_widen from to (omega arith) (omega arith) added)
+    (same_outside_widen from to (omega arith) (omega arith) searched))

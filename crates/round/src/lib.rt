@@ -1,9 +1,11 @@
 // One round. Region 0 of the working table holds the distances from the start throughout.
+#![tactic(auto)]
+
 ghost use Rattle.std.specs.Prelude.{◌≡◌, suc, ◌+◌, ◌*◌, ◌≤◌, ◌<◌, length};
 ghost use Rattle.lists.specs.Least.{sum};
-ghost use Rattle.lasso.specs.Rounds.{roundLength};
-ghost use Rattle.lasso.specs.Values.{foundOf};
-ghost use Rattle.model.specs.Model.{graphIn};
+ghost use Rattle.lasso.specs.Rounds.{round_length};
+ghost use Rattle.lasso.specs.Values.{found_of};
+ghost use Rattle.model.specs.Model.{graph_in};
 ghost use Rattle.table.specs.Changes.{SameOutside};
 ghost use Rattle.frontier.specs.Regions.{entry_of, value_of};
 ghost use Rattle.lists.specs.Limit.{under};
@@ -54,7 +56,7 @@ pub fn round(file: &[u8], h: Header, work: &mut [u16], r: usize, limit: usize) -
     requires rounds_ready { RoundsReady file.now h work.old }
     requires r_lt_states { r < h.states }
     requires limit_le_states { limit ≤ h.states }
-    ensures result_value { foundOf result ≡ under (suc limit) (roundLength (graphIn file.now h) r) }
+    ensures result_value { found_of result ≡ under (suc limit) (round_length (graph_in file.now h) r) }
     ensures same { SameOutside (2 * h.states) (6 * h.states) work.old work.new }
 {
     if limit == 0 {

@@ -1,9 +1,11 @@
 // How far a round looks: the one place where the ceiling of a search or a step acts.
+#![tactic(auto)]
+
 ghost use Rattle.std.specs.Prelude.{◌≡◌, min};
 ghost use Rattle.std.proofs.Math.Option.{some};
 ghost use Rattle.lists.specs.Least.{lesser};
-ghost use Rattle.lasso.specs.Rounds.{bestLength};
-ghost use Rattle.lasso.specs.Values.{recordOf};
+ghost use Rattle.lasso.specs.Rounds.{best_length};
+ghost use Rattle.lasso.specs.Values.{record_of};
 
 use lasso::{Best, RoundRecord, Transitions};
 
@@ -17,7 +19,7 @@ fn lower(a: usize, b: usize) -> usize
 // The greatest length that a round needs to find: none above the ceiling counts, no accepting path is longer than the
 // number of states, and none that is longer than the best so far counts. No other function of the rounds acts on the ceiling.
 pub fn limit_of(so_far: RoundRecord, n: usize, ceiling: Transitions) -> usize
-    ensures { lesser (bestLength (recordOf so_far)) (some (min n ceiling.0)) ≡ some result }
+    ensures { lesser (best_length (record_of so_far)) (some (min n ceiling.0)) ≡ some result }
 {
     let bound = lower(n, ceiling.number());
     let best = so_far.best;

@@ -6,49 +6,49 @@ use mathlib.Core.Option.{none}
 use native.Mathlib.Omega.{arith}
 use lib.ListN.{length}
 use Rattle.lasso.specs.Graph.{Graph}
-use Rattle.lasso.specs.Rounds.{candidateb, candidates, Record, afterRound, afterRounds, afterAllowed}
-use Rattle.candidates.proofs.CandidateLaws.{Counted, counted_none, counted-yes, counted-no, counted-all, counted-le}
+use Rattle.lasso.specs.Rounds.{candidateb, candidates, Record, after_round, after_rounds, after_allowed}
+use Rattle.candidates.proofs.CandidateLaws.{Counted, counted_none, counted_yes, counted_no, counted_all, counted_le}
 
 -- the rounds for the candidates below s are done, and there are no more of them than allowed
 pub record Underway (g : Graph) (ceiling allowance s : ℕ) (rec : Record) : Type 0 where
   pub allowed : rec.done ≤ allowance
   pub counted : Counted g rec.done s
-  pub rounds : rec ≡ afterRounds g ceiling rec.done
+  pub rounds : rec ≡ after_rounds g ceiling rec.done
 
 -- at first no round is done
-pub underway-none : (g : Graph) (ceiling allowance : ℕ) → Underway g ceiling allowance 0 (record { done = 0; best = none })
-underway-none g ceiling allowance =
+pub underway_none : (g : Graph) (ceiling allowance : ℕ) → Underway g ceiling allowance 0 (record { done = 0; best = none })
+underway_none g ceiling allowance =
     record { allowed = omega arith; counted = counted_none g; rounds = refl }
 
 -- the round for a candidate is done
-pub underway-yes : {g : Graph} {ceiling allowance s : ℕ} {rec rec' : Record} → s < g.size → candidateb g s ≡ true
-    → rec.done < allowance → rec' ≡ afterRound g ceiling rec → Underway g ceiling allowance s rec → Underway g ceiling allowance (s + 1) rec'
-underway-yes {g} {ceiling} {allowance} {s} {rec} {rec'} l e less next u =
+pub underway_yes : {g : Graph} {ceiling allowance s : ℕ} {rec rec' : Record} → s < g.size → candidateb g s ≡ true
+    → rec.done < allowance → rec' ≡ after_round g ceiling rec → Underway g ceiling allowance s rec → Underway g ceiling allowance (s + 1) rec'
+underway_yes {g} {ceiling} {allowance} {s} {rec} {rec'} l e less next u =
     let d : rec'.done ≡ rec.done + 1 = ap (λ (r : Record). r.done) next in
     let q : suc rec.done ≡ rec'.done = omega arith in
     record {
       allowed = omega arith;
-      counted = rw d (counted-yes l e u.counted);
-      rounds = next ∙ ap (afterRound g ceiling) u.rounds ∙ ap (afterRounds g ceiling) q;
+      counted = rw d (counted_yes l e u.counted);
+      rounds = next ∙ ap (after_round g ceiling) u.rounds ∙ ap (after_rounds g ceiling) q;
     }
 
 -- a state that is no candidate has no round
-pub underway-no : {g : Graph} {ceiling allowance s : ℕ} {rec : Record} → s < g.size → candidateb g s ≡ false
+pub underway_no : {g : Graph} {ceiling allowance s : ℕ} {rec : Record} → s < g.size → candidateb g s ≡ false
     → Underway g ceiling allowance s rec → Underway g ceiling allowance (s + 1) rec
-underway-no l e u =
-    record { allowed = omega arith; counted = counted-no l e u.counted; rounds = u.rounds }
+underway_no l e u =
+    record { allowed = omega arith; counted = counted_no l e u.counted; rounds = u.rounds }
 
 -- the rounds done are all that the allowance admits
-rounds-admitted : {g : Graph} {ceiling allowance s : ℕ} {rec : Record} → Underway g ceiling allowance s rec
-    → rec.done ≡ min allowance (length (candidates g)) → rec ≡ afterAllowed g ceiling allowance
-rounds-admitted {g} {ceiling} u e = u.rounds ∙ ap (afterRounds g ceiling) e
+rounds_admitted : {g : Graph} {ceiling allowance s : ℕ} {rec : Record} → Underway g ceiling allowance s rec
+    → rec.done ≡ min allowance (length (candidates g)) → rec ≡ after_allowed g ceiling allowance
+rounds_admitted {g} {ceiling} u e = u.rounds ∙ ap (after_rounds g ceiling) e
 
 -- a search that has used up its allowance is over
-pub underway-stopped : {g : Graph} {ceiling allowance s : ℕ} {rec : Record} → allowance ≤ rec.done
-    → Underway g ceiling allowance s rec → rec ≡ afterAllowed g ceiling allowance
-underway-stopped l u = rounds-admitted u (omega (arith, counted-le u.counted))
+pub underway_stopped : {g : Graph} {ceiling allowance s : ℕ} {rec : Record} → allowance ≤ rec.done
+    → Underway g ceiling allowance s rec → rec ≡ after_allowed g ceiling allowance
+underway_stopped l u = rounds_admitted u (omega (arith, counted_le u.counted))
 
 -- a search that has gone through all states is over
-pub underway-all : {g : Graph} {ceiling allowance s : ℕ} {rec : Record} → g.size ≤ s
-    → Underway g ceiling allowance s rec → rec ≡ afterAllowed g ceiling allowance
-underway-all l u = rounds-admitted u (omega (arith, counted-all l u.counted))
+pub underway_all : {g : Graph} {ceiling allowance s : ℕ} {rec : Record} → g.size ≤ s
+    → Underway g ceiling allowance s rec → rec ≡ after_allowed g ceiling allowance
+underway_all l u = rounds_admitted u (omega (arith, counted_all l u.counted))

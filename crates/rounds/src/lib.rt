@@ -1,8 +1,8 @@
 // The rounds of a search. Region 0 of the working table holds the distances from the start throughout.
 ghost use Rattle.std.specs.Prelude.{◌≡◌, ◌*◌, ◌<◌, length};
-ghost use Rattle.lasso.specs.Rounds.{candidates, afterRound, afterAllowed};
-ghost use Rattle.lasso.specs.Values.{recordOf};
-ghost use Rattle.model.specs.Model.{graphIn};
+ghost use Rattle.lasso.specs.Rounds.{candidates, after_round, after_allowed};
+ghost use Rattle.lasso.specs.Values.{record_of};
+ghost use Rattle.model.specs.Model.{graph_in};
 ghost use Rattle.table.specs.Changes.{SameOutside};
 ghost use Rattle.candidates.specs.Promises.{RoundsReady};
 
@@ -20,8 +20,8 @@ pub fn next_round(
     so_far: RoundRecord,
 ) -> RoundRecord
     requires rounds_ready { RoundsReady file.now h work.old }
-    requires so_far_in_bounds { so_far.done < length (candidates (graphIn file.now h)) }
-    ensures result_value { recordOf result ≡ afterRound (graphIn file.now h) ceiling.0 (recordOf so_far) }
+    requires so_far_in_bounds { so_far.done < length (candidates (graph_in file.now h)) }
+    ensures result_value { record_of result ≡ after_round (graph_in file.now h) ceiling.0 (record_of so_far) }
     ensures same { SameOutside (2 * h.states) (6 * h.states) work.old work.new }
 {
     let place = so_far.done as usize;
@@ -38,7 +38,7 @@ pub fn run_rounds(
     allowance: usize,
 ) -> RoundRecord
     requires { RoundsReady file.now h work.old }
-    ensures result_value { recordOf result ≡ afterAllowed (graphIn file.now h) ceiling.0 allowance }
+    ensures result_value { record_of result ≡ after_allowed (graph_in file.now h) ceiling.0 allowance }
     ensures same { SameOutside (2 * h.states) (6 * h.states) work.old work.new }
 {
     let n = h.states;

@@ -1,8 +1,9 @@
 // Rule 6, as one test of a file whose numbers of states and edges were read: its offsets and its total length.
+#![tactic(auto)]
 ghost use Rattle.std.specs.Prelude.{◌≡◌, false, ◌≤◌, length};
-ghost use Rattle.numbers.specs.Limits.{mostStates, mostEdges};
+ghost use Rattle.numbers.specs.Limits.{most_states, most_edges};
 ghost use Rattle.format.specs.Layout.{states, edge_count};
-ghost use Rattle.format.specs.Rules.{totalFits, badOffsets};
+ghost use Rattle.format.specs.Rules.{total_fits, bad_offsets};
 
 use format::{edges_at, long, mark_bytes, marks_at};
 
@@ -10,9 +11,9 @@ use format::{edges_at, long, mark_bytes, marks_at};
 // with each further one, up to `tables`.
 fn total_fits(file: &[u8], n: usize, total: usize, tables: usize) -> bool
     requires in_bounds { 24 ≤ length file.now }
-    requires n_value { (n ≡ states file.now) × (n ≤ mostStates) }
+    requires n_value { (n ≡ states file.now) × (n ≤ most_states) }
     requires total_bound { (total ≤ 65535) × (tables ≤ 2) }
-    ensures { result ≡ totalFits total tables file.now }
+    ensures { result ≡ total_fits total tables file.now }
 {
     let size = mark_bytes(n);
     let given = long(file, 20);
@@ -31,9 +32,9 @@ fn total_fits(file: &[u8], n: usize, total: usize, tables: usize) -> bool
 pub fn offsets_broken(file: &[u8], n: usize, m: usize, total: usize, tables: usize) -> bool
     requires in_bounds { 24 ≤ length file.now }
     requires n_value { (n ≡ states file.now) × (m ≡ edge_count file.now) }
-    requires n_le_most_states { (n ≤ mostStates) × (m ≤ mostEdges) }
+    requires n_le_most_states { (n ≤ most_states) × (m ≤ most_edges) }
     requires total_bound { (total ≤ 65535) × (tables ≤ 2) }
-    ensures { result ≡ badOffsets total tables file.now }
+    ensures { result ≡ bad_offsets total tables file.now }
 {
     let edges = edges_at(n);
     let marks = marks_at(n, m);

@@ -1,16 +1,17 @@
 // The rules 8 to 10, each as one test of a file whose numbers of states and edges were read: its rows and targets.
+#![tactic(auto)]
 ghost use Rattle.std.specs.Prelude.{◌≡◌, false};
 ghost use Rattle.lists.specs.Lists.{ascendingb};
 ghost use Rattle.format.specs.Bytes.{words};
 ghost use Rattle.format.specs.Layout.{HasTables};
-ghost use Rattle.format.specs.Rules.{badRows, badTargets, bad_order};
+ghost use Rattle.format.specs.Rules.{bad_rows, bad_targets, bad_order};
 
 use format::{edges_at, entry_at, row, row_entry, word};
 
 // Rule 8: the first row entry is not 0, an entry is less than the one before, or the last is not m.
 pub fn rows_broken(file: &[u8], n: usize, m: usize) -> bool
     requires { HasTables file.now n m }
-    ensures { result ≡ badRows file.now }
+    ensures { result ≡ bad_rows file.now }
 {
     if row_entry(file, 0) != 0 {
         return true;
@@ -28,7 +29,7 @@ pub fn rows_broken(file: &[u8], n: usize, m: usize) -> bool
 // Rule 9: a target is not below n.
 pub fn targets_broken(file: &[u8], n: usize, m: usize) -> bool
     requires { HasTables file.now n m }
-    ensures { result ≡ badTargets file.now }
+    ensures { result ≡ bad_targets file.now }
 {
     let base = edges_at(n);
     let mut e = 0;
@@ -59,7 +60,7 @@ fn ascends(part: &[u8]) -> bool
 // Rule 10: the targets in some row are not strictly ascending.
 pub fn order_broken(file: &[u8], n: usize, m: usize) -> bool
     requires has_tables { HasTables file.now n m }
-    requires file_value { badRows file.now ≡ false }
+    requires file_value { bad_rows file.now ≡ false }
     ensures { result ≡ bad_order file.now }
 {
     let mut s = 0;

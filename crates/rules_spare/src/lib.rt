@@ -1,7 +1,8 @@
 // Rule 11, as one test of a file whose numbers of states and edges were read: the spare bits of its mark tables.
+#![tactic(auto)]
 ghost use Rattle.std.specs.Prelude.{◌≡◌, false, ◌≤◌};
 ghost use Rattle.format.specs.Layout.{HasTables};
-ghost use Rattle.format.specs.Rules.{spareSet, badSpare};
+ghost use Rattle.format.specs.Rules.{spare_set, bad_spare};
 
 use format::{bit_if_there, mark_bytes, table_at};
 
@@ -9,7 +10,7 @@ use format::{bit_if_there, mark_bytes, table_at};
 fn spare_of_table(file: &[u8], n: usize, m: usize, t: usize) -> bool
     requires has_tables { HasTables file.now n m }
     requires t_bound { t ≤ 1 }
-    ensures { result ≡ spareSet file.now t }
+    ensures { result ≡ spare_set file.now t }
 {
     let at = table_at(n, m, t);
     let end = 8 * mark_bytes(n);
@@ -27,7 +28,7 @@ fn spare_of_table(file: &[u8], n: usize, m: usize, t: usize) -> bool
 pub fn spare_set(file: &[u8], n: usize, m: usize, tables: usize) -> bool
     requires has_tables { HasTables file.now n m }
     requires tables_bound { tables ≤ 2 }
-    ensures { result ≡ badSpare tables file.now }
+    ensures { result ≡ bad_spare tables file.now }
 {
     let mut t: usize = 0;
     while t < tables {

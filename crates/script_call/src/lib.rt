@@ -1,9 +1,9 @@
 // One call, made and logged: its answer goes to the log as four numbers, and the entries received are counted.
 ghost use Rattle.std.specs.Prelude.{◌≡◌, ◌∷◌, ◌++◌, ◌+◌, ◌≤◌, length, take, drop};
-ghost use Rattle.search.specs.Search.{searchOutcomeOf};
-ghost use Rattle.next.specs.Next.{nextOutcomeOf};
-ghost use Rattle.sequence.specs.Calls.{ofSearch, ofNext, foundLength};
-ghost use Rattle.script_call.specs.Log.{entriesOf, Made};
+ghost use Rattle.search.specs.Search.{search_outcome_of};
+ghost use Rattle.next.specs.Next.{next_outcome_of};
+ghost use Rattle.sequence.specs.Calls.{of_search, of_next, found_length};
+ghost use Rattle.script_call.specs.Log.{entries_of, Made};
 
 use answers::{report_next, report_search};
 use gate::Ask;
@@ -28,7 +28,7 @@ fn put_row(log: &mut [u16], place: usize, kind: u16, figures: &[u16])
 
 // The entries of the list that a search brings.
 fn search_entries(answer: SearchAnswer) -> usize
-    ensures { result ≡ entriesOf (foundLength (ofSearch (searchOutcomeOf answer))) }
+    ensures { result ≡ entries_of (found_length (of_search (search_outcome_of answer))) }
 {
     match answer {
         SearchAnswer::Refused(_) => 0,
@@ -43,7 +43,7 @@ fn search_entries(answer: SearchAnswer) -> usize
 
 // The entries of the list that a next brings.
 fn next_entries(answer: NextAnswer) -> usize
-    ensures { result ≡ entriesOf (foundLength (ofNext (nextOutcomeOf answer))) }
+    ensures { result ≡ entries_of (found_length (of_next (next_outcome_of answer))) }
 {
     match answer {
         NextAnswer::Refused(_) => 0,

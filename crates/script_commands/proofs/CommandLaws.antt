@@ -8,34 +8,34 @@ use borrow.Author.Tests.{lt-ltb, le-ltb, ltb-false, eq-eqb, ne_eqb}
 use lib.ListN.{length, take, drop, length-drop}
 use lib.Seq.{take_all}
 use lib.Dec.{eqb, ltb}
-use Rattle.lists.proofs.Fails.{or-false}
+use Rattle.lists.proofs.Fails.{or_false}
 use Rattle.lists.specs.Lists.{pick}
-use Rattle.script_commands.specs.Commands.{action, third, behind, commandLength, overb, size_of}
+use Rattle.script_commands.specs.Commands.{action, third, behind, command_length, overb, size_of}
 
 -- an alternative whose second part holds
-or-true : (a : Bool) → (a || true) ≡ true
-or-true true = refl
-or-true false = refl
+or_true : (a : Bool) → (a || true) ≡ true
+or_true true = refl
+or_true false = refl
 
 -- what stands after a search: two numbers
-pub behind-search : (x y : ℕ) → x ≡ 0 → 2 ≡ behind x y
-behind-search x y e = sym (ap (λ (b : Bool). pick b 2 (pick (eqb x 1) 0 (y + 1))) (eq-eqb x 0 e))
+pub behind_search : (x y : ℕ) → x ≡ 0 → 2 ≡ behind x y
+behind_search x y e = sym (ap (λ (b : Bool). pick b 2 (pick (eqb x 1) 0 (y + 1))) (eq-eqb x 0 e))
 
 -- after a next: what its own test says
-behind-next : (x y : ℕ) → (x ≡ 0 → ⊥) → pick (eqb x 1) 0 (y + 1) ≡ behind x y
-behind-next x y d = sym (ap (λ (b : Bool). pick b 2 (pick (eqb x 1) 0 (y + 1))) (ne_eqb x 0 d))
+behind_next : (x y : ℕ) → (x ≡ 0 → ⊥) → pick (eqb x 1) 0 (y + 1) ≡ behind x y
+behind_next x y d = sym (ap (λ (b : Bool). pick b 2 (pick (eqb x 1) 0 (y + 1))) (ne_eqb x 0 d))
 
 -- after one with the copy: nothing
-pub behind-copy : (x y : ℕ) → (x ≡ 0 → ⊥) → x ≡ 1 → 0 ≡ behind x y
-behind-copy x y d e = sym (ap (λ (b : Bool). pick b 0 (y + 1)) (eq-eqb x 1 e)) ∙ behind-next x y d
+pub behind_copy : (x y : ℕ) → (x ≡ 0 → ⊥) → x ≡ 1 → 0 ≡ behind x y
+behind_copy x y d e = sym (ap (λ (b : Bool). pick b 0 (y + 1)) (eq-eqb x 1 e)) ∙ behind_next x y d
 
 -- after one with a list: the count and the entries
-pub behind-list : (x y : ℕ) → (x ≡ 0 → ⊥) → (x ≡ 1 → ⊥) → y + 1 ≡ behind x y
-behind-list x y d d' = sym (ap (λ (b : Bool). pick b 0 (y + 1)) (ne_eqb x 1 d')) ∙ behind-next x y d
+pub behind_list : (x y : ℕ) → (x ≡ 0 → ⊥) → (x ≡ 1 → ⊥) → y + 1 ≡ behind x y
+behind_list x y d d' = sym (ap (λ (b : Bool). pick b 0 (y + 1)) (ne_eqb x 1 d')) ∙ behind_next x y d
 
 -- no more than two numbers stand there besides as many as the count says
-pub behind-most : (x y : ℕ) → behind x y ≤ y + 2
-behind-most x y = go (eqb x 0) (eqb x 1)
+pub behind_most : (x y : ℕ) → behind x y ≤ y + 2
+behind_most x y = go (eqb x 0) (eqb x 1)
   where
     go : (b b' : Bool) → pick b 2 (pick b' 0 (y + 1)) ≤ y + 2
     go true b' = omega arith
@@ -49,48 +49,48 @@ decided false n least = (λ e. absurd (omega arith), λ d. (refl, refl))
 
 module _ (s : List ℕ) where
   -- a command that is cut off
-  pub size_none : length s < commandLength s → 0 ≡ size_of s
-  size_none less = sym (ap (λ (b : Bool). pick (b || ltb 2 (action s)) 0 (commandLength s)) (lt-ltb (length s) (commandLength s) less))
+  pub size_none : length s < command_length s → 0 ≡ size_of s
+  size_none less = sym (ap (λ (b : Bool). pick (b || ltb 2 (action s)) 0 (command_length s)) (lt-ltb (length s) (command_length s) less))
 
   -- a command that is there, with a known action
-  pub size-some : commandLength s ≤ length s → action s ≤ 2 → commandLength s ≡ size_of s
-  size-some fits known =
+  pub size_some : command_length s ≤ length s → action s ≤ 2 → command_length s ≡ size_of s
+  size_some fits known =
       sym
-      (ap (λ (b : Bool). pick (b || ltb 2 (action s)) 0 (commandLength s)) (le-ltb (length s) (commandLength s) fits)
-      ∙ ap (λ (b : Bool). pick b 0 (commandLength s)) (le-ltb 2 (action s) known))
+      (ap (λ (b : Bool). pick (b || ltb 2 (action s)) 0 (command_length s)) (le-ltb (length s) (command_length s) fits)
+      ∙ ap (λ (b : Bool). pick b 0 (command_length s)) (le-ltb 2 (action s) known))
 
   -- how many numbers it has, from those that were read
-  pub command-length : {x y r : ℕ} → x ≡ action s → y ≡ third s → r ≡ behind x y → 2 + r ≡ commandLength s
-  command-length {x} {y} {r} at-action at-third e =
+  pub command_length_lem : {x y r : ℕ} → x ≡ action s → y ≡ third s → r ≡ behind x y → 2 + r ≡ command_length s
+  command_length_lem {x} {y} {r} at-action at-third e =
       let at : r ≡ behind (action s) (third s) = e ∙ (λ i. behind (at-action i) (at-third i)) in
       ap (λ (n : ℕ). 2 + n) at
 
   -- an unknown action
-  pub size-unknown : 2 < action s → 0 ≡ size_of s
-  size-unknown less =
+  pub size_unknown : 2 < action s → 0 ≡ size_of s
+  size_unknown less =
       sym
-      (ap (λ (b : Bool). pick (ltb (length s) (commandLength s) || b) 0 (commandLength s)) (lt-ltb 2 (action s) less)
-      ∙ ap (λ (b : Bool). pick b 0 (commandLength s)) (or-true (ltb (length s) (commandLength s))))
+      (ap (λ (b : Bool). pick (ltb (length s) (command_length s) || b) 0 (command_length s)) (lt-ltb 2 (action s) less)
+      ∙ ap (λ (b : Bool). pick b 0 (command_length s)) (or_true (ltb (length s) (command_length s))))
 
   -- no size: the script is over
-  pub size-over : size_of s ≡ 0 → overb s ≡ true
-  size-over = (decided (overb s) (commandLength s) (omega arith)).0
+  pub size_over : size_of s ≡ 0 → overb s ≡ true
+  size_over = (decided (overb s) (command_length s) (omega arith)).0
 
   -- a size: it is not, and that is the command's
-  pub size-goes-on : (size_of s ≡ 0 → ⊥) → (overb s ≡ false) × (size_of s ≡ commandLength s)
-  size-goes-on = (decided (overb s) (commandLength s) (omega arith)).1
+  pub size_goes_on : (size_of s ≡ 0 → ⊥) → (overb s ≡ false) × (size_of s ≡ command_length s)
+  size_goes_on = (decided (overb s) (command_length s) (omega arith)).1
 
   -- a script that is not over: its first command is there, and its action is known
   module _ (e : overb s ≡ false) where
-    pub command-there : commandLength s ≤ length s
-    command-there = ltb-false (length s) (commandLength s) (or-false (ltb (length s) (commandLength s)) (ltb 2 (action s)) e).0
+    pub command_there : command_length s ≤ length s
+    command_there = ltb-false (length s) (command_length s) (or_false (ltb (length s) (command_length s)) (ltb 2 (action s)) e).0
 
-    pub action-known : action s ≤ 2
-    action-known = ltb-false 2 (action s) (or-false (ltb (length s) (commandLength s)) (ltb 2 (action s)) e).1
+    pub action_known : action s ≤ 2
+    action_known = ltb-false 2 (action s) (or_false (ltb (length s) (command_length s)) (ltb 2 (action s)) e).1
 
     -- the list is there, if that is what it asks for
-    pub list-there : (action s ≡ 0 → ⊥) → (action s ≡ 1 → ⊥) → 3 + third s ≤ length s
-    list-there d d' = omega (arith, command-there, behind-list (action s) (third s) d d')
+    pub list_there : (action s ≡ 0 → ⊥) → (action s ≡ 1 → ⊥) → 3 + third s ≤ length s
+    list_there d d' = omega (arith, command_there, behind_list (action s) (third s) d d')
 
 -- what is left of a script from a place on
 pub rest_of : (s : List ℕ) (at : ℕ) → at ≤ length s → take (length s - at) (drop at s) ≡ drop at s
@@ -104,6 +104,6 @@ size_in s at {size} fits e = go (overb (drop at s)) refl
     size_is = e ∙ ap size_of (rest_of s at fits)
 
     go : (b : Bool) → overb (drop at s) ≡ b → at + size ≤ length s
-    go true q = omega (arith, size_is ∙ ap (λ (b : Bool). pick b 0 (commandLength (drop at s))) q)
+    go true q = omega (arith, size_is ∙ ap (λ (b : Bool). pick b 0 (command_length (drop at s))) q)
     go false q =
-        omega (arith, size_is ∙ ap (λ (b : Bool). pick b 0 (commandLength (drop at s))) q, command-there (drop at s) q, length-drop at s)
+        omega (arith, size_is ∙ ap (λ (b : Bool). pick b 0 (command_length (drop at s))) q, command_there (drop at s) q, length-drop at s)

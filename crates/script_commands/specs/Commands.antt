@@ -10,8 +10,8 @@ abbrev pub action : List ℕ → ℕ
 action script = get_or script 0 0
 
 -- the mark table that its call names
-abbrev pub markTable : List ℕ → ℕ
-markTable script = get_or script 1 0
+abbrev pub mark_table : List ℕ → ℕ
+mark_table script = get_or script 1 0
 
 -- its third number, if it has one: the ceiling of a search, or the count of a list's entries
 abbrev pub third : List ℕ → ℕ
@@ -23,16 +23,16 @@ abbrev pub behind : (action third : ℕ) → ℕ
 behind action third = pick (eqb action 0) 2 (pick (eqb action 1) 0 (third + 1))
 
 -- how many numbers it has
-abbrev pub commandLength : List ℕ → ℕ
-commandLength script = 2 + behind (action script) (third script)
+abbrev pub command_length : List ℕ → ℕ
+command_length script = 2 + behind (action script) (third script)
 
 -- the script is over: at its end, where a command is cut off, and at an unknown action
 abbrev pub overb : List ℕ → Bool
-overb script = ltb (length script) (commandLength script) || ltb 2 (action script)
+overb script = ltb (length script) (command_length script) || ltb 2 (action script)
 
 -- how many numbers the command has that is to be played, 0 if the script is over
 abbrev pub size_of : List ℕ → ℕ
-size_of script = pick (overb script) 0 (commandLength script)
+size_of script = pick (overb script) 0 (command_length script)
 
 -- the allowance of a search
 abbrev pub allowance : List ℕ → ℕ

@@ -1,7 +1,7 @@
 // Plays a sequence of searches and next calls from a script of numbers, and logs each call's answer as four numbers.
 ghost use Rattle.std.specs.Prelude.{◌≡◌, length};
 ghost use Rattle.script_player.specs.Played.{played, results};
-ghost use Rattle.script_player.specs.Log.{logAfterAll, answerAfterAll, workAfterAll, BookPlayed};
+ghost use Rattle.script_player.specs.Log.{log_after_all, answer_after_all, work_after_all, BookPlayed};
 
 mod copying;
 
@@ -21,11 +21,11 @@ pub fn play(
 ) -> usize
     ensures calls { result ≡ length (played file.now script.now
         answer.old work.old log.old) }
-    ensures log { log.new ≡ logAfterAll log.old (results file.now
+    ensures log { log.new ≡ log_after_all log.old (results file.now
         script.now answer.old work.old log.old) }
-    ensures answer { answer.new ≡ answerAfterAll answer.old (results file.now
+    ensures answer { answer.new ≡ answer_after_all answer.old (results file.now
         script.now answer.old work.old log.old) }
-    ensures work { work.new ≡ workAfterAll work.old (results file.now
+    ensures work { work.new ≡ work_after_all work.old (results file.now
         script.now answer.old work.old log.old) }
     ensures book { BookPlayed file.now script.now
         answer.old work.old log.old log.new }

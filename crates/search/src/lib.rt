@@ -4,13 +4,13 @@
 ghost use Rattle.std.specs.Prelude.{◌≡◌, ◌*◌, ◌≤◌, length};
 ghost use Rattle.std.proofs.Math.Option.{some};
 ghost use Rattle.std.proofs.Math.ListN;
-ghost use Rattle.lasso.specs.Roll.{leastLength};
+ghost use Rattle.lasso.specs.Roll.{least_length};
 ghost use Rattle.lasso.specs.Rounds.{candidates};
-ghost use Rattle.model.specs.Model.{graphIn};
+ghost use Rattle.model.specs.Model.{graph_in};
 ghost use Rattle.model.specs.Values.{Valid};
-ghost use Rattle.gate.specs.Gate.{workOf};
+ghost use Rattle.gate.specs.Gate.{work_of};
 ghost use Rattle.candidates.specs.Promises.{RoundsReady};
-ghost use Rattle.search.specs.Search.{searchOutcomeOf, searchOutcome, searchAnswer, WithEnough};
+ghost use Rattle.search.specs.Search.{search_outcome_of, search_outcome, search_answer, WithEnough};
 
 use begun::{Begun, begin};
 use cursor::{to_first, write_list};
@@ -21,7 +21,7 @@ use numbers::{limit, reason};
 
 // The answer of a search: refused with a number; stopped with the record after the rounds that the allowance admits;
 // found with the length, the loop's start and the rounds; or none within the ceiling with the rounds.
-#[derive(Drop)]
+#[derive(Clone, Copy)]
 pub enum SearchAnswer {
     Refused(u16),
     Stopped(RoundRecord),
@@ -40,13 +40,13 @@ fn first_list(
     work: &mut [u16],
 ) -> SearchAnswer
     requires rounds_ready { RoundsReady file.now h work.old }
-    requires h_value { leastLength (graphIn file.now h) ≡ some transitions.0 }
-    requires rounds_value { rounds ≡ length (candidates (graphIn file.now h)) }
-    ensures outcome { WithEnough h.table rounds transitions.0 (λ ask. searchOutcomeOf result
-        ≡ searchOutcome file.now ask
+    requires h_value { least_length (graph_in file.now h) ≡ some transitions.0 }
+    requires rounds_value { rounds ≡ length (candidates (graph_in file.now h)) }
+    ensures outcome { WithEnough h.table rounds transitions.0 (λ ask. search_outcome_of result
+        ≡ search_outcome file.now ask
         (length answer.old) (length work.old)) }
     ensures answer { WithEnough h.table rounds transitions.0 (λ ask. answer.new
-        ≡ searchAnswer file.now ask answer.old (length work.old)) }
+        ≡ search_answer file.now ask answer.old (length work.old)) }
     ensures kept { length work.new ≡ length work.old }
 {
     if limit::LONGEST_PATH < transitions.0 {
@@ -74,10 +74,10 @@ fn search_model(
 ) -> SearchAnswer
     requires valid { Valid file.now h × (h.table ≡ ask.table) }
     requires states_in_bounds { 6 * h.states ≤ length work.old }
-    ensures outcome { searchOutcomeOf result
-        ≡ searchOutcome file.now ask (length answer.old) (length work.old) }
+    ensures outcome { search_outcome_of result
+        ≡ search_outcome file.now ask (length answer.old) (length work.old) }
     ensures answer { answer.new
-        ≡ searchAnswer file.now ask answer.old (length work.old) }
+        ≡ search_answer file.now ask answer.old (length work.old) }
     ensures kept { length work.new ≡ length work.old }
 {
     if ceiling_too_high(ask.ceiling) {
@@ -100,11 +100,11 @@ fn search_model(
 
 // The first of the shortest accepting paths, written to the answer table if it is not longer than the ceiling.
 pub fn search(file: &[u8], ask: Ask, answer: &mut [u16], work: &mut [u16]) -> SearchAnswer
-    ensures outcome { searchOutcomeOf result
-        ≡ searchOutcome file.now ask (length answer.old) (length work.old) }
+    ensures outcome { search_outcome_of result
+        ≡ search_outcome file.now ask (length answer.old) (length work.old) }
     ensures answer { answer.new
-        ≡ searchAnswer file.now ask answer.old (length work.old) }
-    ensures work { work.new ≡ workOf file.now ask.table work.old }
+        ≡ search_answer file.now ask answer.old (length work.old) }
+    ensures work { work.new ≡ work_of file.now ask.table work.old }
 {
     let checked = enter(file, ask.table, work);
     match checked {

@@ -4,13 +4,13 @@ use Rattle.std.proofs.Math.Option.{Option, some, none}
 use Rattle.lists.specs.Lists.{pick}
 use Rattle.lasso.specs.Roll.{roll}
 use Rattle.model.specs.Model.{graph_of}
-use Rattle.format.specs.Rules.{firstBroken}
+use Rattle.format.specs.Rules.{first_broken}
 use Rattle.outcomes.specs.Outcome.{outcome}
-use Rattle.outcomes.specs.Tables.{written, unlessRefused}
-use Rattle.search.specs.Search.{Searched, stopped, noneWithin, graphAsked, searchReasons, searched, firstDue}
-use Rattle.next.specs.Next.{dueReasons, followed}
-use Rattle.gate.specs.Gate.{namedRules, workOf}
-use Rattle.sequence.specs.Calls.{Call, search, next, ofSearch, ofNext, Result}
+use Rattle.outcomes.specs.Tables.{written, unless_refused}
+use Rattle.search.specs.Search.{Searched, stopped, none_within, graph_asked, search_reasons, searched, first_due}
+use Rattle.next.specs.Next.{due_reasons, followed}
+use Rattle.gate.specs.Gate.{named_rules, work_of}
+use Rattle.sequence.specs.Calls.{Call, search, next, of_search, of_next, Result}
 
 -- what the book gives for a call: the result, and h afterwards
 pub record Page : Type 0 where
@@ -18,61 +18,61 @@ pub record Page : Type 0 where
   pub after : ℕ
 
 -- no list of the roll is left: h is their number
-abbrev pub noneLeft : List (List ℕ) → ℕ → Bool
-noneLeft rs h = eqb h (length rs)
+abbrev pub nothing_left : List (List ℕ) → ℕ → Bool
+nothing_left rs h = eqb h (length rs)
 
 -- the list that a next gets in the book: none if none is left, otherwise the one at place h
-abbrev pub listAt : List (List ℕ) → ℕ → Option (List ℕ)
-listAt rs h = pick (noneLeft rs h) none (some (get_or rs h []))
+abbrev pub list_at : List (List ℕ) → ℕ → Option (List ℕ)
+list_at rs h = pick (nothing_left rs h) none (some (get_or rs h []))
 
 -- h after a search not refused: 1 if it found the roll's first list
-abbrev pub afterSearch : ℕ → Searched → ℕ
-afterSearch h (stopped r) = h
-afterSearch h (noneWithin rounds) = h
-afterSearch h (Searched.found l k rounds) = 1
+abbrev pub after_search : ℕ → Searched → ℕ
+after_search h (stopped r) = h
+after_search h (none_within rounds) = h
+after_search h (Searched.found l k rounds) = 1
 
 -- h after a next not refused: one more if it found a list
-abbrev pub afterNext : ℕ → Option (List ℕ) → ℕ
-afterNext h none = h
-afterNext h (some xs) = suc h
+abbrev pub after_next : ℕ → Option (List ℕ) → ℕ
+after_next h none = h
+after_next h (some xs) = suc h
 
 -- h the same if the call is refused
-abbrev pub unlessRefusedℕ : Option ℕ → ℕ → ℕ → ℕ
-unlessRefusedℕ none h h' = h'
-unlessRefusedℕ (some n) h h' = h
+abbrev pub unless_refused_ℕ : Option ℕ → ℕ → ℕ → ℕ
+unless_refused_ℕ none h h' = h'
+unless_refused_ℕ (some n) h h' = h
 
 -- the book's page for a call, by the mark table that it names: refused with the first reason in checking order; or for a search
 -- "stopped", "none within the ceiling" (when: `BookOfCeilings`) or "found" with the roll's first list; or for a next, which
 -- takes no ceiling, "no more" if h is the number of lists in the roll, else "found" with the list at place h
 abbrev pub page : List ℕ → ℕ → Call → Page
 page f h (search ask a w) =
-    let first : Option ℕ = firstBroken (searchReasons f ask (length a) (length w)) in
+    let first : Option ℕ = first_broken (search_reasons f ask (length a) (length w)) in
     record {
       result = record {
-        answer = ofSearch (outcome first (searched (graphAsked f ask) ask));
-        table = written (unlessRefused first (firstDue (graphAsked f ask) ask)) a;
-        work = workOf f ask.table w;
+        answer = of_search (outcome first (searched (graph_asked f ask) ask));
+        table = written (unless_refused first (first_due (graph_asked f ask) ask)) a;
+        work = work_of f ask.table w;
       };
-      after = unlessRefusedℕ first h (afterSearch h (searched (graphAsked f ask) ask));
+      after = unless_refused_ℕ first h (after_search h (searched (graph_asked f ask) ask));
     }
 page f h (next t earlier a w) =
-    let list : Option (List ℕ) = listAt (roll (graph_of f t)) h in
-    let first : Option ℕ = firstBroken (namedRules f t (length w) ++ dueReasons (graph_of f t) earlier list (length a)) in
+    let list : Option (List ℕ) = list_at (roll (graph_of f t)) h in
+    let first : Option ℕ = first_broken (named_rules f t (length w) ++ due_reasons (graph_of f t) earlier list (length a)) in
     record {
       result = record {
-        answer = ofNext (outcome first (followed list));
-        table = written (unlessRefused first list) a;
-        work = workOf f t w;
+        answer = of_next (outcome first (followed list));
+        table = written (unless_refused first list) a;
+        work = work_of f t w;
       };
-      after = unlessRefusedℕ first h (afterNext h list);
+      after = unless_refused_ℕ first h (after_next h list);
     }
 
 -- the book's results for a sequence of calls, from h on
-abbrev pub bookResults : List ℕ → ℕ → List Call → List Result
-bookResults f h [] = []
-bookResults f h (c ∷ cs) = (page f h c).result ∷ bookResults f (page f h c).after cs
+abbrev pub book_results : List ℕ → ℕ → List Call → List Result
+book_results f h [] = []
+book_results f h (c ∷ cs) = (page f h c).result ∷ book_results f (page f h c).after cs
 
 -- h after a sequence of calls
-abbrev pub bookEnd : List ℕ → ℕ → List Call → ℕ
-bookEnd f h [] = h
-bookEnd f h (c ∷ cs) = bookEnd f (page f h c).after cs
+abbrev pub book_end : List ℕ → ℕ → List Call → ℕ
+book_end f h [] = h
+book_end f h (c ∷ cs) = book_end f (page f h c).after cs

@@ -1,7 +1,7 @@
 // The whole text of the desk sheet: a model file goes in, its sheet comes out in a lent text.
 ghost use Rattle.std.specs.Prelude.{◌≡◌};
 ghost use Rattle.text.specs.Writing.{Wrote};
-ghost use Rattle.sheet.specs.Sheet.{sheetWritten, sheetAnswered, sheetWorked};
+ghost use Rattle.sheet.specs.Sheet.{sheet_written, sheet_answered, sheet_worked};
 
 use gate::{enter, leave};
 use model::Checked;
@@ -16,12 +16,12 @@ const SHEET_TABLE: u16 = 0;
 // bytes of room it writes nothing and answers 0.
 pub fn sheet(input: &[u8], answer: &mut [u16], work: &mut [u16], text: &mut [u8]) -> usize
     ensures text { Wrote text.old 0
-        (sheetWritten input.now answer.old work.old text.old)
+        (sheet_written input.now answer.old work.old text.old)
         text.new result }
     ensures answer { answer.new ≡
-        sheetAnswered input.now answer.old work.old text.old }
+        sheet_answered input.now answer.old work.old text.old }
     ensures work { work.new ≡
-        sheetWorked input.now work.old text.old }
+        sheet_worked input.now work.old text.old }
 {
     if text.len() < limit::SHEET_ROOM {
         return 0;

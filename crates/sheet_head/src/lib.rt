@@ -2,7 +2,7 @@
 ghost use Rattle.std.specs.Prelude.{◌≤◌, length};
 ghost use Rattle.text.specs.Figure.{figure};
 ghost use Rattle.text.specs.Writing.{Wrote};
-ghost use Rattle.sheet_head.specs.Words.{refusedWord};
+ghost use Rattle.sheet_head.specs.Words.{refused_word};
 ghost use Rattle.sheet_head.specs.Head.{head};
 
 use model::Header;
@@ -10,8 +10,8 @@ use text::{write_bytes, write_figure, write_number};
 
 // Writes the one line of a refused file.
 pub fn write_refusal(text: &mut [u8], number: usize) -> usize
-    requires { length (figure refusedWord number) ≤ length text.old }
-    ensures { Wrote text.old 0 (figure refusedWord number) text.new result }
+    requires { length (figure refused_word number) ≤ length text.old }
+    ensures { Wrote text.old 0 (figure refused_word number) text.new result }
 {
     write_figure(text, 0, b"refused ", number)
 }

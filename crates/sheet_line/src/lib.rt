@@ -1,7 +1,7 @@
 // The writer of the line of a list.
 ghost use Rattle.std.specs.Prelude.{◌+◌, ◌-◌, ◌≤◌, length, take, drop};
 ghost use Rattle.text.specs.Writing.{Wrote};
-ghost use Rattle.sheet_line.specs.Line.{spaceAfter, spaceBefore, stemLoop};
+ghost use Rattle.sheet_line.specs.Line.{space_after, space_before, stem_loop};
 
 use lasso::Transitions;
 use table::get;
@@ -9,8 +9,8 @@ use text::{write_byte, write_number};
 
 // Writes each state followed by a space.
 fn write_stem(text: &mut [u8], at: usize, states: &[u16]) -> usize
-    requires { at + length (spaceAfter states.now) ≤ length text.old }
-    ensures { Wrote text.old at (spaceAfter states.now) text.new result }
+    requires { at + length (space_after states.now) ≤ length text.old }
+    ensures { Wrote text.old at (space_after states.now) text.new result }
 {
     let mut next = at;
     let mut i = 0;
@@ -25,8 +25,8 @@ fn write_stem(text: &mut [u8], at: usize, states: &[u16]) -> usize
 
 // Writes each state preceded by a space.
 fn write_loop(text: &mut [u8], at: usize, states: &[u16]) -> usize
-    requires { at + length (spaceBefore states.now) ≤ length text.old }
-    ensures { Wrote text.old at (spaceBefore states.now) text.new result }
+    requires { at + length (space_before states.now) ≤ length text.old }
+    ensures { Wrote text.old at (space_before states.now) text.new result }
 {
     let mut next = at;
     let mut i = 0;
@@ -49,10 +49,10 @@ pub fn write_line(
     transitions: Transitions,
 ) -> usize
     requires k_le_transitions { (k ≤ transitions.0) × (transitions.0 ≤ length list.now) }
-    requires list_in_bounds { at + length (stemLoop (take k list.now) (take (transitions.0 - k) (drop k list.now)))
+    requires list_in_bounds { at + length (stem_loop (take k list.now) (take (transitions.0 - k) (drop k list.now)))
         ≤ length text.old }
     ensures { Wrote text.old at
-        (stemLoop (take k list.now) (take (transitions.0 - k) (drop k list.now)))
+        (stem_loop (take k list.now) (take (transitions.0 - k) (drop k list.now)))
         text.new result }
 {
     let after_stem = write_stem(text, at, &list[..k]);

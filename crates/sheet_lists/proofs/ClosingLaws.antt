@@ -9,43 +9,43 @@ use borrow.Author.Tests.{lt-ltb, le-ltb}
 use lib.ListN.{length, get_or, take, drop}
 use lib.Seq.{take_all}
 use Rattle.lists.specs.Lists.{collect}
-use Rattle.numbers.specs.Limits.{mostLists}
+use Rattle.numbers.specs.Limits.{most_lists}
 use Rattle.outcomes.specs.Tables.{written}
 use Rattle.text.specs.Writing.{Wrote}
 use Rattle.text.proofs.WroteLaws.{wrote_then, wrote_as}
 use Rattle.lists.proofs.CollectLaws.{take_next}
 use Rattle.sheet_line.specs.Line.{line}
-use Rattle.sheet_lists.specs.RollText.{closingLine, closing, listsText, last_of, lastPrinted}
+use Rattle.sheet_lists.specs.RollText.{closing_line, closing, lists_text, last_of, last_printed}
 
 -- n lists were printed: those that the sheet has, and the closing line says so
 pub record Closed (rs : List (List ℕ)) (more : Bool) (n : ℕ) : Type 0 where
-  pub printed : take n rs ≡ take mostLists rs
-  pub closes : closingLine more n ≡ closing (length rs)
+  pub printed : take n rs ≡ take most_lists rs
+  pub closes : closing_line more n ≡ closing (length rs)
 
 -- all lists were printed
-pub closed-end : (rs : List (List ℕ)) (n : ℕ) → length rs ≡ n → n ≤ mostLists → Closed rs false n
-closed-end rs n all few =
-    let least : min (length rs) mostLists ≡ n = omega arith in
+pub closed_end : (rs : List (List ℕ)) (n : ℕ) → length rs ≡ n → n ≤ most_lists → Closed rs false n
+closed_end rs n all few =
+    let least : min (length rs) most_lists ≡ n = omega arith in
     record {
-      printed = take_all n rs (omega arith) ∙ sym (take_all mostLists rs (omega arith));
-      closes = sym (ap (λ (b : Bool). closingLine b (min (length rs) mostLists)) (le-ltb mostLists (length rs) (omega arith)) ∙ ap (λ (k : ℕ). closingLine false k) least);
+      printed = take_all n rs (omega arith) ∙ sym (take_all most_lists rs (omega arith));
+      closes = sym (ap (λ (b : Bool). closing_line b (min (length rs) most_lists)) (le-ltb most_lists (length rs) (omega arith)) ∙ ap (λ (k : ℕ). closing_line false k) least);
     }
 
 -- as many as the sheet has room for were printed, and there are more
-pub closed-more : (rs : List (List ℕ)) (n : ℕ) → n ≡ mostLists → n < length rs → Closed rs true n
-closed-more rs n all more =
-    let least : min (length rs) mostLists ≡ n = omega arith in
+pub closed_more : (rs : List (List ℕ)) (n : ℕ) → n ≡ most_lists → n < length rs → Closed rs true n
+closed_more rs n all more =
+    let least : min (length rs) most_lists ≡ n = omega arith in
     record {
       printed = ap (λ (k : ℕ). take k rs) all;
-      closes = sym (ap (λ (b : Bool). closingLine b (min (length rs) mostLists)) (lt-ltb mostLists (length rs) (omega arith)) ∙ ap (λ (k : ℕ). closingLine true k) least);
+      closes = sym (ap (λ (b : Bool). closing_line b (min (length rs) most_lists)) (lt-ltb most_lists (length rs) (omega arith)) ∙ ap (λ (k : ℕ). closing_line true k) least);
     }
 
 -- the lines of the lists printed, and then the closing line
-pub wrote-closed : {rs : List (List ℕ)} {more : Bool} {t t' t'' : List ℕ} {at n next next' : ℕ} → Closed rs more n
-    → Wrote t at (collect line (take n rs)) t' next → Wrote t' next (closingLine more n) t'' next'
-    → Wrote t at (listsText rs) t'' next'
-wrote-closed {rs} {more} {n = n} c w v =
-    wrote_as (ap (λ (ls : List (List ℕ)). collect line ls ++ closingLine more n) c.printed ∙ ap (λ (b : List ℕ). collect line (take mostLists rs) ++ b) c.closes)
+pub wrote_closed : {rs : List (List ℕ)} {more : Bool} {t t' t'' : List ℕ} {at n next next' : ℕ} → Closed rs more n
+    → Wrote t at (collect line (take n rs)) t' next → Wrote t' next (closing_line more n) t'' next'
+    → Wrote t at (lists_text rs) t'' next'
+wrote_closed {rs} {more} {n = n} c w v =
+    wrote_as (ap (λ (ls : List (List ℕ)). collect line ls ++ closing_line more n) c.printed ∙ ap (λ (b : List ℕ). collect line (take most_lists rs) ++ b) c.closes)
     (wrote_then w v)
 
 -- the last of some lists with one after them
@@ -55,10 +55,10 @@ last_of_snoc (r ∷ []) xs = refl
 last_of_snoc (r ∷ q ∷ rs) xs = last_of_snoc (q ∷ rs) xs
 
 -- the answer table holds the last list printed
-pub answer-closed : {rs : List (List ℕ)} {more : Bool} (a a' xs : List ℕ) (place l : ℕ) → Closed rs more (place + 1) → place < length rs
-    → get_or rs place [] ≡ xs → length xs ≡ suc l → a' ≡ xs ++ drop (l + 1) a → a' ≡ written (lastPrinted rs) a
-answer-closed {rs} a a' xs place l c less same long e =
+pub answer_closed : {rs : List (List ℕ)} {more : Bool} (a a' xs : List ℕ) (place l : ℕ) → Closed rs more (place + 1) → place < length rs
+    → get_or rs place [] ≡ xs → length xs ≡ suc l → a' ≡ xs ++ drop (l + 1) a → a' ≡ written (last_printed rs) a
+answer_closed {rs} a a' xs place l c less same long e =
     let q : l + 1 ≡ length xs = omega arith in
-    let last : lastPrinted rs ≡ some xs =
+    let last : last_printed rs ≡ some xs =
     ap last_of (sym c.printed ∙ take_next rs place [] less) ∙ last_of_snoc (take place rs) (get_or rs place []) ∙ ap some same in
     e ∙ ap (λ (n : ℕ). xs ++ drop n a) q ∙ sym (ap (λ (o : Option (List ℕ)). written o a) last)

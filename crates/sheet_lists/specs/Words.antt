@@ -6,5 +6,5 @@ abbrev pub end_word : List ℕ
 end_word = 101 ∷ 110 ∷ 100 ∷ 32 ∷ []
 
 -- `more `
-abbrev pub moreWord : List ℕ
-moreWord = 109 ∷ 111 ∷ 114 ∷ 101 ∷ 32 ∷ []
+abbrev pub more_word : List ℕ
+more_word = 109 ∷ 111 ∷ 114 ∷ 101 ∷ 32 ∷ []

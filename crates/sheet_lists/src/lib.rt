@@ -1,15 +1,15 @@
 // The lists of a roll as text: one after the other in the working table, each written to the answer table and as a line.
 ghost use Rattle.std.specs.Prelude.{◌≡◌, ◌++◌, ◌+◌, ◌≤◌, ◌<◌, length, drop};
 ghost use Rattle.std.proofs.Math.Option.{some};
-ghost use Rattle.numbers.specs.Limits.{listsRoom};
-ghost use Rattle.lasso.specs.Roll.{leastLength, roll};
-ghost use Rattle.model.specs.Model.{graphIn};
+ghost use Rattle.numbers.specs.Limits.{lists_room};
+ghost use Rattle.lasso.specs.Roll.{least_length, roll};
+ghost use Rattle.model.specs.Model.{graph_in};
 ghost use Rattle.candidates.specs.Promises.{RoundsReady};
-ghost use Rattle.current.specs.Current.{listIn};
+ghost use Rattle.current.specs.Current.{list_in};
 ghost use Rattle.outcomes.specs.Tables.{written};
 ghost use Rattle.text.specs.Writing.{Wrote};
 ghost use Rattle.sheet_line.specs.Line.{line};
-ghost use Rattle.sheet_lists.specs.RollText.{closingLine, listsText, lastPrinted};
+ghost use Rattle.sheet_lists.specs.RollText.{closing_line, lists_text, last_printed};
 
 use cursor::{to_first, to_next, write_list};
 use lasso::Transitions;
@@ -30,11 +30,11 @@ fn write_current(
     requires transitions_in_bounds { transitions.0 ≤ length work.now }
     requires transitions_in_bounds_2 { transitions.0 < length answer.old }
     requires start_bound { h.start < 65536 }
-    requires transitions_in_bounds_3 { at + length (line (listIn h.start work.now transitions.0)) ≤ length text.old }
+    requires transitions_in_bounds_3 { at + length (line (list_in h.start work.now transitions.0)) ≤ length text.old }
     ensures line { Wrote text.old at
-        (line (listIn h.start work.now transitions.0)) text.new result }
+        (line (list_in h.start work.now transitions.0)) text.new result }
     ensures list { answer.new
-        ≡ listIn h.start work.now transitions.0 ++ drop (transitions.0 + 1) answer.old }
+        ≡ list_in h.start work.now transitions.0 ++ drop (transitions.0 + 1) answer.old }
 {
     let k = write_list(h, work, transitions, answer);
     write_line(text, at, answer, k, transitions)
@@ -42,8 +42,8 @@ fn write_current(
 
 // Writes the closing line.
 fn write_closing(text: &mut [u8], at: usize, count: usize, more: bool) -> usize
-    requires { at + length (closingLine more count) ≤ length text.old }
-    ensures { Wrote text.old at (closingLine more count) text.new result }
+    requires { at + length (closing_line more count) ≤ length text.old }
+    ensures { Wrote text.old at (closing_line more count) text.new result }
 {
     if more {
         return write_figure(text, at, b"more ", count);
@@ -62,13 +62,13 @@ pub fn write_lists(
     at: usize,
 ) -> usize
     requires rounds_ready { RoundsReady file.now h work.old }
-    requires h_value { leastLength (graphIn file.now h) ≡ some transitions.0 }
+    requires h_value { least_length (graph_in file.now h) ≡ some transitions.0 }
     requires transitions_in_bounds { transitions.0 < length answer.old }
-    requires lists_room_in_bounds { at + listsRoom ≤ length text.old }
+    requires lists_room_in_bounds { at + lists_room ≤ length text.old }
     ensures text { Wrote text.old at
-        (listsText (roll (graphIn file.now h))) text.new result }
+        (lists_text (roll (graph_in file.now h))) text.new result }
     ensures answer { answer.new
-        ≡ written (lastPrinted (roll (graphIn file.now h))) answer.old }
+        ≡ written (last_printed (roll (graph_in file.now h))) answer.old }
     ensures kept { length work.new ≡ length work.old }
 {
     to_first(file, h, transitions, work);

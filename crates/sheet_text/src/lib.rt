@@ -2,14 +2,14 @@
 ghost use Rattle.std.specs.Prelude.{◌≡◌, ◌*◌, ◌≤◌, length};
 ghost use Rattle.std.proofs.Math.Option.{some};
 ghost use Rattle.std.proofs.Math.ListN;
-ghost use Rattle.numbers.specs.Limits.{sheetRoom};
-ghost use Rattle.lasso.specs.Roll.{leastLength};
+ghost use Rattle.numbers.specs.Limits.{sheet_room};
+ghost use Rattle.lasso.specs.Roll.{least_length};
 ghost use Rattle.lasso.specs.Rounds.{candidates};
-ghost use Rattle.model.specs.Model.{graphIn};
+ghost use Rattle.model.specs.Model.{graph_in};
 ghost use Rattle.model.specs.Values.{Valid};
 ghost use Rattle.candidates.specs.Promises.{RoundsReady};
 ghost use Rattle.text.specs.Writing.{Wrote};
-ghost use Rattle.sheet_text.specs.SheetText.{sheetText, sheetAnswer};
+ghost use Rattle.sheet_text.specs.SheetText.{sheet_text, sheet_answer};
 
 use begun::{AllRounds, all_rounds};
 use lasso::{Entries, Transitions};
@@ -30,14 +30,14 @@ fn write_shortest(
     text: &mut [u8],
 ) -> usize
     requires rounds_ready { RoundsReady file.now h work.old × (h.table ≡ 0) }
-    requires h_value { leastLength (graphIn file.now h) ≡ some transitions.0 }
-    requires rounds_value { rounds ≡ length (candidates (graphIn file.now h)) }
-    requires sheet_room_in_bounds { sheetRoom ≤ length text.old }
+    requires h_value { least_length (graph_in file.now h) ≡ some transitions.0 }
+    requires rounds_value { rounds ≡ length (candidates (graph_in file.now h)) }
+    requires sheet_room_in_bounds { sheet_room ≤ length text.old }
     ensures text { Wrote text.old 0
-        (sheetText file.now (length answer.old) (length work.old))
+        (sheet_text file.now (length answer.old) (length work.old))
         text.new result }
     ensures answer { answer.new ≡
-        sheetAnswer file.now answer.old (length work.old) }
+        sheet_answer file.now answer.old (length work.old) }
     ensures kept { length work.new ≡ length work.old }
 {
     let entries = transitions.entries();
@@ -61,12 +61,12 @@ pub fn sheet_model(
 ) -> usize
     requires valid { Valid file.now h × (h.table ≡ 0) }
     requires states_in_bounds { 6 * h.states ≤ length work.old }
-    requires sheet_room_in_bounds { sheetRoom ≤ length text.old }
+    requires sheet_room_in_bounds { sheet_room ≤ length text.old }
     ensures text { Wrote text.old 0
-        (sheetText file.now (length answer.old) (length work.old))
+        (sheet_text file.now (length answer.old) (length work.old))
         text.new result }
     ensures answer { answer.new ≡
-        sheetAnswer file.now answer.old (length work.old) }
+        sheet_answer file.now answer.old (length work.old) }
     ensures kept { length work.new ≡ length work.old }
 {
     let completed = all_rounds(file, h, work);

@@ -20,8 +20,8 @@ pub record Looking (source : ℕ → Option ℕ) (n level s cursor : ℕ) : Type
 
 module _ {source : ℕ → Option ℕ} {n limit level s : ℕ} {w : List ℕ} (L : SourcesListed source n limit n w) where
   -- it starts with the first source of the level
-  pub looking-first : (v : ℕ) → level < limit → s < n → v ≡ entry 4 n w level → Looking source n level s v
-  looking-first v below inside e =
+  pub looking_first : (v : ℕ) → level < limit → s < n → v ≡ entry 4 n w level → Looking source n level s v
+  looking_first v below inside e =
       record {
         above = n;
         within = omega arith;
@@ -30,13 +30,13 @@ module _ {source : ℕ → Option ℕ} {n limit level s : ℕ} {w : List ℕ} (L
       }
 
   -- the next source of a level is smaller
-  pub next-smaller : (u cursor v : ℕ) → cursor ≡ suc u → v ≡ entry 5 n w u → Looking source n level s cursor → v ≤ u
-  next-smaller u cursor v q e K =
+  pub next_smaller : (u cursor v : ℕ) → cursor ≡ suc u → v ≡ entry 5 n w u → Looking source n level s cursor → v ≤ u
+  next_smaller u cursor v q e K =
       omega (arith, (L.nexts u level (omega (arith, K.names.within, K.within)) (K.names.names u q)).within)
 
   -- it goes on with the next one
-  pub looking-next : (u cursor v : ℕ) → cursor ≡ suc u → s < u → v ≡ entry 5 n w u → Looking source n level s cursor → Looking source n level s v
-  looking-next u cursor v q beyond e K =
+  pub looking_next : (u cursor v : ℕ) → cursor ≡ suc u → s < u → v ≡ entry 5 n w u → Looking source n level s cursor → Looking source n level s v
+  looking_next u cursor v q beyond e K =
       let here : source u ≡ some level = K.names.names u q in
       record {
         above = u;
@@ -46,11 +46,11 @@ module _ {source : ℕ → Option ℕ} {n limit level s : ℕ} {w : List ℕ} (L
       }
 
 -- where the cursor is not above s, it tells whether s is in the list
-pub listed-told : {n limit level s cursor : ℕ} {w : List ℕ} → cursor ≤ s + 1
+pub listed_told : {n limit level s cursor : ℕ} {w : List ℕ} → cursor ≤ s + 1
     → ((origin : List ℕ) → Planned n limit origin w → Looking (sources n limit origin) n level s cursor)
     → (b : Bool) → eqb cursor (s + 1) ≡ b → ListedAt n limit level s w b
-listed-told {s = s} {cursor = cursor} least K true e = λ origin P.
+listed_told {s = s} {cursor = cursor} least K true e = λ origin P.
     (K origin P).names.names s (omega (arith, eqb→eq cursor (s + 1) (subst T (sym e) tt)))
-listed-told {s = s} {cursor = cursor} least K false e = λ origin P.
+listed_told {s = s} {cursor = cursor} least K false e = λ origin P.
     let other = eqb-false cursor (s + 1) e in
     (K origin P).names.none_above s (omega arith) (K origin P).beyond

@@ -1,9 +1,11 @@
 // A search, breadth-first by levels, from sources that are told by their levels in the table. The working table
 // has the regions of the frontier.
+#![tactic(auto)]
+
 ghost use Rattle.std.specs.Prelude.{◌*◌, ◌≤◌, ◌<◌, length};
-ghost use Rattle.numbers.specs.Limits.{mostStates};
+ghost use Rattle.numbers.specs.Limits.{most_states};
 ghost use Rattle.model.specs.Values.{Valid};
-ghost use Rattle.model.specs.Model.{graphIn};
+ghost use Rattle.model.specs.Model.{graph_in};
 ghost use Rattle.frontier.specs.Buckets.{HasPlan};
 ghost use Rattle.edge_search.specs.Promises.{Spread, SearchedFromPlan};
 ghost use Rattle.spread.specs.Bounds.{ListedAt, LevelListed, BoundsInPlan};
@@ -15,7 +17,7 @@ use table::get;
 
 // State s is in the list of a level, in a plan up to the limit, which the contract alone needs. Lists descend.
 fn is_listed(work: &[u16], n: usize, limit: usize, level: usize, s: usize) -> bool
-    requires n_le_most_states { n ≤ mostStates }
+    requires n_le_most_states { n ≤ most_states }
     requires level_lt_limit { level < limit }
     requires limit_le_n { limit ≤ n }
     requires s_lt_n { s < n }
@@ -32,7 +34,7 @@ fn is_listed(work: &[u16], n: usize, limit: usize, level: usize, s: usize) -> bo
 
 // The level in whose list state s is, or the limit if it is in none.
 fn listed_level(work: &[u16], n: usize, limit: usize, s: usize) -> usize
-    requires n_le_most_states { n ≤ mostStates }
+    requires n_le_most_states { n ≤ most_states }
     requires limit_le_n { limit ≤ n }
     requires s_lt_n { s < n }
     requires n_in_bounds { 6 * n ≤ length work.now }
@@ -56,7 +58,7 @@ fn search_bound(file: &[u8], h: Header, work: &[u16], limit: usize, target: usiz
     requires limit_le_states { limit ≤ h.states }
     requires states_in_bounds { 6 * h.states ≤ length work.now }
     requires has_plan { HasPlan h.states limit work.now }
-    ensures { BoundsInPlan (graphIn file.now h) limit target work.now result }
+    ensures { BoundsInPlan (graph_in file.now h) limit target work.now result }
 {
     let n = h.states;
     if n <= target {
@@ -85,7 +87,7 @@ pub fn search_planned(
     requires limit_le_states { limit ≤ h.states }
     requires states_in_bounds { 6 * h.states ≤ length work.old }
     requires has_plan { HasPlan h.states limit work.old }
-    ensures { SearchedFromPlan (graphIn file.now h) limit target
+    ensures { SearchedFromPlan (graph_in file.now h) limit target
         work.old work.new result }
 {
     let bound = search_bound(file, h, work, limit, target);
@@ -108,7 +110,7 @@ pub fn spread(file: &[u8], h: Header, work: &mut [u16], limit: usize, target: us
     requires valid { Valid file.now h }
     requires limit_le_states { limit ≤ h.states }
     requires states_in_bounds { 6 * h.states ≤ length work.old }
-    ensures { Spread (graphIn file.now h) limit target work.old work.new result }
+    ensures { Spread (graph_in file.now h) limit target work.old work.new result }
 {
     let n = h.states;
     plan(work, n, limit);

@@ -8,41 +8,41 @@ use Rattle.lasso.specs.Graph.{Graph, WellFormed}
 use Rattle.lasso.specs.Distance.{dist}
 use Rattle.frontier.specs.Regions.{entry_of}
 use Rattle.lists.specs.Limit.{under}
-use Rattle.walks.specs.Through.{loopLength}
-use Rattle.starts.specs.LoopStarts.{startLoop}
-use Rattle.starts.proofs.StartLaws.{loopLength-closed, dist-state, startLoop-iff}
+use Rattle.walks.specs.Through.{loop_length}
+use Rattle.starts.specs.LoopStarts.{start_loop}
+use Rattle.starts.proofs.StartLaws.{loop_length_closed, dist_state, start_loop_iff}
 
 -- the entry 0 is that of no value
-pub entryOf-zero : (a : Option ℕ) → 0 ≡ entry_of a → a ≡ none
-entryOf-zero none q = refl
-entryOf-zero (some b) q = absurd (omega arith)
+pub entry_of_zero : (a : Option ℕ) → 0 ≡ entry_of a → a ≡ none
+entry_of_zero none q = refl
+entry_of_zero (some b) q = absurd (omega arith)
 
 -- a positive entry is that of the value one less
-pub entryOf-some : (a : Option ℕ) (e : ℕ) → e ≡ entry_of a → 1 ≤ e → a ≡ some (e - 1)
-entryOf-some none e q l = absurd (omega arith)
-entryOf-some (some d) e q l = let z : d ≡ e - 1 = omega arith in ap (λ (k : ℕ). some k) z
+pub entry_of_some : (a : Option ℕ) (e : ℕ) → e ≡ entry_of a → 1 ≤ e → a ≡ some (e - 1)
+entry_of_some none e q l = absurd (omega arith)
+entry_of_some (some d) e q l = let z : d ≡ e - 1 = omega arith in ap (λ (k : ℕ). some k) z
 
 -- the entry of a value that cannot be there is 0
-pub none-entryOf : (a : Option ℕ) → ((b : ℕ) → a ≡ some b → ⊥) → 0 ≡ entry_of a
-none-entryOf none h = refl
-none-entryOf (some b) h = absurd (h b refl)
+pub none_entry_of : (a : Option ℕ) → ((b : ℕ) → a ≡ some b → ⊥) → 0 ≡ entry_of a
+none_entry_of none h = refl
+none_entry_of (some b) h = absurd (h b refl)
 
 -- a state that is not reached starts no loop
-pub startLoop-unreached : (g : Graph) (l s : ℕ) → 0 ≡ entry_of (dist g g.start s) → 0 ≡ entry_of (startLoop g l s)
-startLoop-unreached g l s q = rw (entryOf-zero (dist g g.start s) q)
+pub start_loop_unreached : (g : Graph) (l s : ℕ) → 0 ≡ entry_of (dist g g.start s) → 0 ≡ entry_of (start_loop g l s)
+start_loop_unreached g l s q = rw (entry_of_zero (dist g g.start s) q)
 
 -- a state whose distance is the length or more starts no loop
-pub startLoop-far : {g : Graph} → WellFormed g → (l s : ℕ) {e : ℕ} → e ≡ entry_of (dist g g.start s) → l < e
-    → 0 ≡ entry_of (startLoop g l s)
-startLoop-far {g} wf l s {e} q far =
-    none-entryOf (startLoop g l s) (λ b h.
-    let (d, at, loop, le) = (startLoop-iff wf l s b).0 h in
+pub start_loop_far : {g : Graph} → WellFormed g → (l s : ℕ) {e : ℕ} → e ≡ entry_of (dist g g.start s) → l < e
+    → 0 ≡ entry_of (start_loop g l s)
+start_loop_far {g} wf l s {e} q far =
+    none_entry_of (start_loop g l s) (λ b h.
+    let (d, at, loop, le) = (start_loop_iff wf l s b).0 h in
     let same : entry_of (dist g g.start s) ≡ suc d = ap entry_of at in
-    omega (arith, (loopLength-closed wf (dist-state wf at) loop).0))
+    omega (arith, (loop_length_closed wf (dist_state wf at) loop).0))
 
 -- the loop that a reached state can start is within the rest of the length
-pub startLoop-reached : (g : Graph) (l s e : ℕ) → e ≡ entry_of (dist g g.start s) → 1 ≤ e
-    → startLoop g l s ≡ under (suc (l + 1 - e)) (loopLength g s)
-startLoop-reached g l s e q p =
+pub start_loop_reached : (g : Graph) (l s e : ℕ) → e ≡ entry_of (dist g g.start s) → 1 ≤ e
+    → start_loop g l s ≡ under (suc (l + 1 - e)) (loop_length g s)
+start_loop_reached g l s e q p =
     let z : l - (e - 1) ≡ l + 1 - e = omega arith in
-    rw (entryOf-some (dist g g.start s) e q p, z)
+    rw (entry_of_some (dist g g.start s) e q p, z)

@@ -1,14 +1,15 @@
 // Which states can start the loop of a shortest lasso, and the length of that loop. Region 1 of the working table holds
 // it for each such state.
+#![tactic(auto)]
 ghost use Rattle.std.specs.Prelude.{◌≡◌, ◌*◌, ◌≤◌, ◌<◌, length};
 ghost use Rattle.std.proofs.Math.Option.{some};
-ghost use Rattle.lasso.specs.Roll.{leastLength};
+ghost use Rattle.lasso.specs.Roll.{least_length};
 ghost use Rattle.model.specs.Values.{Valid};
-ghost use Rattle.model.specs.Model.{graphIn};
+ghost use Rattle.model.specs.Model.{graph_in};
 ghost use Rattle.table.specs.Changes.{SameOutside};
 ghost use Rattle.frontier.specs.Regions.{entry_of};
 ghost use Rattle.candidates.specs.Promises.{RoundsReady};
-ghost use Rattle.starts.specs.LoopStarts.{startLoop, StartLoops};
+ghost use Rattle.starts.specs.LoopStarts.{start_loop, StartLoops};
 ghost use Rattle.starts.specs.Flags.{FlagsRow, FlagsStarts};
 
 use edge_search::SpreadAnswer;
@@ -22,7 +23,7 @@ fn flag_row(file: &[u8], h: Header, work: &mut [u16], u: usize)
     requires valid { Valid file.now h }
     requires states_in_bounds { 2 * h.states ≤ length work.old }
     requires u_lt_states { u < h.states }
-    ensures { FlagsRow (graphIn file.now h) h.states u work.old work.new }
+    ensures { FlagsRow (graph_in file.now h) h.states u work.old work.new }
 {
     let n = h.states;
     let distance = get(work, u);
@@ -43,7 +44,7 @@ fn flag_row(file: &[u8], h: Header, work: &mut [u16], u: usize)
 fn flag_starts(file: &[u8], h: Header, work: &mut [u16])
     requires valid { Valid file.now h }
     requires states_in_bounds { 2 * h.states ≤ length work.old }
-    ensures { FlagsStarts (graphIn file.now h) h.states work.old work.new }
+    ensures { FlagsStarts (graph_in file.now h) h.states work.old work.new }
 {
     let n = h.states;
     clear(work, n, 2 * n);
@@ -61,7 +62,7 @@ fn start_loop(file: &[u8], h: Header, work: &mut [u16], transitions: Transitions
     requires rounds_ready { RoundsReady file.now h work.old }
     requires transitions_le_states { transitions.0 ≤ h.states }
     requires s_lt_states { s < h.states }
-    ensures value { (result ≡ entry_of (startLoop (graphIn file.now h) transitions.0 s)) × (result < 65536) }
+    ensures value { (result ≡ entry_of (start_loop (graph_in file.now h) transitions.0 s)) × (result < 65536) }
     ensures same { SameOutside (2 * h.states) (6 * h.states) work.old work.new }
 {
     let reached = get(work, s);
@@ -82,8 +83,8 @@ fn start_loop(file: &[u8], h: Header, work: &mut [u16], transitions: Transitions
 // Puts the loop length of each state that can start the loop of a shortest lasso into region 1.
 pub fn prepare_starts(file: &[u8], h: Header, work: &mut [u16], transitions: Transitions)
     requires rounds_ready { RoundsReady file.now h work.old }
-    requires h_value { leastLength (graphIn file.now h) ≡ some transitions.0 }
-    ensures start_loops { StartLoops (graphIn file.now h) transitions.0 work.new }
+    requires h_value { least_length (graph_in file.now h) ≡ some transitions.0 }
+    ensures start_loops { StartLoops (graph_in file.now h) transitions.0 work.new }
     ensures same { SameOutside h.states (6 * h.states) work.old work.new }
 {
     let n = h.states;

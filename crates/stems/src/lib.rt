@@ -2,12 +2,12 @@
 // each of them, and 1 more for a state that can start the loop.
 ghost use Rattle.std.specs.Prelude.{◌≡◌, ◌*◌, ◌≤◌, length};
 ghost use Rattle.std.proofs.Math.Option.{some};
-ghost use Rattle.numbers.specs.Limits.{mostStates};
-ghost use Rattle.lasso.specs.Roll.{leastLength};
-ghost use Rattle.model.specs.Model.{graphIn};
+ghost use Rattle.numbers.specs.Limits.{most_states};
+ghost use Rattle.lasso.specs.Roll.{least_length};
+ghost use Rattle.model.specs.Model.{graph_in};
 ghost use Rattle.table.specs.Changes.{SameOutside};
 ghost use Rattle.candidates.specs.Promises.{RoundsReady};
-ghost use Rattle.stems.specs.Stems.{StemEntries, flagOf, LevelsFit, StemsPut};
+ghost use Rattle.stems.specs.Stems.{StemEntries, flag_of, LevelsFit, StemsPut};
 
 use lasso::Transitions;
 use model::Header;
@@ -18,7 +18,7 @@ use ways::keep_ways;
 
 // 1 for an entry that stands for a value, else 0.
 fn flag(entry: usize) -> usize
-    ensures { result ≡ flagOf entry }
+    ensures { result ≡ flag_of entry }
 {
     if entry == 0 {
         return 0;
@@ -28,7 +28,7 @@ fn flag(entry: usize) -> usize
 
 // Puts the entries of the stems into region 1: twice the level of region 2, and 1 more for a loop start.
 fn put_stems(work: &mut [u16], n: usize)
-    requires n_le_most_states { n ≤ mostStates }
+    requires n_le_most_states { n ≤ most_states }
     requires n_in_bounds { 3 * n ≤ length work.old }
     requires levels_fit { LevelsFit n work.old }
     ensures { StemsPut n n work.old work.new }
@@ -45,8 +45,8 @@ fn put_stems(work: &mut [u16], n: usize)
 // Puts the stems into region 1: the loop starts are the ends of ways back over the distances from the start.
 pub fn prepare(file: &[u8], h: Header, work: &mut [u16], transitions: Transitions)
     requires rounds_ready { RoundsReady file.now h work.old }
-    requires h_value { leastLength (graphIn file.now h) ≡ some transitions.0 }
-    ensures stem_entries { StemEntries (graphIn file.now h) transitions.0 work.new }
+    requires h_value { least_length (graph_in file.now h) ≡ some transitions.0 }
+    ensures stem_entries { StemEntries (graph_in file.now h) transitions.0 work.new }
     ensures same { SameOutside h.states (6 * h.states) work.old work.new }
 {
     prepare_starts(file, h, work, transitions);

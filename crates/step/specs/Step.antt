@@ -2,12 +2,12 @@
 use Rattle.std.specs.Prelude.{ℕ, List, [], ◌∷◌, ◌++◌}
 use Rattle.lists.specs.Lists.{pick}
 use Rattle.lasso.specs.Graph.{Graph}
-use Rattle.lasso.specs.Rounds.{Record, finishedb, afterRound}
-use Rattle.lasso.specs.Values.{recordOf}
+use Rattle.lasso.specs.Rounds.{Record, finishedb, after_round}
+use Rattle.lasso.specs.Values.{record_of}
 use Rattle.model.specs.Model.{graph_of}
-use Rattle.format.specs.Rules.{Reason, firstBroken}
+use Rattle.format.specs.Rules.{Reason, first_broken}
 use Rattle.outcomes.specs.Outcome.{Outcome, refused, answered, outcome, LosesNothing}
-use Rattle.gate.specs.Gate.{namedRules, ceilingReason}
+use Rattle.gate.specs.Gate.{named_rules, ceiling_reason}
 use Rattle.step.specs.declared.StepAnswer.{StepAnswer}
 use Rattle.step.specs.declared.StepAnswer.TheVariants as StepAnswers
 
@@ -17,25 +17,25 @@ pub data Stepped : Type 0 where
   advanced : Record → Stepped
 
 -- which outcome each answer of the code's step is
-abbrev pub stepOutcomeOf : StepAnswer → Outcome Stepped
-stepOutcomeOf (StepAnswers.Refused n) = refused n
-stepOutcomeOf (StepAnswers.Finished r) = answered (finished (recordOf r))
-stepOutcomeOf (StepAnswers.Advanced r) = answered (advanced (recordOf r))
+abbrev pub step_outcome_of : StepAnswer → Outcome Stepped
+step_outcome_of (StepAnswers.Refused n) = refused n
+step_outcome_of (StepAnswers.Finished r) = answered (finished (record_of r))
+step_outcome_of (StepAnswers.Advanced r) = answered (advanced (record_of r))
 
 -- no figure of a step's answer is lost in its outcome
 abbrev pub StepLosesNothing : Type 0
-StepLosesNothing = LosesNothing stepOutcomeOf
+StepLosesNothing = LosesNothing step_outcome_of
 
 -- finished with the same record if no candidate is left, else the record after the round for the candidate whose place
 -- is the count
 abbrev pub stepped : Graph → (ceiling : ℕ) → Record → Stepped
-stepped g ceiling rec = pick (finishedb g rec) (finished rec) (advanced (afterRound g ceiling rec))
+stepped g ceiling rec = pick (finishedb g rec) (finished rec) (advanced (after_round g ceiling rec))
 
 -- the reasons that a step applies: 22 before 1, 21 after 12, and no further
-abbrev pub stepReasons : List ℕ → (t ceiling workRoom : ℕ) → List Reason
-stepReasons f t ceiling workRoom = namedRules f t workRoom ++ ceilingReason ceiling ∷ []
+abbrev pub step_reasons : List ℕ → (t ceiling workRoom : ℕ) → List Reason
+step_reasons f t ceiling workRoom = named_rules f t workRoom ++ ceiling_reason ceiling ∷ []
 
 -- what a step answers that names mark table t
-abbrev pub stepOutcome : List ℕ → (t ceiling : ℕ) → Record → (workRoom : ℕ) → Outcome Stepped
-stepOutcome f t ceiling rec workRoom =
-    outcome (firstBroken (stepReasons f t ceiling workRoom)) (stepped (graph_of f t) ceiling rec)
+abbrev pub step_outcome : List ℕ → (t ceiling : ℕ) → Record → (workRoom : ℕ) → Outcome Stepped
+step_outcome f t ceiling rec workRoom =
+    outcome (first_broken (step_reasons f t ceiling workRoom)) (stepped (graph_of f t) ceiling rec)

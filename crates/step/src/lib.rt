@@ -1,10 +1,10 @@
 // One step: the record after one more round under a ceiling, by the marks of the table that it names. It applies the
 // reasons 22, 1 to 12 and 21 in order, and leaves the working table untouched after 1 to 12 and all zero otherwise.
 ghost use Rattle.std.specs.Prelude.{◌≡◌, ◌*◌, ◌≤◌, length};
-ghost use Rattle.lasso.specs.Values.{recordOf};
+ghost use Rattle.lasso.specs.Values.{record_of};
 ghost use Rattle.model.specs.Values.{Valid};
-ghost use Rattle.gate.specs.Gate.{workOf};
-ghost use Rattle.step.specs.Step.{stepOutcomeOf, stepOutcome};
+ghost use Rattle.gate.specs.Gate.{work_of};
+ghost use Rattle.step.specs.Step.{step_outcome_of, step_outcome};
 
 use candidates::{count_candidates, start_distances};
 use gate::{ceiling_too_high, enter, leave};
@@ -14,7 +14,7 @@ use numbers::reason;
 use rounds::next_round;
 
 // The answer of a step: refused with a number, or the record, the same or after one more round.
-#[derive(Drop)]
+#[derive(Clone, Copy)]
 pub enum StepAnswer {
     Refused(u16),
     Finished(RoundRecord),
@@ -31,8 +31,8 @@ fn step_model(
 ) -> StepAnswer
     requires valid { Valid file.now h }
     requires states_in_bounds { 6 * h.states ≤ length work.old }
-    ensures outcome { stepOutcomeOf result
-        ≡ stepOutcome file.now h.table ceiling.0 (recordOf so_far) (length work.old) }
+    ensures outcome { step_outcome_of result
+        ≡ step_outcome file.now h.table ceiling.0 (record_of so_far) (length work.old) }
     ensures kept { length work.new ≡ length work.old }
 {
     if ceiling_too_high(ceiling) {
@@ -56,9 +56,9 @@ pub fn step(
     so_far: RoundRecord,
     work: &mut [u16],
 ) -> StepAnswer
-    ensures outcome { stepOutcomeOf result
-        ≡ stepOutcome file.now mark_table ceiling.0 (recordOf so_far) (length work.old) }
-    ensures work { work.new ≡ workOf file.now mark_table work.old }
+    ensures outcome { step_outcome_of result
+        ≡ step_outcome file.now mark_table ceiling.0 (record_of so_far) (length work.old) }
+    ensures work { work.new ≡ work_of file.now mark_table work.old }
 {
     let checked = enter(file, mark_table, work);
     match checked {

@@ -4,7 +4,7 @@ use Rattle.std.specs.Prelude.{ℕ, ◌+◌, ◌≤◌, ◌<◌, ◌≡◌, List,
 -- every entry before `from`, and every entry from `to` on, is as before
 pub record SameOutside (from to : ℕ) (w w' : List ℕ) : Type 0 where
   pub same_length : length w' ≡ length w
-  pub same-before : (i : ℕ) → i < from → get_or w' i 0 ≡ get_or w i 0
+  pub same_before : (i : ℕ) → i < from → get_or w' i 0 ≡ get_or w i 0
   pub same_after : (i : ℕ) → to ≤ i → get_or w' i 0 ≡ get_or w i 0
 
 -- the entries from `from` up to `to` are zero, the others as before

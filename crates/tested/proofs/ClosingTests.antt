@@ -9,17 +9,17 @@ use lib.ListN.{get_or}
 use lib.Dec.{T}
 use Rattle.lasso.specs.Graph.{Graph}
 use Rattle.lists.specs.Decides.{Decides}
-use Rattle.lists.proofs.Tests.{lt-or-ge, decides-iff}
+use Rattle.lists.proofs.Tests.{lt_or_ge, decides_iff}
 use Rattle.frontier.specs.Regions.{entry}
 
 -- what the code reads for a state in region 2 is its entry
-pub read-two : (n : ℕ) (w : List ℕ) (s x : ℕ) → s ≡ x → get_or w (2 * n + s) 0 ≡ entry 2 n w x
-read-two n w s x e = ap (entry 2 n w) e
+pub read_two : (n : ℕ) (w : List ℕ) (s x : ℕ) → s ≡ x → get_or w (2 * n + s) 0 ≡ entry 2 n w x
+read_two n w s x e = ap (entry 2 n w) e
 
 -- what holds from k on and at the place before holds from there on
 pub from_more : (P : ℕ → Type 0) (k : ℕ) → 1 ≤ k → ((x : ℕ) → k ≤ x → P x) → P (k - 1) → (x : ℕ) → k - 1 ≤ x → P x
 from_more P k l all here x h =
-    elim (lt-or-ge (k - 1) x) [
+    elim (lt_or_ge (k - 1) x) [
       | inl q ↦ all x (omega arith)
       | inr q ↦ let e : k - 1 ≡ x = omega arith in rw e at here
     ]
@@ -31,19 +31,19 @@ MarkFrom g start w place k = (r : ℕ) × (k ≤ r) × (r ≤ place) × T (g.mar
 -- what is known of the marks from a place k on, once the state before k is looked at
 module _ (g : Graph) (start : ℕ) (w : List ℕ) (place k : ℕ) (l : 1 ≤ k) where
   -- it is marked
-  pub markFrom-here : k ≤ place + 1 → g.marked (get_or (start ∷ w) (k - 1) 0) ≡ true → (b : Bool) → b ≡ true → Decides (MarkFrom g start w place (k - 1)) b
-  markFrom-here h marked b e = rw e (k - 1, omega arith, omega arith, rw marked tt)
+  pub mark_from_here : k ≤ place + 1 → g.marked (get_or (start ∷ w) (k - 1) 0) ≡ true → (b : Bool) → b ≡ true → Decides (MarkFrom g start w place (k - 1)) b
+  mark_from_here h marked b e = rw e (k - 1, omega arith, omega arith, rw marked tt)
 
   -- it is not marked, and the marks stand from k on
-  pub markFrom-skip : g.marked (get_or (start ∷ w) (k - 1) 0) ≡ false → (b d : Bool) → b ≡ d → Decides (MarkFrom g start w place k) d → Decides (MarkFrom g start w place (k - 1)) b
-  markFrom-skip unmarked b d same known = decides-iff to back b (rw same known)
+  pub mark_from_skip : g.marked (get_or (start ∷ w) (k - 1) 0) ≡ false → (b d : Bool) → b ≡ d → Decides (MarkFrom g start w place k) d → Decides (MarkFrom g start w place (k - 1)) b
+  mark_from_skip unmarked b d same known = decides_iff to back b (rw same known)
     where
       to : MarkFrom g start w place k → MarkFrom g start w place (k - 1)
       to (r, h, i, t) = (r, omega arith, i, t)
 
       back : MarkFrom g start w place (k - 1) → MarkFrom g start w place k
       back (r, h, i, t) =
-          elim (lt-or-ge (k - 1) r) [
+          elim (lt_or_ge (k - 1) r) [
             | inl q ↦ (r, omega arith, i, t)
             | inr q ↦
                 let e : r ≡ k - 1 = omega arith in

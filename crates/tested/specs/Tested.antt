@@ -2,7 +2,7 @@
 use Rattle.std.specs.Prelude.{ℕ, ◌*◌, List}
 use Rattle.lists.specs.Decides.{Decides}
 use Rattle.model.specs.declared.Header.{Header}
-use Rattle.model.specs.Model.{graphIn}
+use Rattle.model.specs.Model.{graph_in}
 use Rattle.table.specs.Changes.{SameOutside}
 use Rattle.follow.specs.Follow.{MayFollow}
 use Rattle.passed.specs.Passed.{PassedAt}
@@ -10,6 +10,6 @@ use Rattle.tested.specs.declared.Tested.{Tested}
 
 -- the answer of a test: it is right, regions 2 to 5 alone changed, and what is known of the list is so
 pub record TestSays (f : List ℕ) (h : Header) (w w' : List ℕ) (l place t : ℕ) (r : Tested) : Type 0 where
-  pub decides : Decides (MayFollow (graphIn f h) l w place t) r.yes
+  pub decides : Decides (MayFollow (graph_in f h) l w place t) r.yes
   pub same : SameOutside (2 * h.states) (6 * h.states) w w'
   pub passed : PassedAt f h w' l place r.passed

@@ -2,10 +2,10 @@
 ghost use Rattle.std.specs.Prelude.{[], ◌∷◌, ◌++◌, ◌*◌, ◌≤◌, ◌<◌, length, T};
 ghost use Rattle.lists.specs.Decides.{Decides};
 ghost use Rattle.lasso.specs.Graph.{pathb};
-ghost use Rattle.model.specs.Model.{graphIn};
+ghost use Rattle.model.specs.Model.{graph_in};
 ghost use Rattle.model.specs.Values.{Valid};
 ghost use Rattle.table.specs.Changes.{SameOutside};
-ghost use Rattle.current.specs.Current.{listIn};
+ghost use Rattle.current.specs.Current.{list_in};
 ghost use Rattle.follow.specs.Follow.{StatesTo, Prepared, OnStem, ClosesMarked, ClosesStart, MayFollow};
 
 use current::list_at;
@@ -22,7 +22,7 @@ fn closes_marked(file: &[u8], h: Header, work: &[u16], place: usize, left: usize
     requires left_le_states { left ≤ h.states }
     requires states_to { StatesTo h work.now place }
     ensures { Decides
-        (ClosesMarked (graphIn file.now h) h.states h.start work.now place left) result }
+        (ClosesMarked (graph_in file.now h) h.states h.start work.now place left) result }
 {
     let n = h.states;
     let mut marked = false;
@@ -84,9 +84,9 @@ pub fn may_close(
     requires prepared { Prepared file.now h work.old transitions.0 }
     requires place_lt_transitions { place < transitions.0 }
     requires t_lt_states { t < h.states }
-    requires t { T (pathb (graphIn file.now h) (listIn h.start work.old place ++ t ∷ [])) }
+    requires t { T (pathb (graph_in file.now h) (list_in h.start work.old place ++ t ∷ [])) }
     requires fact { OnStem h.states work.old place t → ⊥ }
-    ensures decides { Decides (MayFollow (graphIn file.now h) transitions.0 work.old place t) result }
+    ensures decides { Decides (MayFollow (graph_in file.now h) transitions.0 work.old place t) result }
     ensures same { SameOutside (2 * h.states) (6 * h.states) work.old work.new }
 {
     let n = h.states;

@@ -4,9 +4,9 @@ mod closing;
 
 ghost use Rattle.std.specs.Prelude.{[], ◌∷◌, ◌++◌, true, ◌≡◌, ◌*◌, ◌<◌, T};
 ghost use Rattle.lasso.specs.Graph.{pathb};
-ghost use Rattle.model.specs.Model.{graphIn};
+ghost use Rattle.model.specs.Model.{graph_in};
 ghost use Rattle.table.specs.Changes.{SameOutside};
-ghost use Rattle.current.specs.Current.{stateAt, listIn};
+ghost use Rattle.current.specs.Current.{state_at, list_in};
 ghost use Rattle.follow.specs.Follow.{Prepared};
 ghost use Rattle.goal_tables.specs.Tables.{Ground, Tables};
 ghost use Rattle.passed.specs.Passed.{PassedAt};
@@ -30,8 +30,8 @@ fn ensure_tables(
     made: bool,
 )
     requires ground { Ground file.now h work.old transitions.0 b }
-    requires tables { made ≡ true → Tables (graphIn file.now h) transitions.0 (stateAt h work.old) b work.old }
-    ensures tables_2 { Tables (graphIn file.now h) transitions.0 (stateAt h work.old) b
+    requires tables { made ≡ true → Tables (graph_in file.now h) transitions.0 (state_at h work.old) b work.old }
+    ensures tables_2 { Tables (graph_in file.now h) transitions.0 (state_at h work.old) b
         work.new }
     ensures same { SameOutside (2 * h.states) (6 * h.states) work.old work.new }
 {
@@ -42,7 +42,7 @@ fn ensure_tables(
 }
 
 // The answer of a test: whether the state may stand there, and what is known of the list then.
-#[derive(Drop)]
+#[derive(Clone, Copy)]
 pub struct Tested {
     pub yes: bool,
     pub passed: Passed,
@@ -65,7 +65,7 @@ pub fn may_follow(
     requires prepared { Prepared file.now h work.old transitions.0 }
     requires place_lt_transitions { place < transitions.0 }
     requires t_lt_states { t < h.states }
-    requires t { T (pathb (graphIn file.now h) (listIn h.start work.old place ++ t ∷ [])) }
+    requires t { T (pathb (graph_in file.now h) (list_in h.start work.old place ++ t ∷ [])) }
     requires passed_at { PassedAt file.now h work.old transitions.0 place passed }
     ensures { TestSays file.now h work.old work.new transitions.0 place t result }
 {

@@ -6,26 +6,26 @@ use native.Mathlib.Omega.{arith}
 use lib.ListN.{length, get_or, take}
 use lib.Seq.{take_all}
 use Rattle.lists.specs.Lists.{collect}
-use Rattle.lists.proofs.CollectLaws.{collect-next, collect-room}
+use Rattle.lists.proofs.CollectLaws.{collect_next, collect_room}
 use Rattle.text.specs.Writing.{Wrote}
-use Rattle.text.proofs.WroteLaws.{wrote_then, wrote_as, wrote-length}
+use Rattle.text.proofs.WroteLaws.{wrote_then, wrote_as, wrote_length}
 
 module _ {A : Type 0} (f : A → List ℕ) where
   -- a writer of the next entry, after writers of those before it
-  pub wrote-next : {t t' t'' : List ℕ} {at next next' : ℕ} (ss : List A) (i : ℕ) (d s : A) → i < length ss → s ≡ get_or ss i d
+  pub wrote_next : {t t' t'' : List ℕ} {at next next' : ℕ} (ss : List A) (i : ℕ) (d s : A) → i < length ss → s ≡ get_or ss i d
       → Wrote t at (collect f (take i ss)) t' next → Wrote t' next (f s) t'' next'
       → Wrote t at (collect f (take (i + 1) ss)) t'' next'
-  wrote-next ss i d s less e w v =
-      wrote_as (sym (collect-next f ss i d less)) (wrote_then w (wrote_as (ap f e) v))
+  wrote_next ss i d s less e w v =
+      wrote_as (sym (collect_next f ss i d less)) (wrote_then w (wrote_as (ap f e) v))
 
   -- the next entry has room in the text where all have
-  pub next-room : {t t' : List ℕ} {at next : ℕ} (ss : List A) (i : ℕ) (d s : A) → i < length ss → s ≡ get_or ss i d
+  pub next_room : {t t' : List ℕ} {at next : ℕ} (ss : List A) (i : ℕ) (d s : A) → i < length ss → s ≡ get_or ss i d
       → at + length (collect f ss) ≤ length t → Wrote t at (collect f (take i ss)) t' next
       → next + length (f s) ≤ length t'
-  next-room ss i d s less e room w =
-      omega (arith, collect-room f ss i d less, ap (λ (x : A). length (f x)) e, wrote-length w, w.place)
+  next_room ss i d s less e room w =
+      omega (arith, collect_room f ss i d less, ap (λ (x : A). length (f x)) e, wrote_length w, w.place)
 
   -- all entries are written once the first i are, if there are no more
-  pub wrote-all : {t t' : List ℕ} {at next : ℕ} (ss : List A) (i : ℕ) → length ss ≤ i
+  pub wrote_all : {t t' : List ℕ} {at next : ℕ} (ss : List A) (i : ℕ) → length ss ≤ i
       → Wrote t at (collect f (take i ss)) t' next → Wrote t at (collect f ss) t' next
-  wrote-all ss i all w = wrote_as (ap (λ (r : List A). collect f r) (take_all i ss all)) w
+  wrote_all ss i all w = wrote_as (ap (λ (r : List A). collect f r) (take_all i ss all)) w

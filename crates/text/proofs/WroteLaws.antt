@@ -9,8 +9,8 @@ use lib.Seq.{length-take-le, set_split, take_at, drop_at, drop-drop}
 use Rattle.text.specs.Writing.{Wrote, Within}
 
 -- the text keeps its length
-pub wrote-length : {t : List ℕ} {at : ℕ} {bytes t' : List ℕ} {next : ℕ} → Wrote t at bytes t' next → length t' ≡ length t
-wrote-length w = ap length w.text ∙ simp (length-append, length-take, length-drop) (omega (arith, w.room))
+pub wrote_length : {t : List ℕ} {at : ℕ} {bytes t' : List ℕ} {next : ℕ} → Wrote t at bytes t' next → length t' ≡ length t
+wrote_length w = ap length w.text ∙ simp (length-append, length-take, length-drop) (omega (arith, w.room))
 
 -- a writer of no bytes leaves the text as it is
 pub wrote_none : (t : List ℕ) (at : ℕ) → at ≤ length t → Wrote t at [] t at
@@ -23,8 +23,8 @@ wrote_none t at fits =
     }
 
 -- one byte is stored
-pub wrote-byte : (t : List ℕ) (at byte : ℕ) → at < length t → Wrote t at (byte ∷ []) (set t at byte) (at + 1)
-wrote-byte t at byte fits =
+pub wrote_byte : (t : List ℕ) (at byte : ℕ) → at < length t → Wrote t at (byte ∷ []) (set t at byte) (at + 1)
+wrote_byte t at byte fits =
     record {
       room = omega arith;
       text = set_split t at byte fits ∙ ap (λ (k : ℕ). take at t ++ byte ∷ drop k t) (sym (add-one at)) ∙ sym (snoc (take at t) (drop (at + 1) t));
@@ -40,7 +40,7 @@ pub wrote_then : {t : List ℕ} {at : ℕ} {b b' t' t'' : List ℕ} {next next' 
 wrote_then {t} {at} {b} {b'} {t'} {t''} {next} {next'} w v =
     let front : List ℕ = take at t ++ b in
     let long : length front ≡ next = length-append (take at t) b ∙ ap (λ (n : ℕ). n + length b) (length-take-le at t (omega (arith, w.room))) ∙ sym w.place in
-    let kept : length t' ≡ length t = wrote-length w in
+    let kept : length t' ≡ length t = wrote_length w in
     let sum : length (b ++ b') ≡ length b + length b' = length-append b b' in
     let before : take next t' ≡ front = ap (λ (x : List ℕ). take next x) w.text ∙ take_at front (drop (at + length b) t) next long in
     let cut : drop next t' ≡ drop (at + length b) t = ap (λ (x : List ℕ). drop next x) w.text ∙ drop_at front (drop (at + length b) t) next long in
@@ -62,7 +62,7 @@ pub wrote_as : {t : List ℕ} {at : ℕ} {b b' t' : List ℕ} {next : ℕ} → b
 wrote_as {t} {at} {b} {b'} {t'} {next} e w = subst (λ (x : List ℕ). Wrote t at x t' next) e w
 
 -- what was written to the front of a text lies within it
-pub wrote-within : {t bytes t' : List ℕ} {next : ℕ} → Wrote t 0 bytes t' next → Within next t'
-wrote-within {t' = t'} {next} w =
-    let le : next ≤ length t' = omega (arith, w.place, w.room, wrote-length w) in
+pub wrote_within : {t bytes t' : List ℕ} {next : ℕ} → Wrote t 0 bytes t' next → Within next t'
+wrote_within {t' = t'} {next} w =
+    let le : next ≤ length t' = omega (arith, w.place, w.room, wrote_length w) in
     (le, sym (length-take-le next t' le))

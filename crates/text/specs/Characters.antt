@@ -4,5 +4,5 @@ use Rattle.std.specs.Prelude.{ℕ}
 abbrev pub space : ℕ
 space = 32
 
-abbrev pub lineFeed : ℕ
-lineFeed = 10
+abbrev pub line_feed : ℕ
+line_feed = 10

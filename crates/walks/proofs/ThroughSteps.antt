@@ -12,30 +12,30 @@ use lib.ListN.{length, get_or, set, length-set}
 use lib.Seq.{get_or-set_same, get_or-set_other}
 use Rattle.lists.specs.Lists.{pick}
 use Rattle.lasso.specs.Graph.{Graph, WellFormed}
-use Rattle.lists.proofs.Tests.{lt-or-ge}
+use Rattle.lists.proofs.Tests.{lt_or_ge}
 use Rattle.table.specs.Changes.{SameOutside, Cleared}
-use Rattle.table.proofs.Laws.{sameOutside-refl, sameOutside-sym, set-sameOutside, sameOutside-set, sameOutside-trans, sameOutside-widen}
+use Rattle.table.proofs.Laws.{same_outside_refl, same_outside_sym, set_same_outside, same_outside_set, same_outside_trans, same_outside_widen}
 use Rattle.edge_search.specs.declared.SpreadAnswer.{SpreadAnswer}
 use Rattle.edge_search.specs.declared.SpreadAnswer.TheVariants.{Nothing}
 use Rattle.frontier.specs.Regions.{entry, value_of}
 use Rattle.lists.specs.Limit.{under}
-use Rattle.frontier.specs.Buckets.{sources, withSource, Planned}
+use Rattle.frontier.specs.Buckets.{sources, with_source, Planned}
 use Rattle.edge_search.specs.Promises.{SpreadFrom, Spread}
-use Rattle.walks.specs.Through.{only_if, SameButOne, DistancesWithin, markedSources, OneSource, PlannedAt, KeptMarked}
-use Rattle.frontier.proofs.BucketLaws.{source-entry, entry-source}
+use Rattle.walks.specs.Through.{only_if, SameButOne, DistancesWithin, marked_sources, OneSource, PlannedAt, KeptMarked}
+use Rattle.frontier.proofs.BucketLaws.{source_entry, entry_source}
 use Rattle.hits.proofs.HitLaws.{Single}
-use Rattle.spread.proofs.SearchLaws.{spread-nothing, spread_same, exhausted-distances}
+use Rattle.spread.proofs.SearchLaws.{spread_nothing, spread_same, exhausted_distances}
 
 -- a change inside region 2 is a change inside the regions that a search uses
-region-within : (n : ℕ) {w w' : List ℕ} → SameOutside (2 * n) (3 * n) w w' → SameOutside (2 * n) (6 * n) w w'
-region-within n s = sameOutside-widen (2 * n) (6 * n) (omega arith) (omega arith) s
+region_within : (n : ℕ) {w w' : List ℕ} → SameOutside (2 * n) (3 * n) w w' → SameOutside (2 * n) (6 * n) w w'
+region_within n s = same_outside_widen (2 * n) (6 * n) (omega arith) (omega arith) s
 
 -- a cleared region with one store of 1 holds one source
-pub cleared-started : (n x : ℕ) (w u : List ℕ) → x < n → 3 * n ≤ length w → Cleared (2 * n) (3 * n) w u
+pub cleared_started : (n x : ℕ) (w u : List ℕ) → x < n → 3 * n ≤ length w → Cleared (2 * n) (3 * n) w u
     → OneSource n x w (set u (2 * n + x) 1)
-cleared-started n x w u l b c =
+cleared_started n x w u l b c =
     record {
-      outside = sameOutside-set (2 * n + x) 1 (omega arith) (omega arith) c.others;
+      outside = same_outside_set (2 * n + x) 1 (omega arith) (omega arith) c.others;
       source = get_or-set_same u (2 * n + x) 1 0 (omega (arith, c.others.same_length));
       others = λ s p d. get_or-set_other u (2 * n + x) (2 * n + s) 1 0 (λ e. d (omega arith)) ∙ c.zeros (2 * n + s) (omega arith) (omega arith);
     }
@@ -45,88 +45,88 @@ cleared-started n x w u l b c =
 module _ {n x limit : ℕ} {w u d : List ℕ} (inside : x < n) (low : 1 ≤ limit) (limited : limit ≤ n) (fits : 6 * n ≤ length d) (st : OneSource n x w u) (same : SameOutside (2 * n) (6 * n) u d) (clear : (s : ℕ) → s < n → entry 2 n d s ≡ 0) (heads : (a : ℕ) → a < limit → entry 4 n d a ≡ 0) where
   -- the table with the list
   abbrev one : List ℕ
-  one = withSource n 0 x d
+  one = with_source n 0 x d
 
   -- other places stay
-  one-other : (i : ℕ) → (i ≡ 5 * n + x → ⊥) → (i ≡ 4 * n + 0 → ⊥) → get_or one i 0 ≡ get_or d i 0
-  one-other i p q =
+  one_other : (i : ℕ) → (i ≡ 5 * n + x → ⊥) → (i ≡ 4 * n + 0 → ⊥) → get_or one i 0 ≡ get_or d i 0
+  one_other i p q =
       get_or-set_other (set d (5 * n + x) (entry 4 n d 0)) (4 * n + 0) i (x + 1) 0 q ∙
       get_or-set_other d (5 * n + x) i (entry 4 n d 0) 0 p
 
   -- region 4 names x
-  one-first : entry 4 n one 0 ≡ x + 1
-  one-first = get_or-set_same (set d (5 * n + x) (entry 4 n d 0)) (4 * n + 0) (x + 1) 0 (simp length-set (omega arith))
+  one_first : entry 4 n one 0 ≡ x + 1
+  one_first = get_or-set_same (set d (5 * n + x) (entry 4 n d 0)) (4 * n + 0) (x + 1) 0 (simp length-set (omega arith))
 
   -- region 5 names no next source
-  one-next : entry 5 n one x ≡ 0
-  one-next =
+  one_next : entry 5 n one x ≡ 0
+  one_next =
       get_or-set_other (set d (5 * n + x) (entry 4 n d 0)) (4 * n + 0) (5 * n + x) (x + 1) 0 (λ q. omega arith) ∙
       get_or-set_same d (5 * n + x) (entry 4 n d 0) 0 (omega arith) ∙
       heads 0 low
 
   -- a source is x, at level 0
-  one-source : (s a : ℕ) → s < n → sources n limit u s ≡ some a → (s ≡ x) × (a ≡ 0)
-  one-source s a l e =
-      let h : (entry 2 n u s ≡ suc a) × (a < limit) = source-entry limit (entry 2 n u s) a e in
+  one_source : (s a : ℕ) → s < n → sources n limit u s ≡ some a → (s ≡ x) × (a ≡ 0)
+  one_source s a l e =
+      let h : (entry 2 n u s ≡ suc a) × (a < limit) = source_entry limit (entry 2 n u s) a e in
       elim (ℕ_discrete s x) [
         | yes q ↦ (q, omega (arith, h.0, st.source, ap (λ (y : ℕ). entry 2 n u y) q))
         | no q ↦ absurd (omega (arith, h.0, st.others s l q))
       ]
 
   -- x is one
-  one-here : sources n limit u x ≡ some 0
-  one-here = entry-source limit (entry 2 n u x) 0 st.source low
+  one_here : sources n limit u x ≡ some 0
+  one_here = entry_source limit (entry 2 n u x) 0 st.source low
 
   -- the plan of a search from the one source
-  pub one-planned : Planned n limit u one
-  one-planned =
+  pub one_planned : Planned n limit u one
+  one_planned =
       record {
         outside =
-            sameOutside-set (4 * n + 0) (x + 1) (omega arith) (omega arith)
-            (sameOutside-set (5 * n + x) (entry 4 n d 0) (omega arith) (omega arith) same);
-        clear = λ s l. one-other (2 * n + s) (λ q. omega arith) (λ q. omega arith) ∙ clear s l;
+            same_outside_set (4 * n + 0) (x + 1) (omega arith) (omega arith)
+            (same_outside_set (5 * n + x) (entry 4 n d 0) (omega arith) (omega arith) same);
+        clear = λ s l. one_other (2 * n + s) (λ q. omega arith) (λ q. omega arith) ∙ clear s l;
         lists =
             record {
               firsts = λ a l.
                   elim (ℕ_discrete a 0) [
                     | yes q ↦
-                        rw (q, one-first)
+                        rw (q, one_first)
                         (record {
                           within = omega arith;
-                          names = λ s h. let e : s ≡ x = omega arith in rw e one-here;
-                          none_above = λ s h k e. omega (arith, one-source s 0 k e);
+                          names = λ s h. let e : s ≡ x = omega arith in rw e one_here;
+                          none_above = λ s h k e. omega (arith, one_source s 0 k e);
                         })
                     | no q ↦
-                        rw (one-other (4 * n + a) (λ e. omega arith) (λ e. q (omega arith)), heads a l)
+                        rw (one_other (4 * n + a) (λ e. omega arith) (λ e. q (omega arith)), heads a l)
                         (record {
                           within = omega arith;
                           names = λ s h. absurd (omega arith);
-                          none_above = λ s h k e. q (one-source s a k e).1;
+                          none_above = λ s h k e. q (one_source s a k e).1;
                         })
                   ];
               nexts = λ s a l e.
-                  let r = one-source s a l e in
-                  rw (r.0, one-next)
+                  let r = one_source s a l e in
+                  rw (r.0, one_next)
                   (record {
                     within = omega arith;
                     names = λ t h. absurd (omega arith);
-                    none_above = λ t h k f. omega (arith, one-source t a (omega arith) f);
+                    none_above = λ t h k f. omega (arith, one_source t a (omega arith) f);
                   });
             };
       }
 
 -- region 2 and the heads are cleared, and x is put in front of the list of level 0: the plan of a search from x
-pub cleared-planned : (n x limit : ℕ) (w c d : List ℕ) → x < n → 1 ≤ limit → limit ≤ n → 6 * n ≤ length w
-    → Cleared (2 * n) (3 * n) w c → Cleared (4 * n) (4 * n + limit) c d → PlannedAt n x limit w (withSource n 0 x d)
-cleared-planned n x limit w c d l p m b two four =
-    let st : OneSource n x w (set c (2 * n + x) 1) = cleared-started n x w c l (omega arith) two in
+pub cleared_planned : (n x limit : ℕ) (w c d : List ℕ) → x < n → 1 ≤ limit → limit ≤ n → 6 * n ≤ length w
+    → Cleared (2 * n) (3 * n) w c → Cleared (4 * n) (4 * n + limit) c d → PlannedAt n x limit w (with_source n 0 x d)
+cleared_planned n x limit w c d l p m b two four =
+    let st : OneSource n x w (set c (2 * n + x) 1) = cleared_started n x w c l (omega arith) two in
     record {
       origin = set c (2 * n + x) 1;
       started = st;
       planned =
-          one-planned l p m (omega (arith, two.others.same_length, four.others.same_length)) st
-          (sameOutside-trans (sameOutside-sym (set-sameOutside c (2 * n + x) 1 (2 * n) (6 * n) (omega arith) (omega arith))) (sameOutside-widen (2 * n) (6 * n) (omega arith) (omega arith) four.others))
-          (λ s h. four.others.same-before (2 * n + s) (omega arith) ∙ two.zeros (2 * n + s) (omega arith) (omega arith))
+          one_planned l p m (omega (arith, two.others.same_length, four.others.same_length)) st
+          (same_outside_trans (same_outside_sym (set_same_outside c (2 * n + x) 1 (2 * n) (6 * n) (omega arith) (omega arith))) (same_outside_widen (2 * n) (6 * n) (omega arith) (omega arith) four.others))
+          (λ s h. four.others.same_before (2 * n + s) (omega arith) ∙ two.zeros (2 * n + s) (omega arith) (omega arith))
           (λ a h. four.zeros (4 * n + a) (omega arith) (omega arith));
       fifth = λ s h apart.
           get_or-set_other (set d (5 * n + x) (entry 4 n d 0)) (4 * n + 0) (5 * n + s) (x + 1) 0 (λ q. omega arith)
@@ -142,10 +142,10 @@ pub record KeptBelow (marked : ℕ → Bool) (n i : ℕ) (w w' : List ℕ) : Typ
   pub rest : (s : ℕ) → i ≤ s → entry 2 n w' s ≡ entry 2 n w s
 
 -- at first all entries are kept
-pub kept-none : (marked : ℕ → Bool) (n : ℕ) (w : List ℕ) → KeptBelow marked n 0 w w
-kept-none marked n w =
+pub kept_none : (marked : ℕ → Bool) (n : ℕ) (w : List ℕ) → KeptBelow marked n 0 w w
+kept_none marked n w =
     record {
-      outside = sameOutside-refl (2 * n) (3 * n) w;
+      outside = same_outside_refl (2 * n) (3 * n) w;
       passed = λ s l. absurd (omega arith);
       rest = λ s l. refl;
     }
@@ -156,22 +156,22 @@ kept_next : {marked : ℕ → Bool} {n i : ℕ} {w w' : List ℕ} → KeptBelow 
 kept_next {marked} {n} {i} {w} {w'} k e =
     record {
       outside = k.outside;
-      passed = λ s l. elim (lt-or-ge s i) [ inl p ↦ k.passed s p | inr p ↦ let q : s ≡ i = omega arith in rw q e ];
+      passed = λ s l. elim (lt_or_ge s i) [ inl p ↦ k.passed s p | inr p ↦ let q : s ≡ i = omega arith in rw q e ];
       rest = λ s l. k.rest s (omega arith);
     }
 
 -- the entry of a marked state stays
-pub kept-marked : {marked : ℕ → Bool} {n i : ℕ} {w w' : List ℕ} → KeptBelow marked n i w w' → marked i ≡ true
+pub kept_marked : {marked : ℕ → Bool} {n i : ℕ} {w w' : List ℕ} → KeptBelow marked n i w w' → marked i ≡ true
     → KeptBelow marked n (i + 1) w w'
-kept-marked {i = i} k e = kept_next k (rw e (k.rest i (omega arith)))
+kept_marked {i = i} k e = kept_next k (rw e (k.rest i (omega arith)))
 
 -- the entry of an unmarked state becomes 0
-pub kept-unmarked : {marked : ℕ → Bool} {n i : ℕ} {w w' : List ℕ} → i < n → 3 * n ≤ length w
+pub kept_unmarked : {marked : ℕ → Bool} {n i : ℕ} {w w' : List ℕ} → i < n → 3 * n ≤ length w
     → KeptBelow marked n i w w' → marked i ≡ false → KeptBelow marked n (i + 1) w (set w' (2 * n + i) 0)
-kept-unmarked {marked} {n} {i} {w} {w'} l b k e =
+kept_unmarked {marked} {n} {i} {w} {w'} l b k e =
     record {
-      outside = sameOutside-set (2 * n + i) 0 (omega arith) (omega arith) k.outside;
-      passed = λ s p. elim (lt-or-ge s i) [ inl r ↦ other s (omega arith) ∙ k.passed s r | inr r ↦ let q : s ≡ i = omega arith in rw (q, e) here ];
+      outside = same_outside_set (2 * n + i) 0 (omega arith) (omega arith) k.outside;
+      passed = λ s p. elim (lt_or_ge s i) [ inl r ↦ other s (omega arith) ∙ k.passed s r | inr r ↦ let q : s ≡ i = omega arith in rw (q, e) here ];
       rest = λ s p. other s (omega arith) ∙ k.rest s (omega arith);
     }
   where
@@ -182,48 +182,48 @@ kept-unmarked {marked} {n} {i} {w} {w'} l b k e =
     other s d = get_or-set_other w' (2 * n + i) (2 * n + s) 0 0 (λ q. d (omega arith))
 
 -- once all states are passed the entries of the marked ones are kept
-pub kept-all : (g : Graph) {i : ℕ} {w w' : List ℕ} → g.size ≤ i → KeptBelow g.marked g.size i w w'
+pub kept_all : (g : Graph) {i : ℕ} {w w' : List ℕ} → g.size ≤ i → KeptBelow g.marked g.size i w w'
     → KeptMarked g w w'
-kept-all g l k = record { outside = k.outside; levels = λ s p. k.passed s (omega arith) }
+kept_all g l k = record { outside = k.outside; levels = λ s p. k.passed s (omega arith) }
 
 -- one source is put down
-started-single : {n x : ℕ} {w u : List ℕ} → x < n → OneSource n x w u → Single n x (λ s. value_of (entry 2 n u s))
-started-single l st =
+started_single : {n x : ℕ} {w u : List ℕ} → x < n → OneSource n x w u → Single n x (λ s. value_of (entry 2 n u s))
+started_single l st =
     record {
       inside = l;
-      zero-at = ap value_of st.source;
-      none-else = λ s p d. ap value_of (st.others s p d);
+      zero_at = ap value_of st.source;
+      none_else = λ s p d. ap value_of (st.others s p d);
     }
 
 -- a search from one source with a target that is no state answers how many states it reached, and leaves the distances up
 -- to the limit
-pub started-distances : {g : Graph} {x limit : ℕ} {w u : List ℕ} (w' : List ℕ) → WellFormed g → x < g.size
+pub started_distances : {g : Graph} {x limit : ℕ} {w u : List ℕ} (w' : List ℕ) → WellFormed g → x < g.size
     → 1 ≤ limit → (r : SpreadAnswer) → OneSource g.size x w u → SameButOne g.size x w w' → Spread g limit g.size u w' r
     → (count : ℕ) × (r ≡ Nothing count) × DistancesWithin g x limit w w' count
-started-distances {g} {x} {limit} {w} {u} w' wf l p r st fifth sp =
-    let (count, is, ex) = spread-nothing (sources g.size limit u) wf r sp in (
+started_distances {g} {x} {limit} {w} {u} w' wf l p r st fifth sp =
+    let (count, is, ex) = spread_nothing (sources g.size limit u) wf r sp in (
       count,
       is,
       record {
-        outside = sameOutside-trans (region-within g.size st.outside) ex.outside;
-        distances = exhausted-distances (λ s. value_of (entry 2 g.size u s)) p (started-single l st) ex;
+        outside = same_outside_trans (region_within g.size st.outside) ex.outside;
+        distances = exhausted_distances (λ s. value_of (entry 2 g.size u s)) p (started_single l st) ex;
         queue = ex.queue;
         fifth = fifth;
       },
     )
 
 -- the value of an entry that is kept or made 0 is kept or none
-pick-value : (b : Bool) (e : ℕ) → value_of (pick b e 0) ≡ only_if b (value_of e)
-pick-value true e = refl
-pick-value false e = refl
+pick_value : (b : Bool) (e : ℕ) → value_of (pick b e 0) ≡ only_if b (value_of e)
+pick_value true e = refl
+pick_value false e = refl
 
 -- a search from the kept levels is a search from the marked states
-pub kept-spread : {g : Graph} (limit target : ℕ) {w k : List ℕ} (w' : List ℕ) → (r : SpreadAnswer) → KeptMarked g w k
-    → Spread g limit target k w' r → SpreadFrom g (markedSources g limit w) limit target w w' r
-kept-spread {g} limit target {w} {k} w' r kept sp =
-    spread_same g (sources g.size limit k) (markedSources g limit w) same limit target w' (region-within g.size kept.outside) r sp
+pub kept_spread : {g : Graph} (limit target : ℕ) {w k : List ℕ} (w' : List ℕ) → (r : SpreadAnswer) → KeptMarked g w k
+    → Spread g limit target k w' r → SpreadFrom g (marked_sources g limit w) limit target w w' r
+kept_spread {g} limit target {w} {k} w' r kept sp =
+    spread_same g (sources g.size limit k) (marked_sources g limit w) same limit target w' (region_within g.size kept.outside) r sp
   where
-    same : (s : ℕ) → s < g.size → sources g.size limit k s ≡ markedSources g limit w s
+    same : (s : ℕ) → s < g.size → sources g.size limit k s ≡ marked_sources g limit w s
     same s l =
         ap (λ (e : ℕ). under limit (value_of e)) (kept.levels s l)
-        ∙ ap (under limit) (pick-value (g.marked s) (entry 2 g.size w s))
+        ∙ ap (under limit) (pick_value (g.marked s) (entry 2 g.size w s))

@@ -9,7 +9,7 @@ use Rattle.edge_search.specs.declared.SpreadAnswer.{SpreadAnswer}
 use Rattle.edge_search.specs.declared.SpreadAnswer.TheVariants.{Length, Nothing}
 use Rattle.frontier.specs.Regions.{entry, value_of, entry_of}
 use Rattle.lists.specs.Limit.{under}
-use Rattle.hits.specs.Hit.{hitLevel, hitLength}
+use Rattle.hits.specs.Hit.{hit_level, hit_length}
 use Rattle.edge_search.specs.Promises.{SpreadFrom}
 use Rattle.frontier.specs.Buckets.{Planned}
 use Rattle.frontier.specs.Search.{Queue}
@@ -20,17 +20,17 @@ only_if true a = a
 only_if false a = none
 
 -- the distance from x to q if q is marked
-abbrev pub markedDist : Graph → ℕ → ℕ → Option ℕ
-markedDist g x q = only_if (g.marked q) (dist g x q)
+abbrev pub marked_dist : Graph → ℕ → ℕ → Option ℕ
+marked_dist g x q = only_if (g.marked q) (dist g x q)
 
 -- the least number of edges from x through a mark to t: the minimum, over marked states q, of d(x, q) + d(q, t)
-abbrev pub viaMark : Graph → ℕ → ℕ → Option ℕ
-viaMark g x t = hitLevel g (markedDist g x) t
+abbrev pub via_mark : Graph → ℕ → ℕ → Option ℕ
+via_mark g x t = hit_level g (marked_dist g x) t
 
 -- the least length of a closed walk with at least one edge from x through a mark: the minimum, over marked states q, of
 -- d(x, q) plus the least length of a path with at least one edge from q to x
-abbrev pub loopLength : Graph → ℕ → Option ℕ
-loopLength g x = hitLength g (markedDist g x) x
+abbrev pub loop_length : Graph → ℕ → Option ℕ
+loop_length g x = hit_length g (marked_dist g x) x
 
 -- the two tables agree on region 5, but for the entry of x
 abbrev pub SameButOne : ℕ → ℕ → List ℕ → List ℕ → Type 0
@@ -45,17 +45,17 @@ pub record DistancesWithin (g : Graph) (x limit : ℕ) (w w' : List ℕ) (count 
   pub fifth : SameButOne g.size x w w'
 
 -- the start levels of the marked states, which region 2 holds at entry
-abbrev pub markedSources : Graph → ℕ → List ℕ → ℕ → Option ℕ
-markedSources g limit w q = under limit (only_if (g.marked q) (value_of (entry 2 g.size w q)))
+abbrev pub marked_sources : Graph → ℕ → List ℕ → ℕ → Option ℕ
+marked_sources g limit w q = under limit (only_if (g.marked q) (value_of (entry 2 g.size w q)))
 
 -- what a search from the marked states leaves, by its answer
 abbrev pub SpreadFromMarks : Graph → ℕ → ℕ → List ℕ → List ℕ → SpreadAnswer → Type 0
-SpreadFromMarks g limit target w w' r = SpreadFrom g (markedSources g limit w) limit target w w' r
+SpreadFromMarks g limit target w w' r = SpreadFrom g (marked_sources g limit w) limit target w w' r
 
 -- the answer of a search for the loop length of x
 abbrev pub LoopLength : Graph → ℕ → ℕ → SpreadAnswer → Type 0
-LoopLength g x limit (Length l) = under (suc limit) (loopLength g x) ≡ some l
-LoopLength g x limit (Nothing count) = under (suc limit) (loopLength g x) ≡ none
+LoopLength g x limit (Length l) = under (suc limit) (loop_length g x) ≡ some l
+LoopLength g x limit (Nothing count) = under (suc limit) (loop_length g x) ≡ none
 
 -- region 2 says that x is the one source, at level 0
 pub record OneSource (n x : ℕ) (w w' : List ℕ) : Type 0 where

@@ -1,9 +1,11 @@
 // Distances from a state, and walks through a mark: one search, or two, of which the second goes on from the marked
 // states at the levels that the first gave them.
+#![tactic(auto)]
+
 ghost use Rattle.std.specs.Prelude.{◌*◌, ◌≤◌, ◌<◌, length};
-ghost use Rattle.numbers.specs.Limits.{mostStates};
+ghost use Rattle.numbers.specs.Limits.{most_states};
 ghost use Rattle.model.specs.Values.{Valid};
-ghost use Rattle.model.specs.Model.{graphIn};
+ghost use Rattle.model.specs.Model.{graph_in};
 ghost use Rattle.table.specs.Changes.{SameOutside};
 ghost use Rattle.walks.specs.Through.{DistancesWithin, SpreadFromMarks, LoopLength, PlannedAt, KeptMarked};
 
@@ -15,7 +17,7 @@ use table::{clear, put};
 
 // Makes the plan of a search from the one source x, at level 0: with one source there are no states to go through.
 fn start_at(work: &mut [u16], n: usize, x: usize, limit: usize)
-    requires n_le_most_states { n ≤ mostStates }
+    requires n_le_most_states { n ≤ most_states }
     requires x_lt_n { x < n }
     requires le_limit { 1 ≤ limit }
     requires limit_le_n { limit ≤ n }
@@ -31,7 +33,7 @@ fn start_at(work: &mut [u16], n: usize, x: usize, limit: usize)
 fn keep_marked(file: &[u8], h: Header, work: &mut [u16])
     requires valid { Valid file.now h }
     requires states_in_bounds { 6 * h.states ≤ length work.old }
-    ensures { KeptMarked (graphIn file.now h) work.old work.new }
+    ensures { KeptMarked (graph_in file.now h) work.old work.new }
 {
     let n = h.states;
     let mut s = 0;
@@ -51,7 +53,7 @@ pub fn distances_from(file: &[u8], h: Header, work: &mut [u16], x: usize, limit:
     requires le_limit { 1 ≤ limit }
     requires limit_le_states { limit ≤ h.states }
     requires states_in_bounds { 6 * h.states ≤ length work.old }
-    ensures { DistancesWithin (graphIn file.now h) x limit
+    ensures { DistancesWithin (graph_in file.now h) x limit
         work.old work.new result }
 {
     let n = h.states;
@@ -74,7 +76,7 @@ pub fn from_marks(
     requires valid { Valid file.now h }
     requires limit_le_states { limit ≤ h.states }
     requires states_in_bounds { 6 * h.states ≤ length work.old }
-    ensures { SpreadFromMarks (graphIn file.now h) limit target
+    ensures { SpreadFromMarks (graph_in file.now h) limit target
         work.old work.new result }
 {
     keep_marked(file, h, work);
@@ -88,7 +90,7 @@ pub fn loop_length(file: &[u8], h: Header, work: &mut [u16], x: usize, limit: us
     requires le_limit { 1 ≤ limit }
     requires limit_le_states { limit ≤ h.states }
     requires states_in_bounds { 6 * h.states ≤ length work.old }
-    ensures answer { LoopLength (graphIn file.now h) x limit result }
+    ensures answer { LoopLength (graph_in file.now h) x limit result }
     ensures same { SameOutside (2 * h.states) (6 * h.states) work.old work.new }
 {
     distances_from(file, h, work, x, limit);

@@ -7,9 +7,9 @@ use mathlib.Core.List.{List}
 use lib.ListN.{length, set}
 use lib.Seq.{get_or-set_same, get_or-set_other}
 use Rattle.lasso.specs.Graph.{Graph, WellFormed}
-use Rattle.lists.proofs.Tests.{lt-or-ge}
+use Rattle.lists.proofs.Tests.{lt_or_ge}
 use Rattle.table.specs.Changes.{SameOutside}
-use Rattle.table.proofs.Laws.{sameOutside-refl, sameOutside-set}
+use Rattle.table.proofs.Laws.{same_outside_refl, same_outside_set}
 use Rattle.frontier.specs.Regions.{entry}
 use Rattle.frontier.specs.Search.{Queue}
 use Rattle.ways.specs.Ways.{LeadsOn, Leads, end, step, KeptBack}
@@ -23,15 +23,15 @@ pub record Settled (g : Graph) (n count : ℕ) (w w' : List ℕ) (i : ℕ) : Typ
   pub leads : (j : ℕ) → i ≤ j → j < count → 1 ≤ entry 2 n w' (entry 3 n w j) → (entry 2 n w' (entry 3 n w j) ≡ entry 2 n w (entry 3 n w j)) × Leads g n w (entry 3 n w j)
 
 -- a state with a way on is reached
-leads-reached : {g : Graph} {n : ℕ} {w : List ℕ} {s : ℕ} → Leads g n w s → 1 ≤ entry 2 n w s
-leads-reached (end r f) = r
-leads-reached (step r e a l) = r
+leads_reached : {g : Graph} {n : ℕ} {w : List ℕ} {s : ℕ} → Leads g n w s → 1 ≤ entry 2 n w s
+leads_reached (end r f) = r
+leads_reached (step r e a l) = r
 
 -- at first no place is settled
-pub settled-none : (g : Graph) (n count : ℕ) (w : List ℕ) → Settled g n count w w count
-settled-none g n count w =
+pub settled_none : (g : Graph) (n count : ℕ) (w : List ℕ) → Settled g n count w w count
+settled_none g n count w =
     record {
-      outside = sameOutside-refl (2 * n) (3 * n) w;
+      outside = same_outside_refl (2 * n) (3 * n) w;
       nothing = λ s h e. e;
       before = λ j h l. refl;
       kept = λ j h l. absurd (omega arith);
@@ -39,18 +39,18 @@ settled-none g n count w =
     }
 
 -- once all are settled the levels are those of the states with a way on
-pub settled-all : {g : Graph} {n count i : ℕ} {w w' : List ℕ} → Queue n count w → i ≤ 0 → Settled g n count w w' i → KeptBack g n w w'
-settled-all {g} {n} {count} {i} {w} {w'} q z s =
+pub settled_all : {g : Graph} {n count i : ℕ} {w w' : List ℕ} → Queue n count w → i ≤ 0 → Settled g n count w w' i → KeptBack g n w w'
+settled_all {g} {n} {count} {i} {w} {w'} q z s =
     record { outside = s.outside; kept = kept; leads = leads }
   where
     kept : (t : ℕ) → t < n → Leads g n w t → entry 2 n w' t ≡ entry 2 n w t
     kept t h l =
-        let (j, b, e) = q.holds t h (leads-reached l) in
+        let (j, b, e) = q.holds t h (leads_reached l) in
         subst (λ (x : ℕ). entry 2 n w' x ≡ entry 2 n w x) e (s.kept j (omega arith) b (subst (λ (x : ℕ). Leads g n w x) (sym e) l))
 
     leads : (t : ℕ) → t < n → 1 ≤ entry 2 n w' t → (entry 2 n w' t ≡ entry 2 n w t) × Leads g n w t
     leads t h r =
-        elim (lt-or-ge 0 (entry 2 n w t)) [
+        elim (lt_or_ge 0 (entry 2 n w t)) [
           | inl p ↦
               let (j, b, e) = q.holds t h p in
               subst (λ (x : ℕ). (entry 2 n w' x ≡ entry 2 n w x) × Leads g n w x) e (s.leads j (omega arith) b (subst (λ (x : ℕ). 1 ≤ entry 2 n w' x) (sym e) r))
@@ -67,9 +67,9 @@ module _ {g : Graph} {n count i : ℕ} {w w' : List ℕ} (wf : WellFormed g) (si
   behind : (t : ℕ) → t < n → entry 2 n w t ≡ suc (entry 2 n w here) → (j : ℕ) × (i + 1 ≤ j) × (j < count) × (entry 3 n w j ≡ t)
   behind t h e =
       let (j, b, at) = q.holds t h (omega arith) in
-      elim (lt-or-ge i j) [
+      elim (lt_or_ge i j) [
         | inl p ↦ (j, omega arith, b, at)
-        | inr p ↦ elim (lt-or-ge j i) [
+        | inr p ↦ elim (lt_or_ge j i) [
           | inl l ↦ absurd (omega (arith, q.ordered j i l inside, ap (entry 2 n w) at))
           | inr l ↦
               let same : j ≡ i = omega arith in
@@ -78,13 +78,13 @@ module _ {g : Graph} {n count i : ℕ} {w w' : List ℕ} (wf : WellFormed g) (si
       ]
 
   -- its successor with the next entry, in the table of the moment, leads on
-  pub on-leads : LeadsOn g n w' here (suc (entry 2 n w here)) → Leads g n w here
-  on-leads (t, e, at) =
-      let state : t < n = omega (arith, (wf.edge-states here t e).1) in
-      elim (lt-or-ge 0 (entry 2 n w t)) [
+  pub on_leads : LeadsOn g n w' here (suc (entry 2 n w here)) → Leads g n w here
+  on_leads (t, e, at) =
+      let state : t < n = omega (arith, (wf.edge_states here t e).1) in
+      elim (lt_or_ge 0 (entry 2 n w t)) [
         | inl p ↦
             let (j, b, is) = q.holds t state p in
-            elim (lt-or-ge i j) [
+            elim (lt_or_ge i j) [
               | inl l ↦
                   let r : 1 ≤ entry 2 n w' (entry 3 n w j) = omega (arith, ap (entry 2 n w') is) in
                   let (same, way) = s.leads j (omega arith) b r in
@@ -100,23 +100,23 @@ module _ {g : Graph} {n count i : ℕ} {w w' : List ℕ} (wf : WellFormed g) (si
       ]
 
   -- if it has no flag and no such successor, no way leads on
-  pub not-leads : entry 4 n w here ≡ 0 → (LeadsOn g n w' here (suc (entry 2 n w here)) → ⊥) → Leads g n w here → ⊥
-  not-leads none never (end r f) = absurd (omega (arith, none))
-  not-leads none never (step {t = t} r e at l) =
-      let state : t < n = omega (arith, (wf.edge-states here t e).1) in
+  pub not_leads : entry 4 n w here ≡ 0 → (LeadsOn g n w' here (suc (entry 2 n w here)) → ⊥) → Leads g n w here → ⊥
+  not_leads none never (end r f) = absurd (omega (arith, none))
+  not_leads none never (step {t = t} r e at l) =
+      let state : t < n = omega (arith, (wf.edge_states here t e).1) in
       let (j, b, d, is) = behind t state at in
       let same : entry 2 n w' (entry 3 n w j) ≡ entry 2 n w (entry 3 n w j) = s.kept j b d (subst (λ (x : ℕ). Leads g n w x) (sym is) l) in
       never (t, e, (sym (ap (entry 2 n w') is) ∙ same ∙ ap (entry 2 n w) is ∙ at))
 
   -- it is settled if it has a way on
-  pub settled-kept : Leads g n w here → Settled g n count w w' i
-  settled-kept way =
+  pub settled_kept : Leads g n w here → Settled g n count w w' i
+  settled_kept way =
       record {
         outside = s.outside;
         nothing = s.nothing;
         before = λ j h l. s.before j (omega arith) l;
-        kept = λ j h l x. elim (lt-or-ge i j) [ inl p ↦ s.kept j (omega arith) l x | inr p ↦ s.before j (omega arith) l ];
-        leads = λ j h l x. elim (lt-or-ge i j) [
+        kept = λ j h l x. elim (lt_or_ge i j) [ inl p ↦ s.kept j (omega arith) l x | inr p ↦ s.before j (omega arith) l ];
+        leads = λ j h l x. elim (lt_or_ge i j) [
           | inl p ↦ s.leads j (omega arith) l x
           | inr p ↦
               let same : i ≡ j = omega arith in
@@ -125,25 +125,25 @@ module _ {g : Graph} {n count i : ℕ} {w w' : List ℕ} (wf : WellFormed g) (si
       }
 
   -- it is settled by storing nothing if it has none
-  pub settled-dropped : 3 * n ≤ length w → (Leads g n w here → ⊥) → Settled g n count w (set w' (2 * n + here) 0) i
-  settled-dropped room never =
+  pub settled_dropped : 3 * n ≤ length w → (Leads g n w here → ⊥) → Settled g n count w (set w' (2 * n + here) 0) i
+  settled_dropped room never =
       record {
-        outside = sameOutside-set (2 * n + here) 0 (omega arith) (omega (arith, q.states i inside)) s.outside;
-        nothing = λ t h e. elim (lt-or-ge t here) [
+        outside = same_outside_set (2 * n + here) 0 (omega arith) (omega (arith, q.states i inside)) s.outside;
+        nothing = λ t h e. elim (lt_or_ge t here) [
           | inl p ↦ other t (omega arith) ∙ s.nothing t h e
-          | inr p ↦ elim (lt-or-ge here t) [
+          | inr p ↦ elim (lt_or_ge here t) [
             | inl l ↦ other t (omega arith) ∙ s.nothing t h e
             | inr l ↦ absurd (omega (arith, q.reached i inside, ap (entry 2 n w) (the_same t p l)))
           ]
         ];
         before = λ j h l. other (entry 3 n w j) (apart_below j h l) ∙ s.before j (omega arith) l;
-        kept = λ j h l x. elim (lt-or-ge i j) [
+        kept = λ j h l x. elim (lt_or_ge i j) [
           | inl p ↦ other (entry 3 n w j) (apart_above j p l) ∙ s.kept j (omega arith) l x
           | inr p ↦
               let same : j ≡ i = omega arith in
               absurd (never (subst (λ (k : ℕ). Leads g n w (entry 3 n w k)) same x))
         ];
-        leads = λ j h l x. elim (lt-or-ge i j) [
+        leads = λ j h l x. elim (lt_or_ge i j) [
           | inl p ↦
               let o = other (entry 3 n w j) (apart_above j p l) in
               let (a, b) = s.leads j (omega arith) l (omega (arith, o)) in
@@ -182,8 +182,8 @@ module _ (g : Graph) (n count p i : ℕ) (w w' : List ℕ) (wf : WellFormed g) (
   inside = omega arith
 
   -- it is a state
-  pub step-state : t < n
-  step-state = omega (arith, is, q.states i inside)
+  pub step_state : t < n
+  step_state = omega (arith, is, q.states i inside)
 
   -- its level stands as before
   level : entry 2 n w' t ≡ entry 2 n w t
@@ -194,25 +194,25 @@ module _ (g : Graph) (n count p i : ℕ) (w w' : List ℕ) (wf : WellFormed g) (
   flag = s₀.outside.same_after (4 * n + t) (omega arith)
 
   -- it is flagged
-  pub step-flagged : 1 ≤ entry 4 n w' t → Settled g n count w w' i
-  step-flagged f =
+  pub step_flagged : 1 ≤ entry 4 n w' t → Settled g n count w w' i
+  step_flagged f =
       let reached : 1 ≤ entry 2 n w t = subst (λ (x : ℕ). 1 ≤ entry 2 n w x) is (q.reached i inside) in
       let way : Leads g n w t = end reached (omega (arith, flag)) in
-      settled-kept wf size q inside settled (subst (λ (x : ℕ). Leads g n w x) (sym is) way)
+      settled_kept wf size q inside settled (subst (λ (x : ℕ). Leads g n w x) (sym is) way)
 
   -- a successor one level later keeps its own
-  pub step-leads : (next : ℕ) → next ≡ entry 2 n w' t + 1 → LeadsOn g n w' t next → Settled g n count w w' i
-  step-leads next e on =
+  pub step_leads : (next : ℕ) → next ≡ entry 2 n w' t + 1 → LeadsOn g n w' t next → Settled g n count w w' i
+  step_leads next e on =
       let e' : next ≡ suc (entry 2 n w t) = omega (arith, level) in
       let on' : LeadsOn g n w' t (suc (entry 2 n w t)) = subst (λ (x : ℕ). LeadsOn g n w' t x) e' on in
-      settled-kept wf size q inside settled (on-leads wf size q inside settled (subst (λ (x : ℕ). LeadsOn g n w' x (suc (entry 2 n w x))) (sym is) on'))
+      settled_kept wf size q inside settled (on_leads wf size q inside settled (subst (λ (x : ℕ). LeadsOn g n w' x (suc (entry 2 n w x))) (sym is) on'))
 
   -- it is not flagged and none does
-  pub step-dropped : 3 * n ≤ length w → entry 4 n w' t ≡ 0 → (next : ℕ) → next ≡ entry 2 n w' t + 1 → (LeadsOn g n w' t next → ⊥) → Settled g n count w (set w' (2 * n + t) 0) i
-  step-dropped room none next e never =
+  pub step_dropped : 3 * n ≤ length w → entry 4 n w' t ≡ 0 → (next : ℕ) → next ≡ entry 2 n w' t + 1 → (LeadsOn g n w' t next → ⊥) → Settled g n count w (set w' (2 * n + t) 0) i
+  step_dropped room none next e never =
       let e' : next ≡ suc (entry 2 n w t) = omega (arith, level) in
       let never' : LeadsOn g n w' t (suc (entry 2 n w t)) → ⊥ = λ on. never (subst (λ (x : ℕ). LeadsOn g n w' t x) (sym e') on) in
       let none' : entry 4 n w t ≡ 0 = omega (arith, flag) in
       let gone : Leads g n w (entry 3 n w i) → ⊥ =
-      not-leads wf size q inside settled (subst (λ (x : ℕ). entry 4 n w x ≡ 0) (sym is) none') (subst (λ (x : ℕ). LeadsOn g n w' x (suc (entry 2 n w x)) → ⊥) (sym is) never') in
-      subst (λ (x : ℕ). Settled g n count w (set w' (2 * n + x) 0) i) is (settled-dropped wf size q inside settled room gone)
+      not_leads wf size q inside settled (subst (λ (x : ℕ). entry 4 n w x ≡ 0) (sym is) none') (subst (λ (x : ℕ). LeadsOn g n w' x (suc (entry 2 n w x)) → ⊥) (sym is) never') in
+      subst (λ (x : ℕ). Settled g n count w (set w' (2 * n + x) 0) i) is (settled_dropped wf size q inside settled room gone)

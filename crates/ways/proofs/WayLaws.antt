@@ -25,34 +25,34 @@ pub record Tight (g : Graph) (n R : ℕ) (f : ℕ → Option ℕ) (Way End : ℕ
 
 module _ {g : Graph} {n R : ℕ} {f : ℕ → Option ℕ} {Way End : ℕ → ℕ → Type 0} {w : List ℕ} (wf : WellFormed g) (size : g.size ≡ n) (o : Tight g n R f Way End w) where
   -- what leads on has a way of the rest
-  leads-way : (t c : ℕ) → t < n → entry 2 n w t ≡ suc c → Leads g n w t → (m : ℕ) × (c + suc m ≡ R) × Way t (suc m)
-  leads-way t c h e (end r l) =
+  leads_way : (t c : ℕ) → t < n → entry 2 n w t ≡ suc c → Leads g n w t → (m : ℕ) × (c + suc m ≡ R) × Way t (suc m)
+  leads_way t c h e (end r l) =
       let (d, m, at, total, last) = o.flagged t h l in
       (m, omega arith, o.ends t m last)
-  leads-way t c h e (step {t = u} r edge at l) =
-      let state : u < n = omega (arith, (wf.edge-states t u edge).1) in
+  leads_way t c h e (step {t = u} r edge at l) =
+      let state : u < n = omega (arith, (wf.edge_states t u edge).1) in
       let next : entry 2 n w u ≡ suc (suc c) = omega arith in
-      let (m, total, way) = leads-way u (suc c) state next l in
+      let (m, total, way) = leads_way u (suc c) state next l in
       (suc m, omega arith, o.cons t u m edge way)
 
   -- a state at which a way of the rest ends leads on
-  way-last : (m t c : ℕ) → t < n → f t ≡ some c → c + suc m ≡ R → End t (suc m) → Leads g n w t
-  way-last m t c h e total last =
+  way_last : (m t c : ℕ) → t < n → f t ≡ some c → c + suc m ≡ R → End t (suc m) → Leads g n w t
+  way_last m t c h e total last =
       let at : entry 2 n w t ≡ suc c = (o.level t c h (omega arith)).1 e in
       end {s = t} (omega arith) (o.flags t c m h at total last)
 
   -- a way of the rest leads on
-  way-leads : (m t c : ℕ) → t < n → f t ≡ some c → c + suc m ≡ R → Way t (suc m) → Leads g n w t
-  way-leads zero t c h e total way =
+  way_leads : (m t c : ℕ) → t < n → f t ≡ some c → c + suc m ≡ R → Way t (suc m) → Leads g n w t
+  way_leads zero t c h e total way =
       elim (o.peel t 0 way) [
-        | inl last ↦ way-last 0 t c h e total last
+        | inl last ↦ way_last 0 t c h e total last
         | inr (u, k, more, edge, rest) ↦ absurd (omega arith)
       ]
-  way-leads (suc m) t c h e total way =
+  way_leads (suc m) t c h e total way =
       elim (o.peel t (suc m) way) [
-        | inl last ↦ way-last (suc m) t c h e total last
+        | inl last ↦ way_last (suc m) t c h e total last
         | inr (u, k, more, edge, rest) ↦
-            let state : u < n = omega (arith, (wf.edge-states t u edge).1) in
+            let state : u < n = omega (arith, (wf.edge_states t u edge).1) in
             let (d, is, most) = o.up t u c h e edge in
             let same-k : k ≡ m = omega arith in
             let rest' : Way u (suc m) = subst (λ (x : ℕ). Way u (suc x)) same-k rest in
@@ -60,22 +60,22 @@ module _ {g : Graph} {n R : ℕ} {f : ℕ → Option ℕ} {Way End : ℕ → ℕ
             let is' : f u ≡ some (suc c) = subst (λ (x : ℕ). f u ≡ some x) same is in
             let at : entry 2 n w t ≡ suc c = (o.level t c h (omega arith)).1 e in
             let next : entry 2 n w u ≡ suc (suc c) = (o.level u (suc c) state (omega arith)).1 is' in
-            step {s = t} {t = u} (omega arith) edge (omega arith) (way-leads m u (suc c) state is' (omega arith) rest')
+            step {s = t} {t = u} (omega arith) edge (omega arith) (way_leads m u (suc c) state is' (omega arith) rest')
       ]
 
 -- what a pass keeps, where ways are tight
 module _ {g : Graph} {R : ℕ} {f : ℕ → Option ℕ} {Way End : ℕ → ℕ → Type 0} {w w' : List ℕ} (wf : WellFormed g) (o : Tight g g.size R f Way End w) (kept : KeptBack g g.size w w') where
   -- a level is kept exactly if a way of the rest is there
-  pub tight-kept : (t c : ℕ) → t < g.size → (entry 2 g.size w' t ≡ suc c) ↔ ((f t ≡ some c) × ((m : ℕ) × (c + suc m ≡ R) × Way t (suc m)))
-  tight-kept t c h = (there, back)
+  pub tight_kept : (t c : ℕ) → t < g.size → (entry 2 g.size w' t ≡ suc c) ↔ ((f t ≡ some c) × ((m : ℕ) × (c + suc m ≡ R) × Way t (suc m)))
+  tight_kept t c h = (there, back)
     where
       there : entry 2 g.size w' t ≡ suc c → (f t ≡ some c) × ((m : ℕ) × (c + suc m ≡ R) × Way t (suc m))
       there at =
           let (same, leads) = kept.leads t h (omega arith) in
           let before : entry 2 g.size w t ≡ suc c = omega arith in
-          let (m, total, way) = leads-way wf refl o t c h before leads in
+          let (m, total, way) = leads_way wf refl o t c h before leads in
           ((o.level t c h (omega arith)).0 before, (m, total, way))
 
       back : (f t ≡ some c) × ((m : ℕ) × (c + suc m ≡ R) × Way t (suc m)) → entry 2 g.size w' t ≡ suc c
       back (at, (m, total, way)) =
-          kept.kept t h (way-leads wf refl o m t c h at total way) ∙ (o.level t c h (omega arith)).1 at
+          kept.kept t h (way_leads wf refl o m t c h at total way) ∙ (o.level t c h (omega arith)).1 at

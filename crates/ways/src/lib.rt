@@ -1,8 +1,10 @@
 // Back over the queue of a search: which states have a way on, one level a step, to an end.
+#![tactic(auto)]
+
 ghost use Rattle.std.specs.Prelude.{◌*◌, ◌≤◌, ◌<◌, length};
 ghost use Rattle.lists.specs.Decides.{Decides};
 ghost use Rattle.model.specs.Values.{Valid};
-ghost use Rattle.model.specs.Model.{graphIn};
+ghost use Rattle.model.specs.Model.{graph_in};
 ghost use Rattle.frontier.specs.Search.{Queue};
 ghost use Rattle.ways.specs.Ways.{LeadsOn, KeptBack};
 
@@ -14,7 +16,7 @@ fn leads_on(file: &[u8], h: Header, work: &[u16], s: usize, next: usize) -> bool
     requires valid { Valid file.now h }
     requires states_in_bounds { 6 * h.states ≤ length work.now }
     requires s_lt_states { s < h.states }
-    ensures { Decides (LeadsOn (graphIn file.now h) h.states work.now s next) result }
+    ensures { Decides (LeadsOn (graph_in file.now h) h.states work.now s next) result }
 {
     let n = h.states;
     let part = row_part(file, h, s);
@@ -36,7 +38,7 @@ pub fn keep_ways(file: &[u8], h: Header, work: &mut [u16], count: usize)
     requires valid { Valid file.now h }
     requires states_in_bounds { 6 * h.states ≤ length work.old }
     requires queue { Queue h.states count work.old }
-    ensures { KeptBack (graphIn file.now h) h.states work.old work.new }
+    ensures { KeptBack (graph_in file.now h) h.states work.old work.new }
 {
     let n = h.states;
     let mut i = count;

@@ -12,11 +12,11 @@ use lib.Pow.{pow_pos, pow-add}
 use lib.Dec.{eqb}
 use Rattle.lists.specs.Lists.{pick, collect, below}
 use Rattle.lasso.specs.Graph.{Graph}
-use Rattle.lists.proofs.BelowLaws.{below_next, map-below-length, map-below-next}
+use Rattle.lists.proofs.BelowLaws.{below_next, map-below-length, map-below_next}
 use Rattle.format.specs.Bytes.{word, bitb}
-use Rattle.format.specs.Layout.{markBytes, totalOf}
+use Rattle.format.specs.Layout.{mark_bytes, total_of}
 use Rattle.lists.proofs.CollectLaws.{collect-append}
-use Rattle.writer.specs.File.{words16, edgesBelow, edgeTotal, headerWords, rowWords, worth, markByte, fileOf}
+use Rattle.writer.specs.File.{words16, edges_below, edge_total, header_words, row_words, worth, mark_byte, file_of}
 
 -- each number takes two bytes
 pub words16-length : (xs : List ℕ) → length (words16 xs) ≡ 2 * length xs
@@ -29,59 +29,59 @@ words16-append [] ys = refl
 words16-append (x ∷ xs) ys = ap (λ (r : List ℕ). x % 256 ∷ x / 256 ∷ r) (words16-append xs ys)
 
 -- the two bytes of a number give it back
-pub bytes-number : (x : ℕ) → x % 256 + 256 * (x / 256) ≡ x
-bytes-number x = omega arith
+pub bytes_number : (x : ℕ) → x % 256 + 256 * (x / 256) ≡ x
+bytes_number x = omega arith
 
 -- at twice a place stands the number at that place
 pub word-words16 : (xs rest : List ℕ) (k : ℕ) → k < length xs → word (words16 xs ++ rest) (2 * k) ≡ get_or xs k 0
 word-words16 [] rest k h = absurd (omega arith)
-word-words16 (x ∷ xs) rest zero h = bytes-number x
+word-words16 (x ∷ xs) rest zero h = bytes_number x
 word-words16 (x ∷ xs) rest (suc k) h =
     let e : 2 * suc k ≡ suc (suc (2 * k)) = omega arith in
     rw (e, add-one) (rw add-one at (word-words16 xs rest k (omega arith)))
 
 -- the edges of one state more
-pub edges-next : (g : Graph) (s : ℕ) → edgesBelow g (s + 1) ≡ edgesBelow g s ++ g.succs s
-edges-next g s =
+pub edges_next : (g : Graph) (s : ℕ) → edges_below g (s + 1) ≡ edges_below g s ++ g.succs s
+edges_next g s =
     ap (λ (r : List ℕ). collect g.succs r) (below_next s)
     ∙ collect-append g.succs (below s) (s ∷ [])
-    ∙ ap (λ (r : List ℕ). edgesBelow g s ++ r) (append-nil (g.succs s))
+    ∙ ap (λ (r : List ℕ). edges_below g s ++ r) (append-nil (g.succs s))
 
 -- the row table of one state more
-pub row-words-next : (g : Graph) (s : ℕ)
-    → map (λ s. length (edgesBelow g s)) (below (s + 1)) ≡ map (λ s. length (edgesBelow g s)) (below s) ++ length (edgesBelow g s) ∷ []
-row-words-next g s = map-below-next (λ (t : ℕ). length (edgesBelow g t)) s
+pub row_words_next : (g : Graph) (s : ℕ)
+    → map (λ s. length (edges_below g s)) (below (s + 1)) ≡ map (λ s. length (edges_below g s)) (below s) ++ length (edges_below g s) ∷ []
+row_words_next g s = map-below_next (λ (t : ℕ). length (edges_below g t)) s
 
 -- d states more have no fewer edges
-edges-add : (g : Graph) (s d t : ℕ) → s + d ≡ t → length (edgesBelow g s) ≤ length (edgesBelow g t)
-edges-add g s zero t e = let q : s ≡ t = omega arith in rw q (omega arith)
-edges-add g s (suc d) t e =
-    omega (arith, edges-add g (s + 1) d t (omega arith), ap length (edges-next g s), length-append (edgesBelow g s) (g.succs s))
+edges_add : (g : Graph) (s d t : ℕ) → s + d ≡ t → length (edges_below g s) ≤ length (edges_below g t)
+edges_add g s zero t e = let q : s ≡ t = omega arith in rw q (omega arith)
+edges_add g s (suc d) t e =
+    omega (arith, edges_add g (s + 1) d t (omega arith), ap length (edges_next g s), length-append (edges_below g s) (g.succs s))
 
 -- more states have no fewer edges
-pub edges-below-le : (g : Graph) (s t : ℕ) → s ≤ t → length (edgesBelow g s) ≤ length (edgesBelow g t)
-edges-below-le g s t l = edges-add g s (t - s) t (omega arith)
+pub edges-below_le : (g : Graph) (s t : ℕ) → s ≤ t → length (edges_below g s) ≤ length (edges_below g t)
+edges-below_le g s t l = edges_add g s (t - s) t (omega arith)
 
 -- the row table has an entry more than there are states
-pub row-words-length : (g : Graph) → length (rowWords g) ≡ g.size + 1
-row-words-length g = map-below-length _ (suc g.size) ∙ sym (add-one g.size)
+pub row_words-length : (g : Graph) → length (row_words g) ≡ g.size + 1
+row_words-length g = map-below-length _ (suc g.size) ∙ sym (add-one g.size)
 
 -- the marks take a byte for each place
-pub marks-length : (g : Graph) (n : ℕ) → length (map (markByte g) (below n)) ≡ n
-marks-length g n = map-below-length (markByte g) n
+pub marks_length : (g : Graph) (n : ℕ) → length (map (mark_byte g) (below n)) ≡ n
+marks_length g n = map-below-length (mark_byte g) n
 
 -- four parts, three of them numbers, take the bytes that their lengths give
-parts-length :
+parts_length :
     (xs ys zs marks : List ℕ)
     → length (words16 xs ++ words16 ys ++ words16 zs ++ marks) ≡ 2 * length xs + 2 * length ys + 2 * length zs + length marks
-parts-length xs ys zs marks = simp (length-append, words16-length) (omega arith)
+parts_length xs ys zs marks = simp (length-append, words16-length) (omega arith)
 
 -- the file has the length that its states and edges give
-pub file-length-is : (g : Graph) → length (fileOf g) ≡ totalOf g.size (edgeTotal g)
-file-length-is g =
+pub file_length_is : (g : Graph) → length (file_of g) ≡ total_of g.size (edge_total g)
+file_length_is g =
     let n : ℕ = g.size in
-    parts-length (headerWords n (edgeTotal g) g.start) (rowWords g) (edgesBelow g n) (map (markByte g) (below (markBytes n)))
-    ∙ omega (arith, row-words-length g, marks-length g (markBytes n))
+    parts_length (header_words n (edge_total g) g.start) (row_words g) (edges_below g n) (map (mark_byte g) (below (mark_bytes n)))
+    ∙ omega (arith, row_words-length g, marks_length g (mark_bytes n))
 
 -- k bits are worth less than 2 ^ k
 pub worth-below : (set : ℕ → Bool) (k : ℕ) → worth set k < 2 ^ k
@@ -103,8 +103,8 @@ top_bit w k false l =
     ap (λ (x : ℕ). eqb (x % 2) 1) q
 
 -- 2 ^ k added leaves binary digit j as it is, for j below k
-power-above : (w j d k : ℕ) → suc d + j ≡ k → (w + 2 ^ k) / 2 ^ j % 2 ≡ w / 2 ^ j % 2
-power-above w j d k e =
+power_above : (w j d k : ℕ) → suc d + j ≡ k → (w + 2 ^ k) / 2 ^ j % 2 ≡ w / 2 ^ j % 2
+power_above w j d k e =
     let p : 2 ^ k ≡ (2 ^ d * 2) * 2 ^ j = ap (λ (x : ℕ). 2 ^ x) (sym e) ∙ pow-add 2 (suc d) j ∙ ap (λ (x : ℕ). x * 2 ^ j) (pow-suc 2 d) in
     let q : (w + 2 ^ k) / 2 ^ j ≡ w / 2 ^ j + 2 ^ d * 2 =
     ap (λ (x : ℕ). (w + x) / 2 ^ j) p ∙ add-mul-div_right w (2 ^ d * 2) (pow_pos j) in
@@ -112,14 +112,14 @@ power-above w j d k e =
 
 -- a higher bit added leaves bit j as it is
 low_bit : (w j k : ℕ) (b : Bool) → j < k → bitb (w + pick b (2 ^ k) 0) j ≡ bitb w j
-low_bit w j k true l = ap (λ (x : ℕ). eqb x 1) (power-above w j (k - suc j) k (omega arith))
+low_bit w j k true l = ap (λ (x : ℕ). eqb x 1) (power_above w j (k - suc j) k (omega arith))
 low_bit w j k false l = ap (λ (x : ℕ). bitb x j) (add-zero w)
 
 -- bit j of what the bits 0 to k − 1 are worth is set exactly if the test says so
-pub worth-bit : (set : ℕ → Bool) (k j : ℕ) → j < k → bitb (worth set k) j ≡ set j
-worth-bit set zero j l = absurd (omega arith)
-worth-bit set (suc k) j l =
+pub worth_bit : (set : ℕ → Bool) (k j : ℕ) → j < k → bitb (worth set k) j ≡ set j
+worth_bit set zero j l = absurd (omega arith)
+worth_bit set (suc k) j l =
     elim (eq-or-lt_of_le l) [
       | inl e ↦ let q : j ≡ k = omega arith in rw q (top_bit (worth set k) k (set k) (worth-below set k))
-      | inr m ↦ low_bit (worth set k) j k (set k) (omega arith) ∙ worth-bit set k j (omega arith)
+      | inr m ↦ low_bit (worth set k) j k (set k) (omega arith) ∙ worth_bit set k j (omega arith)
     ]

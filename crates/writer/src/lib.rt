@@ -1,8 +1,9 @@
 // Writers of the bytes of a model file: each puts its bytes into a lent output from a place on, and answers the next place.
+#![tactic(auto)]
 ghost use Rattle.std.specs.Prelude.{◌+◌, ◌≤◌, ◌<◌, length};
-ghost use Rattle.numbers.specs.Limits.{mostStates, mostEdges};
+ghost use Rattle.numbers.specs.Limits.{most_states, most_edges};
 ghost use Rattle.text.specs.Writing.{Wrote};
-ghost use Rattle.writer.specs.File.{word16, words16, halves, headerWords};
+ghost use Rattle.writer.specs.File.{word16, words16, halves, header_words};
 
 use format::{edges_at, marks_at, total_of};
 use text::write_byte;
@@ -30,8 +31,8 @@ fn write_long(out: &mut [u8], at: usize, x: usize) -> usize
 // Writes the header of a model file with n states, m edges, an initial state and one mark table.
 pub fn write_header(out: &mut [u8], n: usize, m: usize, start: usize) -> usize
     requires in_bounds { 24 ≤ length out.old }
-    requires n_le_most_states { (n ≤ mostStates) × (m ≤ mostEdges) × (start < n) }
-    ensures { Wrote out.old 0 (words16 (headerWords n m start)) out.new result }
+    requires n_le_most_states { (n ≤ most_states) × (m ≤ most_edges) × (start < n) }
+    ensures { Wrote out.old 0 (words16 (header_words n m start)) out.new result }
 {
     let counted = write_word(out, 0, n);
     let counted = write_word(out, counted, m);

@@ -1,17 +1,17 @@
 -- `report_next` meets its contract, answer by answer.
 use mathlib.Core.Path.{refl}
 use Rattle.next.specs.declared.NextAnswer.{NextAnswer}
-use Rattle.next.specs.Next.{nextOutcomeOf}
+use Rattle.next.specs.Next.{next_outcome_of}
 use Rattle.figures.specs.Kinds.{Report}
-use Rattle.answers.specs.Kinds.{nextReport}
-use Rattle.figures.proofs.ReportLaws.{reports-known}
+use Rattle.answers.specs.Kinds.{next_report}
+use Rattle.figures.proofs.ReportLaws.{reports_known}
 use borrow.Author.Rules.{rules}
 use Rattle.answers.proofs.report_next.Statement.{statement}
 use Rattle.answers.proofs.report_next.Tie as tie
 
 -- the report of an answer of the code
-abbrev answerReport : NextAnswer → Report
-answerReport a = nextReport (nextOutcomeOf a)
+abbrev answer_report : NextAnswer → Report
+answer_report a = next_report (next_outcome_of a)
 
 enum-known-answer : tie.Need-enum-known-answer
 enum-known-answer c = search rules
@@ -32,7 +32,7 @@ returns : tie.Need-returns
 returns c =
     let told = c.before in
     let a = told.before.before.before.args in
-    reports-known answerReport a.out.now told.answer.given.1 refl refl
+    reports_known answer_report a.out.now told.answer.given.1 refl refl
 
 same_length : tie.Need-same-length
 same_length c = search rules
@@ -42,12 +42,12 @@ returns-2 c =
     let done = c.before.before in
     let told = done.before.before.before.before in
     let a = told.before.before.before.args in
-    reports-known answerReport a.out.now told.answer2.given.1 done.report-figures.ensures.0 done.report-figures.ensures.1
+    reports_known answer_report a.out.now told.answer2.given.1 done.report-figures.ensures.0 done.report-figures.ensures.1
 
 returns-3 : tie.Need-returns-3
 returns-3 c =
     let a = c.before.before.before.args in
-    reports-known answerReport a.out.now c.enum_told.given.1 refl refl
+    reports_known answer_report a.out.now c.enum_told.given.1 refl refl
 
 pub report-next-spec : {M : Type 1} → statement M
 report-next-spec =

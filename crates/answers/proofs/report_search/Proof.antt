@@ -3,17 +3,17 @@ use mathlib.Core.Path.{refl}
 use native.Mathlib.Omega.{arith}
 use lib.Seq.{set_split}
 use Rattle.search.specs.declared.SearchAnswer.{SearchAnswer}
-use Rattle.search.specs.Search.{searchOutcomeOf}
+use Rattle.search.specs.Search.{search_outcome_of}
 use Rattle.figures.specs.Kinds.{Report}
-use Rattle.answers.specs.Kinds.{searchReport}
-use Rattle.figures.proofs.ReportLaws.{reports-known}
+use Rattle.answers.specs.Kinds.{search_report}
+use Rattle.figures.proofs.ReportLaws.{reports_known}
 use borrow.Author.Rules.{rules}
 use Rattle.answers.proofs.report_search.Statement.{statement}
 use Rattle.answers.proofs.report_search.Tie as tie
 
 -- the report of an answer of the code
-abbrev answerReport : SearchAnswer → Report
-answerReport a = searchReport (searchOutcomeOf a)
+abbrev answer_report : SearchAnswer → Report
+answer_report a = search_report (search_outcome_of a)
 
 enum-known-answer : tie.Need-enum-known-answer
 enum-known-answer c = search rules
@@ -43,7 +43,7 @@ returns : tie.Need-returns
 returns c =
     let told = c.before in
     let a = told.before.before.before.args in
-    reports-known answerReport a.out.now told.answer.given.1 refl refl
+    reports_known answer_report a.out.now told.answer.given.1 refl refl
 
 same_length : tie.Need-same-length
 same_length c = search rules
@@ -53,7 +53,7 @@ returns-2 c =
     let done = c.before.before in
     let told = done.before.before.before in
     let a = told.before.before.before.args in
-    reports-known answerReport a.out.now told.answer2.given.1 done.report-record.ensures.0 done.report-record.ensures.1
+    reports_known answer_report a.out.now told.answer2.given.1 done.report-record.ensures.0 done.report-record.ensures.1
 
 same-length-2 : tie.Need-same-length-2
 same-length-2 c = search rules
@@ -63,7 +63,7 @@ returns-3 c =
     let done = c.before.before in
     let told = done.before.before.before.before in
     let a = told.before.before.before.args in
-    reports-known answerReport a.out.now told.answer3.given.1 done.report-figures.ensures.0 done.report-figures.ensures.1
+    reports_known answer_report a.out.now told.answer3.given.1 done.report-figures.ensures.0 done.report-figures.ensures.1
 
 same-length-3 : tie.Need-same-length-3
 same-length-3 c = search rules
@@ -73,7 +73,7 @@ returns-4 c =
     let told = c.before in
     let start = told.before.before.before in
     let out = start.args.out.now in
-    reports-known answerReport out told.answer4.given.1 refl (set_split out 0 _ (omega (arith, start.requires)))
+    reports_known answer_report out told.answer4.given.1 refl (set_split out 0 _ (omega (arith, start.requires)))
 
 pub report-search-spec : {M : Type 1} → statement M
 report-search-spec =

@@ -4,11 +4,11 @@ use Prim.Native.Nat.{ℕ}
 use mathlib.Core.Path.{◌≡◌, subst}
 use native.Mathlib.Omega.{arith}
 use borrow.Author.Rules.{rules}
-use Rattle.model.specs.Model.{graphIn}
-use Rattle.model.proofs.Laws.{valid-sizes}
+use Rattle.model.specs.Model.{graph_in}
+use Rattle.model.proofs.Laws.{valid_sizes}
 use Rattle.begun.specs.Begun.{BegunSays}
 use Rattle.begun.specs.declared.Begun.{Begun}
-use Rattle.begun.proofs.BegunLaws.{never-stopped, full-least}
+use Rattle.begun.proofs.BegunLaws.{never_stopped, full_least}
 use Rattle.begun.proofs.all_rounds.Statement.{statement}
 use Rattle.begun.proofs.all_rounds.Tie as tie
 
@@ -20,9 +20,9 @@ abbrev done : tie.After-slice-known2 → tie.After-begin
 done c = c.before.before
 
 -- what an answer of the rounds says, by its case
-says : (c : tie.After-begin) (ceiling : ℕ) (r : Begun) → BegunSays (graphIn (start c).args.file.now (start c).args.h) ceiling 65535 c.begin.result → c.begin.result ≡ r
-    → BegunSays (graphIn (start c).args.file.now (start c).args.h) ceiling 65535 r
-says c ceiling r told e = subst (BegunSays (graphIn (start c).args.file.now (start c).args.h) ceiling 65535) e told
+says : (c : tie.After-begin) (ceiling : ℕ) (r : Begun) → BegunSays (graph_in (start c).args.file.now (start c).args.h) ceiling 65535 c.begin.result → c.begin.result ≡ r
+    → BegunSays (graph_in (start c).args.file.now (start c).args.h) ceiling 65535 r
+says c ceiling r told e = subst (BegunSays (graph_in (start c).args.file.now (start c).args.h) ceiling 65535) e told
 
 begin-requires : tie.Need-begin-requires
 begin-requires c κs = search rules
@@ -42,7 +42,7 @@ same_length c = search rules
 returns : tie.Need-returns
 returns c =
     let begun = done c.before.before in
-    absurd (never-stopped (start begun).pre.0 (says begun _ _ begun.begin.ensures.0 c.enum_told.given.1))
+    absurd (never_stopped (start begun).pre.0 (says begun _ _ begun.begin.ensures.0 c.enum_told.given.1))
 
 same-length-2 : tie.Need-same-length-2
 same-length-2 c = search rules
@@ -53,7 +53,7 @@ returns-2 c =
     let begun = done told.before.before in
     let valid = (start begun).pre.0 in
     let all = says begun _ _ begun.begin.ensures.0 told.begun.given.1 in
-    (record { rounds-are = all.rounds-are; least-is = full-least valid (omega (arith, valid-sizes valid)) all }, begun.begin.ensures.1)
+    (record { rounds_are = all.rounds_are; least_is = full_least valid (omega (arith, valid_sizes valid)) all }, begun.begin.ensures.1)
 
 same-length-3 : tie.Need-same-length-3
 same-length-3 c = search rules
@@ -64,7 +64,7 @@ returns-3 c =
     let begun = done told.before.before in
     let valid = (start begun).pre.0 in
     let all = says begun _ _ begun.begin.ensures.0 told.begun2.given.1 in
-    (record { rounds-are = all.rounds-are; least-is = full-least valid (omega (arith, valid-sizes valid)) all }, begun.begin.ensures.1)
+    (record { rounds_are = all.rounds_are; least_is = full_least valid (omega (arith, valid_sizes valid)) all }, begun.begin.ensures.1)
 
 pub all-rounds-spec : {M : Type 1} → statement M
 all-rounds-spec =

@@ -6,14 +6,14 @@ use native.Mathlib.Omega.{arith}
 use borrow.Author.Rules.{rules}
 use lib.ListN.{length}
 use Rattle.lists.specs.Limit.{under}
-use Rattle.lasso.specs.Roll.{leastLength}
-use Rattle.lasso.specs.Rounds.{candidates, bestLength, afterRounds}
-use Rattle.lasso.specs.Values.{bestOf, recordOf}
-use Rattle.model.specs.Model.{graphIn}
-use Rattle.model.proofs.Laws.{valid-well-formed}
+use Rattle.lasso.specs.Roll.{least_length}
+use Rattle.lasso.specs.Rounds.{candidates, best_length, after_rounds}
+use Rattle.lasso.specs.Values.{best_of, record_of}
+use Rattle.model.specs.Model.{graph_in}
+use Rattle.model.proofs.Laws.{valid_well_formed}
 use Rattle.candidates.specs.Promises.{RoundsReady}
-use Rattle.candidates.proofs.DistanceLaws.{ready-started, ready-kept}
-use Rattle.begun.proofs.BegunLaws.{all-rounds}
+use Rattle.candidates.proofs.DistanceLaws.{ready_started, ready_kept}
+use Rattle.begun.proofs.BegunLaws.{all_rounds_lem}
 use Rattle.begun.proofs.begin.Statement.{statement}
 use Rattle.begun.proofs.begin.Tie as tie
 
@@ -33,25 +33,25 @@ rounds c = c.before.before.before
 
 -- the table keeps its length
 kept : (c : tie.After-run-rounds) → length c.run-rounds.new.1.1.0 ≡ length (start c).args.work.now
-kept c = c.run-rounds.ensures.1.same_length ∙ (started c).start-distances.ensures.same_length
+kept c = c.run-rounds.ensures.1.same_length ∙ (started c).start_distances.ensures.same_length
 
 -- it is ready for the listing
 ready : (c : tie.After-run-rounds) → RoundsReady (start c).args.file.now (start c).args.h c.run-rounds.new.1.1.0
 ready c =
     let s = start c in
-    ready-kept (ready-started s.pre.0 s.pre.1 (started c).start-distances.ensures) c.run-rounds.ensures.1
+    ready_kept (ready_started s.pre.0 s.pre.1 (started c).start_distances.ensures) c.run-rounds.ensures.1
 
 -- the allowance suffices
-enough : (c : tie.Else1) → let a = (start (rounds c)).args in length (candidates (graphIn a.file.now a.h)) ≤ a.allowance
+enough : (c : tie.Else1) → let a = (start (rounds c)).args in length (candidates (graph_in a.file.now a.h)) ≤ a.allowance
 enough c = omega (arith, (counted (rounds c)).count-candidates.ensures, c.if1.false)
 
 -- the record holds the number of candidates and the least length of an accepting path
 all_done : (c : tie.Else1)
-    → let g = graphIn (start (rounds c)).args.file.now (start (rounds c)).args.h in
-    ((rounds c).run-rounds.result.done ≡ length (candidates g)) × (bestLength (recordOf (rounds c).run-rounds.result) ≡ under (suc (start (rounds c)).args.ceiling.0) (leastLength g))
+    → let g = graph_in (start (rounds c)).args.file.now (start (rounds c)).args.h in
+    ((rounds c).run-rounds.result.done ≡ length (candidates g)) × (best_length (record_of (rounds c).run-rounds.result) ≡ under (suc (start (rounds c)).args.ceiling.0) (least_length g))
 all_done c =
     let s = start (rounds c) in
-    all-rounds (valid-well-formed s.pre.0) (recordOf (rounds c).run-rounds.result) s.args.ceiling.0 s.args.allowance (rounds c).run-rounds.ensures.0 (enough c)
+    all_rounds_lem (valid_well_formed s.pre.0) (record_of (rounds c).run-rounds.result) s.args.ceiling.0 s.args.allowance (rounds c).run-rounds.ensures.0 (enough c)
 
 start-distances-requires : tie.Need-start-distances-requires
 start-distances-requires c κs = search rules
@@ -69,11 +69,11 @@ returns : tie.Need-returns
 returns c =
     let done = c.before.before.before in
     let a = (start done).args in
-    let g = graphIn a.file.now a.h in
+    let g = graph_in a.file.now a.h in
     let q : min a.allowance (length (candidates g)) ≡ a.allowance = omega (arith, (counted done).count-candidates.ensures, c.if1.true) in (
       record {
         short = omega (arith, (counted done).count-candidates.ensures, c.if1.true);
-        record_is = done.run-rounds.ensures.0 ∙ ap (λ (n : ℕ). afterRounds g a.ceiling.0 n) q;
+        record_is = done.run-rounds.ensures.0 ∙ ap (λ (n : ℕ). after_rounds g a.ceiling.0 n) q;
       },
       (ready done, kept done),
     )
@@ -92,8 +92,8 @@ returns-2 c =
     let else = c.before.before in (
       record {
         enough = enough else;
-        rounds-are = (all_done else).0;
-        least-is = sym (all_done else).1 ∙ ap bestOf c.enum_told.given.1;
+        rounds_are = (all_done else).0;
+        least_is = sym (all_done else).1 ∙ ap best_of c.enum_told.given.1;
       },
       (ready (rounds else), kept (rounds else)),
     )
@@ -107,8 +107,8 @@ returns-3 c =
     let else = found.before.before in (
       record {
         enough = enough else;
-        rounds-are = (all_done else).0;
-        least-is = sym (all_done else).1 ∙ ap bestOf found.best.given.1;
+        rounds_are = (all_done else).0;
+        least_is = sym (all_done else).1 ∙ ap best_of found.best.given.1;
       },
       (ready (rounds else), kept (rounds else)),
     )

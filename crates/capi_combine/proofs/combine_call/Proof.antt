@@ -9,12 +9,12 @@ use lib.ListN.{length}
 use Rattle.outcomes.specs.Outcome.{Outcome}
 use Rattle.combine.specs.declared.CombineAnswer.{CombineAnswer}
 use Rattle.combine.specs.declared.CombineAnswer.TheVariants.{Refused, Written}
-use Rattle.combine.specs.Combine.{combineOutcomeOf}
-use Rattle.combine_outcome.specs.Combination.{combineOutcome, combineOutput}
-use Rattle.combine_outcome.proofs.ClaimLaws.{answered-bytes}
-use Rattle.figures.specs.Kinds.{writtenReport}
-use Rattle.figures.specs.Short.{outShort}
-use Rattle.figures.proofs.CallLaws.{out-room, is-short, is-enough, reports-short, reports-enough}
+use Rattle.combine.specs.Combine.{combine_outcome_of}
+use Rattle.combine_outcome.specs.Combination.{combine_outcome, combine_output}
+use Rattle.combine_outcome.proofs.ClaimLaws.{answered_bytes}
+use Rattle.figures.specs.Kinds.{written_report}
+use Rattle.figures.specs.Short.{out_short}
+use Rattle.figures.proofs.CallLaws.{out_room, is_short, is_enough, reports_short, reports_enough}
 use Rattle.capi_combine.specs.Figures.{FigureFits}
 use Rattle.capi_combine.proofs.combine_call.Statement.{statement}
 use Rattle.capi_combine.proofs.combine_call.Tie as tie
@@ -27,22 +27,22 @@ start c = c.before.before.before.before.before.before
 abbrev due : tie.Start → Outcome ℕ
 due s =
     let a = s.args in
-    combineOutcome a.rule.now a.letters.now a.property.now (length a.output.now)
+    combine_outcome a.rule.now a.letters.now a.property.now (length a.output.now)
 
-abbrev output-due : tie.Start → List ℕ
-output-due s = let a = s.args in combineOutput a.rule.now a.letters.now a.property.now a.output.now
+abbrev output_due : tie.Start → List ℕ
+output_due s = let a = s.args in combine_output a.rule.now a.letters.now a.property.now a.output.now
 
 -- a number of bytes that a combination answers fits 16 bits
-answer-fits : (f letters p out : List ℕ) (r : CombineAnswer) → combineOutcomeOf r ≡ combineOutcome f letters p (length out) → FigureFits r
-answer-fits f letters p out (Refused n) e = tt
-answer-fits f letters p out (Written bytes) e = omega (arith, answered-bytes f letters p out bytes e)
+answer_fits : (f letters p out : List ℕ) (r : CombineAnswer) → combine_outcome_of r ≡ combine_outcome f letters p (length out) → FigureFits r
+answer_fits f letters p out (Refused n) e = tt
+answer_fits f letters p out (Written bytes) e = omega (arith, answered_bytes f letters p out bytes e)
 
 -- `out` is not too short: it has room for 4 figures
-out-enough : (c : tie.Else1) → outShort (start c.before).args.out.now ≡ false
-out-enough c = sym c.before.too_few.ensures ∙ c.if1.false
+out_enough : (c : tie.Else1) → out_short (start c.before).args.out.now ≡ false
+out_enough c = sym c.before.too_few.ensures ∙ c.if1.false
 
 room : (c : tie.Else1) → 4 ≤ length (start c.before).args.out.now
-room c = out-room (start c.before).args.out.now (out-enough c)
+room c = out_room (start c.before).args.out.now (out_enough c)
 
 too-few-requires : tie.Need-too-few-requires
 too-few-requires c κs = search rules
@@ -52,8 +52,8 @@ returns c =
     let s = start c.before in
     let out = s.args.out.now in
     let few = sym c.before.too_few.ensures ∙ c.if1.true in
-    let r = reports-short (outShort out) out (writtenReport (due s)) few in
-    (r.0, (r.1, is-short (outShort out) s.args.output.now (output-due s) few))
+    let r = reports_short (out_short out) out (written_report (due s)) few in
+    (r.0, (r.1, is_short (out_short out) s.args.output.now (output_due s) few))
 
 combine-requires : tie.Need-combine-requires
 combine-requires c κs = search rules
@@ -63,7 +63,7 @@ report-combine-requires c κs =
     let done = c.before.before.before in
     let else = done.before.before in
     let a = (start else.before).args in
-    (room else, answer-fits a.rule.now a.letters.now a.property.now a.output.now done.combine.result done.combine.ensures.0)
+    (room else, answer_fits a.rule.now a.letters.now a.property.now a.output.now done.combine.result done.combine.ensures.0)
 
 same_length : tie.Need-same-length
 same_length c = search rules
@@ -78,12 +78,12 @@ returns-2 c =
     let else = done.before.before in
     let s = start else.before in
     let out = s.args.out.now in
-    let enough = out-enough else in
+    let enough = out_enough else in
     let is = done.combine.ensures in
     let told = reported.report-combine.ensures in
-    let answer = combineOutcomeOf done.combine.result in
-    let r = reports-enough (outShort out) writtenReport out answer (due s) enough is.0 told.0 told.1 in
-    (r.0, (r.1, is-enough (outShort out) s.args.output.now (output-due s) enough is.1))
+    let answer = combine_outcome_of done.combine.result in
+    let r = reports_enough (out_short out) written_report out answer (due s) enough is.0 told.0 told.1 in
+    (r.0, (r.1, is_enough (out_short out) s.args.output.now (output_due s) enough is.1))
 
 pub combine-call-spec : {M : Type 1} → statement M
 combine-call-spec =

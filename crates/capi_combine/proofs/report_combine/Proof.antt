@@ -4,8 +4,8 @@ use native.Mathlib.Omega.{arith}
 use borrow.Author.Rules.{rules}
 use lib.Seq.{set_split}
 use Rattle.combine.specs.declared.CombineAnswer.{CombineAnswer}
-use Rattle.combine.specs.Combine.{combineOutcomeOf}
-use Rattle.figures.specs.Kinds.{Report, writtenReport, figuresIn}
+use Rattle.combine.specs.Combine.{combine_outcome_of}
+use Rattle.figures.specs.Kinds.{Report, written_report, figures_in}
 use Rattle.capi_combine.specs.Figures.{FigureFits}
 use Rattle.capi_combine.proofs.report_combine.Statement.{statement}
 use Rattle.capi_combine.proofs.report_combine.Tie as tie
@@ -35,9 +35,9 @@ returns-2 : tie.Need-returns-2
 returns-2 c =
     let start = c.before.before.before in
     let a = start.args in
-    let report = ap (λ (r : CombineAnswer). writtenReport (combineOutcomeOf r)) c.before.answer2.given.1 in (
+    let report = ap (λ (r : CombineAnswer). written_report (combine_outcome_of r)) c.before.answer2.given.1 in (
       sym (ap (λ (r : Report). r.kind) report),
-      set_split a.out.now 0 _ (omega (arith, start.requires.0)) ∙ sym (ap (figuresIn a.out.now) report),
+      set_split a.out.now 0 _ (omega (arith, start.requires.0)) ∙ sym (ap (figures_in a.out.now) report),
     )
 
 pub report-combine-spec : {M : Type 1} → statement M

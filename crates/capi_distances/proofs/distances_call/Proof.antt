@@ -6,12 +6,12 @@ use Prim.Native.Nat.{ℕ, ◌≤◌}
 use native.Mathlib.Omega.{arith}
 use borrow.Author.Rules.{rules}
 use lib.ListN.{length}
-use Rattle.gate.specs.Gate.{workOf}
+use Rattle.gate.specs.Gate.{work_of}
 use Rattle.outcomes.specs.Outcome.{Outcome}
-use Rattle.distances.specs.Distances.{distancesOutcomeOf, distancesOutcome, distancesOutput}
-use Rattle.figures.specs.Kinds.{writtenReport}
-use Rattle.figures.specs.Short.{outShort}
-use Rattle.figures.proofs.CallLaws.{out-room, tables-short, tables-enough, reports-short, reports-enough}
+use Rattle.distances.specs.Distances.{distances_outcome_of, distances_outcome, distances_output}
+use Rattle.figures.specs.Kinds.{written_report}
+use Rattle.figures.specs.Short.{out_short}
+use Rattle.figures.proofs.CallLaws.{out_room, tables_short, tables_enough, reports_short, reports_enough}
 use Rattle.capi_distances.proofs.distances_call.Statement.{statement}
 use Rattle.capi_distances.proofs.distances_call.Tie as tie
 
@@ -23,20 +23,20 @@ start c = c.before.before.before.before.before
 abbrev due : tie.Start → Outcome ℕ
 due s =
     let a = s.args in
-    distancesOutcome a.file.now a.ceiling (length a.output.now) (length a.work.now)
+    distances_outcome a.file.now a.ceiling (length a.output.now) (length a.work.now)
 
-abbrev output-due : tie.Start → List ℕ
-output-due s = let a = s.args in distancesOutput a.file.now a.ceiling a.output.now (length a.work.now)
+abbrev output_due : tie.Start → List ℕ
+output_due s = let a = s.args in distances_output a.file.now a.ceiling a.output.now (length a.work.now)
 
-abbrev work-due : tie.Start → List ℕ
-work-due s = workOf s.args.file.now 0 s.args.work.now
+abbrev work_due : tie.Start → List ℕ
+work_due s = work_of s.args.file.now 0 s.args.work.now
 
 -- `out` is not too short: it has room for 4 figures
-out-enough : (c : tie.Else1) → outShort (start c.before).args.out.now ≡ false
-out-enough c = sym c.before.too_few.ensures ∙ c.if1.false
+out_enough : (c : tie.Else1) → out_short (start c.before).args.out.now ≡ false
+out_enough c = sym c.before.too_few.ensures ∙ c.if1.false
 
 room : (c : tie.Else1) → 4 ≤ length (start c.before).args.out.now
-room c = out-room (start c.before).args.out.now (out-enough c)
+room c = out_room (start c.before).args.out.now (out_enough c)
 
 too-few-requires : tie.Need-too-few-requires
 too-few-requires c κs = search rules
@@ -46,8 +46,8 @@ returns c =
     let s = start c.before in
     let out = s.args.out.now in
     let few = sym c.before.too_few.ensures ∙ c.if1.true in
-    let r = reports-short (outShort out) out (writtenReport (due s)) few in
-    let t = tables-short (outShort out) s.args.output.now s.args.work.now (output-due s) (work-due s) few in
+    let r = reports_short (out_short out) out (written_report (due s)) few in
+    let t = tables_short (out_short out) s.args.output.now s.args.work.now (output_due s) (work_due s) few in
     (r.0, (r.1, t))
 
 distances-requires : tie.Need-distances-requires
@@ -72,14 +72,14 @@ returns-2 c =
     let else = done.before.before.before in
     let s = start else.before in
     let out = s.args.out.now in
-    let enough = out-enough else in
+    let enough = out_enough else in
     let is = done.distances.ensures in
     let told = reported.report-distances.ensures in
-    let answer = distancesOutcomeOf done.distances.result in
-    let r = reports-enough (outShort out) writtenReport out answer (due s) enough is.0 told.0 told.1 in
+    let answer = distances_outcome_of done.distances.result in
+    let r = reports_enough (out_short out) written_report out answer (due s) enough is.0 told.0 told.1 in
     let output = s.args.output.now in
     let work = s.args.work.now in
-    (r.0, (r.1, tables-enough (outShort out) output work (output-due s) (work-due s) enough is.1.0 is.1.1))
+    (r.0, (r.1, tables_enough (out_short out) output work (output_due s) (work_due s) enough is.1.0 is.1.1))
 
 pub distances-call-spec : {M : Type 1} → statement M
 distances-call-spec =

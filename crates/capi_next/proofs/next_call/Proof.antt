@@ -7,11 +7,11 @@ use native.Mathlib.Omega.{arith}
 use borrow.Author.Rules.{rules}
 use lib.ListN.{length}
 use Rattle.outcomes.specs.Outcome.{Outcome}
-use Rattle.next.specs.Next.{Followed, nextOutcomeOf, nextOutcome, nextAnswer}
-use Rattle.gate.specs.Gate.{workOf}
-use Rattle.figures.specs.Short.{outShort}
-use Rattle.figures.proofs.CallLaws.{out-room, tables-short, tables-enough, reports-short, reports-enough}
-use Rattle.answers.specs.Kinds.{nextReport}
+use Rattle.next.specs.Next.{Followed, next_outcome_of, next_outcome, next_answer}
+use Rattle.gate.specs.Gate.{work_of}
+use Rattle.figures.specs.Short.{out_short}
+use Rattle.figures.proofs.CallLaws.{out_room, tables_short, tables_enough, reports_short, reports_enough}
+use Rattle.answers.specs.Kinds.{next_report}
 use Rattle.capi_next.proofs.next_call.Statement.{statement}
 use Rattle.capi_next.proofs.next_call.Tie as tie
 
@@ -21,20 +21,20 @@ start c = c.before.before.before.before.before.before
 
 -- what is due: the answer, and the tables afterwards
 abbrev due : tie.Start → Outcome Followed
-due s = let a = s.args in nextOutcome a.file.now a.mark-table a.earlier.now (length a.answer.now) (length a.work.now)
+due s = let a = s.args in next_outcome a.file.now a.mark-table a.earlier.now (length a.answer.now) (length a.work.now)
 
-abbrev answer-due : tie.Start → List ℕ
-answer-due s = let a = s.args in nextAnswer a.file.now a.mark-table a.earlier.now a.answer.now (length a.work.now)
+abbrev answer_due : tie.Start → List ℕ
+answer_due s = let a = s.args in next_answer a.file.now a.mark-table a.earlier.now a.answer.now (length a.work.now)
 
-abbrev work-due : tie.Start → List ℕ
-work-due s = workOf s.args.file.now s.args.mark-table s.args.work.now
+abbrev work_due : tie.Start → List ℕ
+work_due s = work_of s.args.file.now s.args.mark-table s.args.work.now
 
 -- `out` is not too short: it has room for 4 figures
-out-enough : (c : tie.Else1) → outShort (start c.before).args.out.now ≡ false
-out-enough c = sym c.before.too_few.ensures ∙ c.if1.false
+out_enough : (c : tie.Else1) → out_short (start c.before).args.out.now ≡ false
+out_enough c = sym c.before.too_few.ensures ∙ c.if1.false
 
 room : (c : tie.Else1) → 4 ≤ length (start c.before).args.out.now
-room c = out-room (start c.before).args.out.now (out-enough c)
+room c = out_room (start c.before).args.out.now (out_enough c)
 
 too-few-requires : tie.Need-too-few-requires
 too-few-requires c κs = search rules
@@ -44,8 +44,8 @@ returns c =
     let s = start c.before in
     let out = s.args.out.now in
     let few = sym c.before.too_few.ensures ∙ c.if1.true in
-    let r = reports-short (outShort out) out (nextReport (due s)) few in
-    (r.0, (r.1, tables-short (outShort out) s.args.answer.now s.args.work.now (answer-due s) (work-due s) few))
+    let r = reports_short (out_short out) out (next_report (due s)) few in
+    (r.0, (r.1, tables_short (out_short out) s.args.answer.now s.args.work.now (answer_due s) (work_due s) few))
 
 next-requires : tie.Need-next-requires
 next-requires c κs = search rules
@@ -69,9 +69,9 @@ returns-2 c =
     let else = done.before.before.before in
     let s = start else.before in
     let out = s.args.out.now in
-    let enough = out-enough else in
-    let r = reports-enough (outShort out) nextReport out (nextOutcomeOf done.next.result) (due s) enough done.next.ensures.0 reported.report-next.ensures.0 reported.report-next.ensures.1 in
-    (r.0, (r.1, tables-enough (outShort out) s.args.answer.now s.args.work.now (answer-due s) (work-due s) enough done.next.ensures.1.0 done.next.ensures.1.1))
+    let enough = out_enough else in
+    let r = reports_enough (out_short out) next_report out (next_outcome_of done.next.result) (due s) enough done.next.ensures.0 reported.report-next.ensures.0 reported.report-next.ensures.1 in
+    (r.0, (r.1, tables_enough (out_short out) s.args.answer.now s.args.work.now (answer_due s) (work_due s) enough done.next.ensures.1.0 done.next.ensures.1.1))
 
 pub next-call-spec : {M : Type 1} → statement M
 next-call-spec =

@@ -6,12 +6,12 @@ use Prim.Native.Nat.{ℕ, ◌≤◌}
 use native.Mathlib.Omega.{arith}
 use borrow.Author.Rules.{rules}
 use lib.ListN.{length}
-use Rattle.gate.specs.Gate.{asking, workOf}
+use Rattle.gate.specs.Gate.{asking, work_of}
 use Rattle.outcomes.specs.Outcome.{Outcome}
-use Rattle.search.specs.Search.{Searched, searchOutcomeOf, searchOutcome, searchAnswer}
-use Rattle.figures.specs.Short.{outShort}
-use Rattle.figures.proofs.CallLaws.{out-room, tables-short, tables-enough, reports-short, reports-enough}
-use Rattle.answers.specs.Kinds.{searchReport}
+use Rattle.search.specs.Search.{Searched, search_outcome_of, search_outcome, search_answer}
+use Rattle.figures.specs.Short.{out_short}
+use Rattle.figures.proofs.CallLaws.{out_room, tables_short, tables_enough, reports_short, reports_enough}
+use Rattle.answers.specs.Kinds.{search_report}
 use Rattle.capi_search.proofs.search_call.Statement.{statement}
 use Rattle.capi_search.proofs.search_call.Tie as tie
 
@@ -23,22 +23,22 @@ start c = c.before.before.before.before.before
 abbrev due : tie.Start → Outcome Searched
 due s =
     let a = s.args in
-    searchOutcome a.file.now (asking a.mark-table a.ceiling a.allowance) (length a.answer.now) (length a.work.now)
+    search_outcome a.file.now (asking a.mark-table a.ceiling a.allowance) (length a.answer.now) (length a.work.now)
 
-abbrev answer-due : tie.Start → List ℕ
-answer-due s =
+abbrev answer_due : tie.Start → List ℕ
+answer_due s =
     let a = s.args in
-    searchAnswer a.file.now (asking a.mark-table a.ceiling a.allowance) a.answer.now (length a.work.now)
+    search_answer a.file.now (asking a.mark-table a.ceiling a.allowance) a.answer.now (length a.work.now)
 
-abbrev work-due : tie.Start → List ℕ
-work-due s = workOf s.args.file.now s.args.mark-table s.args.work.now
+abbrev work_due : tie.Start → List ℕ
+work_due s = work_of s.args.file.now s.args.mark-table s.args.work.now
 
 -- `out` is not too short: it has room for 4 figures
-out-enough : (c : tie.Else1) → outShort (start c.before).args.out.now ≡ false
-out-enough c = sym c.before.too_few.ensures ∙ c.if1.false
+out_enough : (c : tie.Else1) → out_short (start c.before).args.out.now ≡ false
+out_enough c = sym c.before.too_few.ensures ∙ c.if1.false
 
 room : (c : tie.Else1) → 4 ≤ length (start c.before).args.out.now
-room c = out-room (start c.before).args.out.now (out-enough c)
+room c = out_room (start c.before).args.out.now (out_enough c)
 
 too-few-requires : tie.Need-too-few-requires
 too-few-requires c κs = search rules
@@ -48,8 +48,8 @@ returns c =
     let s = start c.before in
     let out = s.args.out.now in
     let few = sym c.before.too_few.ensures ∙ c.if1.true in
-    let r = reports-short (outShort out) out (searchReport (due s)) few in
-    (r.0, (r.1, tables-short (outShort out) s.args.answer.now s.args.work.now (answer-due s) (work-due s) few))
+    let r = reports_short (out_short out) out (search_report (due s)) few in
+    (r.0, (r.1, tables_short (out_short out) s.args.answer.now s.args.work.now (answer_due s) (work_due s) few))
 
 search-requires : tie.Need-search-requires
 search-requires c κs = search rules
@@ -73,14 +73,14 @@ returns-2 c =
     let else = done.before.before.before in
     let s = start else.before in
     let out = s.args.out.now in
-    let enough = out-enough else in
+    let enough = out_enough else in
     let is = done.search.ensures in
     let told = reported.report-search.ensures in
-    let found = searchOutcomeOf done.search.result in
-    let r = reports-enough (outShort out) searchReport out found (due s) enough is.0 told.0 told.1 in
+    let found = search_outcome_of done.search.result in
+    let r = reports_enough (out_short out) search_report out found (due s) enough is.0 told.0 told.1 in
     let answer = s.args.answer.now in
     let work = s.args.work.now in
-    (r.0, (r.1, tables-enough (outShort out) answer work (answer-due s) (work-due s) enough is.1.0 is.1.1))
+    (r.0, (r.1, tables_enough (out_short out) answer work (answer_due s) (work_due s) enough is.1.0 is.1.1))
 
 pub search-call-spec : {M : Type 1} → statement M
 search-call-spec =

@@ -7,14 +7,14 @@ use native.Mathlib.Omega.{arith}
 use borrow.Author.Rules.{rules}
 use lib.ListN.{length}
 use Rattle.lasso.specs.Rounds.{Record}
-use Rattle.lasso.specs.Values.{recordOf}
+use Rattle.lasso.specs.Values.{record_of}
 use Rattle.outcomes.specs.Outcome.{Outcome}
-use Rattle.step.specs.Step.{Stepped, stepOutcomeOf, stepOutcome}
-use Rattle.gate.specs.Gate.{workOf}
-use Rattle.figures.specs.Kinds.{recordGiven}
-use Rattle.figures.specs.Short.{outShort}
-use Rattle.figures.proofs.CallLaws.{out-room, is-short, is-enough, reports-short, reports-enough}
-use Rattle.capi_step.specs.Call.{stepReport}
+use Rattle.step.specs.Step.{Stepped, step_outcome_of, step_outcome}
+use Rattle.gate.specs.Gate.{work_of}
+use Rattle.figures.specs.Kinds.{record_given}
+use Rattle.figures.specs.Short.{out_short}
+use Rattle.figures.proofs.CallLaws.{out_room, is_short, is_enough, reports_short, reports_enough}
+use Rattle.capi_step.specs.Call.{step_report}
 use Rattle.capi_step.proofs.step_call.Statement.{statement}
 use Rattle.capi_step.proofs.step_call.Tie as tie
 
@@ -23,21 +23,21 @@ abbrev start : tie.After-too-few → tie.Start
 start c = c.before.before.before.before
 
 -- what is due: the answer from a record, from the one that is given, and the table afterwards
-abbrev due-from : tie.Start → Record → Outcome Stepped
-due-from s rec = let a = s.args in stepOutcome a.file.now a.mark-table a.ceiling rec (length a.work.now)
+abbrev due_from : tie.Start → Record → Outcome Stepped
+due_from s rec = let a = s.args in step_outcome a.file.now a.mark-table a.ceiling rec (length a.work.now)
 
 abbrev due : tie.Start → Outcome Stepped
-due s = let a = s.args in due-from s (recordGiven a.done a.has-best a.best)
+due s = let a = s.args in due_from s (record_given a.done a.has-best a.best)
 
-abbrev work-due : tie.Start → List ℕ
-work-due s = workOf s.args.file.now s.args.mark-table s.args.work.now
+abbrev work_due : tie.Start → List ℕ
+work_due s = work_of s.args.file.now s.args.mark-table s.args.work.now
 
 -- `out` is not too short: it has room for 4 figures
-out-enough : (c : tie.Else1) → outShort (start c.before).args.out.now ≡ false
-out-enough c = sym c.before.too_few.ensures ∙ c.if1.false
+out_enough : (c : tie.Else1) → out_short (start c.before).args.out.now ≡ false
+out_enough c = sym c.before.too_few.ensures ∙ c.if1.false
 
 room : (c : tie.Else1) → 4 ≤ length (start c.before).args.out.now
-room c = out-room (start c.before).args.out.now (out-enough c)
+room c = out_room (start c.before).args.out.now (out_enough c)
 
 too-few-requires : tie.Need-too-few-requires
 too-few-requires c κs = search rules
@@ -47,8 +47,8 @@ returns c =
     let s = start c.before in
     let out = s.args.out.now in
     let few = sym c.before.too_few.ensures ∙ c.if1.true in
-    let r = reports-short (outShort out) out (stepReport (due s)) few in
-    (r.0, (r.1, is-short (outShort out) s.args.work.now (work-due s) few))
+    let r = reports_short (out_short out) out (step_report (due s)) few in
+    (r.0, (r.1, is_short (out_short out) s.args.work.now (work_due s) few))
 
 record-given-requires : tie.Need-record-given-requires
 record-given-requires c κs = search rules
@@ -73,13 +73,13 @@ returns-2 c =
     let else = given.before in
     let s = start else.before in
     let out = s.args.out.now in
-    let enough = out-enough else in
-    let same = ap (due-from s) given.record-given.ensures in
-    let same_answer = ◌∙◌ {b = due-from s (recordOf given.record-given.result)} done.step.ensures.0 same in
+    let enough = out_enough else in
+    let same = ap (due_from s) given.record-given.ensures in
+    let same_answer = ◌∙◌ {b = due_from s (record_of given.record-given.result)} done.step.ensures.0 same in
     let told = reported.report-step.ensures in
-    let answer = stepOutcomeOf done.step.result in
-    let r = reports-enough (outShort out) stepReport out answer (due s) enough same_answer told.0 told.1 in
-    (r.0, (r.1, is-enough (outShort out) s.args.work.now (work-due s) enough done.step.ensures.1))
+    let answer = step_outcome_of done.step.result in
+    let r = reports_enough (out_short out) step_report out answer (due s) enough same_answer told.0 told.1 in
+    (r.0, (r.1, is_enough (out_short out) s.args.work.now (work_due s) enough done.step.ensures.1))
 
 pub step-call-spec : {M : Type 1} → statement M
 step-call-spec =

@@ -2,8 +2,8 @@
 use mathlib.Core.Path.{sym, ◌∙◌}
 use borrow.Author.Rules.{rules}
 use Rattle.property.specs.Property.{ValidProperty}
-use Rattle.property.proofs.PropertyLaws.{refused-bad, checked-valid, valid-bad}
-use Rattle.combine.proofs.ReasonLaws.{refused-17}
+use Rattle.property.proofs.PropertyLaws.{refused_bad, checked_valid, valid_bad}
+use Rattle.combine.proofs.ReasonLaws.{refused_17}
 use Rattle.combine.proofs.with_property.Statement.{statement}
 use Rattle.combine.proofs.with_property.Tie as tie
 
@@ -13,7 +13,7 @@ start c = c.before.before.before.before.before
 
 -- a property that was accepted, with its header
 valid : (c : tie.After-checked) → ValidProperty (start c.before.before).args.property.now c.checked.given.0.0
-valid c = checked-valid _ _ (sym c.checked.given.1 ∙ c.before.before.check-property.ensures)
+valid c = checked_valid _ _ (sym c.checked.given.1 ∙ c.before.before.check-property.ensures)
 
 check-property-requires : tie.Need-check-property-requires
 check-property-requires c κs = search rules
@@ -32,23 +32,23 @@ returns c =
     let known = c.before.before.before in
     let s = start known.before.before in
     let a = s.args in
-    refused-17 a.rule.now a.letters.now a.property.now a.output.now s.pre.0.accepted s.pre.1
-    (valid-bad (valid known) ∙ sym c.before.has-zero-mask.ensures ∙ c.if1.true)
+    refused_17 a.rule.now a.letters.now a.property.now a.output.now s.pre.0.accepted s.pre.1
+    (valid_bad (valid known) ∙ sym c.before.has-zero-mask.ensures ∙ c.if1.true)
 
 within-limits-requires : tie.Need-within-limits-requires
 within-limits-requires c κs =
     let left = c.before in
     let known = left.before.before.before in
     let s = start known.before.before in
-    (s.pre.0, (s.pre.1, (valid known, valid-bad (valid known) ∙ sym left.before.has-zero-mask.ensures ∙ left.if1.false)))
+    (s.pre.0, (s.pre.1, (valid known, valid_bad (valid known) ∙ sym left.before.has-zero-mask.ensures ∙ left.if1.false)))
 
 returns-2 : tie.Need-returns-2
 returns-2 c =
     let answer = c.before.before in
     let s = start answer in
     let a = s.args in
-    refused-17 a.rule.now a.letters.now a.property.now a.output.now s.pre.0.accepted s.pre.1
-    (refused-bad a.property.now _ (sym c.enum_told.given.1 ∙ answer.check-property.ensures))
+    refused_17 a.rule.now a.letters.now a.property.now a.output.now s.pre.0.accepted s.pre.1
+    (refused_bad a.property.now _ (sym c.enum_told.given.1 ∙ answer.check-property.ensures))
 
 same_length : tie.Need-same-length
 same_length c = search rules

@@ -6,13 +6,13 @@ use native.Mathlib.Omega.{arith}
 use native.Mathlib.Nat.{mul-le-mul}
 use borrow.Author.Rules.{rules}
 use lib.ListN.{length}
-use Rattle.model.proofs.Laws.{valid-sizes}
-use Rattle.property.proofs.PropertyLaws.{property-facts, property-numbers}
+use Rattle.model.proofs.Laws.{valid_sizes}
+use Rattle.property.proofs.PropertyLaws.{property_facts, property_numbers}
 use Rattle.combine_graph.specs.Combined.{combined, Combinable}
-use Rattle.combine_graph.proofs.CombinedLaws.{combined-size}
-use Rattle.combine_outcome.specs.Combination.{tooLarge, combinedFile}
-use Rattle.combine_outcome.proofs.ReasonLaws.{large-states, large-edges, within_both, combined-length}
-use Rattle.combine.proofs.ReasonLaws.{combinable, refused-18, refused-15, written_is}
+use Rattle.combine_graph.proofs.CombinedLaws.{combined_size}
+use Rattle.combine_outcome.specs.Combination.{too_large, combined_file}
+use Rattle.combine_outcome.proofs.ReasonLaws.{large_states, large_edges, within_both, combined-length}
+use Rattle.combine.proofs.ReasonLaws.{combinable, refused_18, refused_15, written_is}
 use Rattle.combine.proofs.within_limits.Statement.{statement}
 use Rattle.combine.proofs.within_limits.Tie as tie
 
@@ -21,10 +21,10 @@ abbrev start : tie.After-struct-known2 → tie.Start
 start c = c.before.before.before.before.before.before
 
 -- the number of combined states
-size-told : (c : tie.After-struct-known2) →
+size_told : (c : tie.After-struct-known2) →
     let a = (start c).args in
     (combined a.rule.now a.letters.now a.property.now).size ≡ a.h.states * a.k.states
-size-told c = let s = start c in combined-size s.args.letters.now s.pre.0 s.pre.1.1.0
+size_told c = let s = start c in combined_size s.args.letters.now s.pre.0 s.pre.1.1.0
 
 -- with few enough of them the files can be combined
 ready : (c : tie.Else1) →
@@ -33,39 +33,39 @@ ready : (c : tie.Else1) →
 ready c = let s = start c.before in combinable s.pre.0 s.pre.1.0 s.pre.1.1.0 (omega (arith, c.if1.false))
 
 -- with few enough edges reason 18 does not hold
-not-large : (c : tie.Else2) →
+not_large : (c : tie.Else2) →
     let a = (start c.before.before.before).args in
-    tooLarge (combined a.rule.now a.letters.now a.property.now) ≡ false
-not-large c =
+    too_large (combined a.rule.now a.letters.now a.property.now) ≡ false
+not_large c =
     let few = c.before.before in
     let a = (start few.before).args in
-    within_both a.rule.now a.letters.now a.property.now _ _ (size-told few.before) (omega (arith, few.if1.false)) c.before.count-edges.ensures (omega (arith, c.if2.false))
+    within_both a.rule.now a.letters.now a.property.now _ _ (size_told few.before) (omega (arith, few.if1.false)) c.before.count-edges.ensures (omega (arith, c.if2.false))
 
 -- the total length that is computed is the file's
-total-told : (c : tie.After-total-of) →
+total_told : (c : tie.After-total-of) →
     let a = (start c.before.before.before.before).args in
-    length (combinedFile a.rule.now a.letters.now a.property.now) ≡ c.total_of.result
-total-told c =
+    length (combined_file a.rule.now a.letters.now a.property.now) ≡ c.total_of.result
+total_told c =
     let counted = c.before.before in
     let few = counted.before in
     let a = (start few.before).args in
-    combined-length a.rule.now a.letters.now a.property.now _ _ (size-told few.before) counted.count-edges.ensures
+    combined-length a.rule.now a.letters.now a.property.now _ _ (size_told few.before) counted.count-edges.ensures
     ∙ sym c.total_of.ensures
 
 mul-states : tie.Need-overflow-mul-states
 mul-states c =
     let s = start c in
-    let sizes = valid-sizes s.pre.0 in
+    let sizes = valid_sizes s.pre.0 in
     let property = s.pre.1.1.0 in
-    let fewer : s.args.k.states ≤ 4096 = omega (arith, (property-numbers property).0, (property-facts property).states-range) in
-    omega (arith, mul-le-mul sizes.states-range.1 fewer)
+    let fewer : s.args.k.states ≤ 4096 = omega (arith, (property_numbers property).0, (property_facts property).states_range) in
+    omega (arith, mul-le-mul sizes.states_range.1 fewer)
 
 returns : tie.Need-returns
 returns c =
     let s = start c.before in
     let a = s.args in
-    refused-18 a.rule.now a.letters.now a.property.now a.output.now s.pre.0.accepted s.pre.1.0 s.pre.1.1.1
-    (large-states a.rule.now a.letters.now a.property.now _ (size-told c.before) (omega (arith, c.if1.true)))
+    refused_18 a.rule.now a.letters.now a.property.now a.output.now s.pre.0.accepted s.pre.1.0 s.pre.1.1.1
+    (large_states a.rule.now a.letters.now a.property.now _ (size_told c.before) (omega (arith, c.if1.true)))
 
 count-edges-requires : tie.Need-count-edges-requires
 count-edges-requires c κs = ready c
@@ -75,8 +75,8 @@ returns-2 c =
     let few = c.before.before in
     let s = start few.before in
     let a = s.args in
-    refused-18 a.rule.now a.letters.now a.property.now a.output.now s.pre.0.accepted s.pre.1.0 s.pre.1.1.1
-    (large-edges a.rule.now a.letters.now a.property.now _ _ (size-told few.before) (omega (arith, few.if1.false)) c.before.count-edges.ensures (omega (arith, c.if2.true)))
+    refused_18 a.rule.now a.letters.now a.property.now a.output.now s.pre.0.accepted s.pre.1.0 s.pre.1.1.1
+    (large_edges a.rule.now a.letters.now a.property.now _ _ (size_told few.before) (omega (arith, few.if1.false)) c.before.count-edges.ensures (omega (arith, c.if2.true)))
 
 total-of-requires : tie.Need-total-of-requires
 total-of-requires c κs = search rules
@@ -86,8 +86,8 @@ returns-3 c =
     let total = c.before in
     let s = start total.before.before.before.before in
     let a = s.args in
-    refused-15 a.rule.now a.letters.now a.property.now a.output.now s.pre.0.accepted s.pre.1.0 s.pre.1.1.1 (not-large total.before)
-    (omega (arith, c.if3.true, total-told total))
+    refused_15 a.rule.now a.letters.now a.property.now a.output.now s.pre.0.accepted s.pre.1.0 s.pre.1.1.1 (not_large total.before)
+    (omega (arith, c.if3.true, total_told total))
 
 write-product-requires : tie.Need-write-product-requires
 write-product-requires c κs =
@@ -107,8 +107,8 @@ returns-4 c =
     let total = fits.before in
     let s = start total.before.before.before.before in
     let a = s.args in
-    let is = written_is a.rule.now a.letters.now a.property.now a.output.now s.pre.0.accepted s.pre.1.0 s.pre.1.1.1 (not-large total.before)
-    (omega (arith, fits.if3.false, total-told total)) wrote.write-product.ensures in
+    let is = written_is a.rule.now a.letters.now a.property.now a.output.now s.pre.0.accepted s.pre.1.0 s.pre.1.1.1 (not_large total.before)
+    (omega (arith, fits.if3.false, total_told total)) wrote.write-product.ensures in
     (is.0, is.1)
 
 pub within-limits-spec : {M : Type 1} → statement M

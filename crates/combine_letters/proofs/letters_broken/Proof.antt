@@ -7,13 +7,13 @@ use borrow.Author.Rules.{rules}
 use lib.ListN.{length, drop}
 use lib.Dec.{ltb}
 use Rattle.lists.specs.Lists.{anyb}
-use Rattle.combine_letters.specs.Letters.{badLetters}
-use Rattle.combine_letters.proofs.LetterLaws.{letter-above, letter-past, letters-end}
+use Rattle.combine_letters.specs.Letters.{bad_letters}
+use Rattle.combine_letters.proofs.LetterLaws.{letter_above, letter_past, letters_end}
 use Rattle.combine_letters.proofs.letters_broken.Statement.{statement}
 use Rattle.combine_letters.proofs.letters_broken.Tie as tie
 
 abbrev invariant-loop : tie.invariant-loop
-invariant-loop letters n s₀ s = (s ≤ n) × (badLetters n letters ≡ anyb (ltb 15) (drop s letters))
+invariant-loop letters n s₀ s = (s ≤ n) × (bad_letters n letters ≡ anyb (ltb 15) (drop s letters))
 
 abbrev decreases-loop : tie.decreases-loop
 decreases-loop letters n s₀ s = n - s
@@ -36,7 +36,7 @@ returns-2 c =
     let in-loop = c.before.before in
     let at = in-loop.before in
     let a = at.before.before.args in
-    sym (at.loop.invariant.1 ∙ letter-above a.letters.now at.loop.s (omega (arith, in-loop.loop-test.true, at.before.if1.false)) (omega (arith, c.if2.true)))
+    sym (at.loop.invariant.1 ∙ letter_above a.letters.now at.loop.s (omega (arith, in-loop.loop-test.true, at.before.if1.false)) (omega (arith, c.if2.true)))
 
 add-s : tie.Need-overflow-add-s invariant-loop decreases-loop
 add-s c = search rules
@@ -50,14 +50,14 @@ loop-again c =
     let at = in-loop.before in
     let a = at.before.before.args in (
       omega (arith, in-loop.loop-test.true),
-      at.loop.invariant.1 ∙ letter-past a.letters.now at.loop.s (omega (arith, in-loop.loop-test.true, at.before.if1.false)) (omega (arith, c.if2.false)),
+      at.loop.invariant.1 ∙ letter_past a.letters.now at.loop.s (omega (arith, in-loop.loop-test.true, at.before.if1.false)) (omega (arith, c.if2.false)),
     )
 
 returns-3 : tie.Need-returns-3 invariant-loop decreases-loop
 returns-3 c =
     let at = c.before in
     let a = at.before.before.args in
-    sym (at.loop.invariant.1 ∙ letters-end a.letters.now at.loop.s (omega (arith, c.loop-test.false, at.before.if1.false)))
+    sym (at.loop.invariant.1 ∙ letters_end a.letters.now at.loop.s (omega (arith, c.loop-test.false, at.before.if1.false)))
 
 pub letters-broken-spec : {M : Type 1} → statement M
 letters-broken-spec =

@@ -4,8 +4,8 @@ use Prim.Native.Nat.{◌+◌, ◌-◌, ◌<◌}
 use native.Mathlib.Omega.{arith}
 use borrow.Author.Rules.{rules}
 use lib.ListN.{set}
-use Rattle.follow.proofs.PlacesTable.{append-asks}
-use Rattle.follow.proofs.PlacesComplete.{Completing, completing-none, completing-more, completing-all}
+use Rattle.follow.proofs.PlacesTable.{append_asks}
+use Rattle.follow.proofs.PlacesComplete.{Completing, completing_none, completing_more, completing_all}
 use Rattle.passed.specs.Passed.{PassedAt}
 use Rattle.completion.proofs.complete.Statement.{statement}
 use Rattle.completion.proofs.complete.Tie as tie
@@ -28,7 +28,7 @@ longer : (c : tie.After-first-follower invariant-loop decreases-loop) →
     Completing a.file.now a.h a.transitions.0 a.from a.work.now (set c.first-follower.new.1.1.0 l.loop.place c.first-follower.result.state) (l.loop.place + 1)
 longer c =
     let loop = c.before.before in
-    completing-more _ loop.before.loop.invariant.0 (inside loop) c.first-follower.ensures.same c.first-follower.ensures.found
+    completing_more _ loop.before.loop.invariant.0 (inside loop) c.first-follower.ensures.same c.first-follower.ensures.found
 
 number-requires : tie.Need-number-requires invariant-loop decreases-loop
 number-requires c κs = search rules
@@ -36,7 +36,7 @@ number-requires c κs = search rules
 loop-holds : tie.Need-loop-init invariant-loop decreases-loop
 loop-holds c =
     let p = c.before.before.before.requires in
-    (completing-none p.0 p.1.0 p.1.1.0, p.1.1.1)
+    (completing_none p.0 p.1.0 p.1.1.0, p.1.1.1)
 
 first-follower-requires : tie.Need-first-follower-requires invariant-loop decreases-loop
 first-follower-requires c κs =
@@ -48,7 +48,7 @@ append-requires c κs =
     let test = c.before.before.before in
     let loop = test.before.before in
     let says = test.first-follower.ensures in
-    let asks = append-asks loop.before.loop.invariant.0.prepared (inside loop) says.same says.found in
+    let asks = append_asks loop.before.loop.invariant.0.prepared (inside loop) says.same says.found in
     (asks.0, (asks.1.0, (asks.1.1.0, (asks.1.1.1, says.passed))))
 
 add-place : tie.Need-overflow-add-place invariant-loop decreases-loop
@@ -66,7 +66,7 @@ same_length : tie.Need-same-length invariant-loop decreases-loop
 same_length c = c.before.loop.invariant.0.kept.same_length
 
 returns : tie.Need-returns invariant-loop decreases-loop
-returns c = completing-all c.before.loop.invariant.0 (omega (arith, c.before.before.number.ensures))
+returns c = completing_all c.before.loop.invariant.0 (omega (arith, c.before.before.number.ensures))
 
 pub complete-spec : {M : Type 1} → statement M
 complete-spec =

@@ -2,8 +2,8 @@
 use mathlib.Core.Path.{◌∙◌}
 use borrow.Author.Rules.{rules}
 use Rattle.follow.specs.Follow.{Prepared}
-use Rattle.follow.proofs.PlacesTable.{prepared-kept}
-use Rattle.cursor.proofs.CursorLaws.{prepared-start, at_first}
+use Rattle.follow.proofs.PlacesTable.{prepared_kept}
+use Rattle.cursor.proofs.CursorLaws.{prepared_start, at_first}
 use Rattle.cursor.proofs.to_first.Statement.{statement}
 use Rattle.cursor.proofs.to_first.Tie as tie
 
@@ -15,7 +15,7 @@ start c = c.before.before.before.before
 prepared : (c : tie.After-prepare) → let a = (start c).args in Prepared a.file.now a.h c.prepare.new.1.1.0 a.transitions.0
 prepared c =
     let s = start c in
-    prepared-start s.pre.0 s.pre.1 c.prepare.ensures.0 c.prepare.ensures.1.same_length
+    prepared_start s.pre.0 s.pre.1 c.prepare.ensures.0 c.prepare.ensures.1.same_length
 
 prepare-requires : tie.Need-prepare-requires
 prepare-requires c κs = search rules
@@ -30,7 +30,7 @@ returns : tie.Need-returns
 returns c =
     let listed = c.before.before in
     let done = listed.before.before.before.before in (
-      at_first (prepared-kept (prepared done) listed.first.ensures.1) listed.first.ensures.0,
+      at_first (prepared_kept (prepared done) listed.first.ensures.1) listed.first.ensures.0,
       listed.first.ensures.1.same_length ∙ done.prepare.ensures.1.same_length,
     )
 

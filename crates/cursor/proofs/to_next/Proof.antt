@@ -1,6 +1,6 @@
 -- `to_next` meets its contract: a step of the listing is one to the next place of the roll, or there is none.
 use borrow.Author.Rules.{rules}
-use Rattle.cursor.proofs.RollPlaces.{stands-mem}
+use Rattle.cursor.proofs.RollPlaces.{stands_mem}
 use Rattle.cursor.proofs.CursorLaws.{moved_on}
 use Rattle.cursor.proofs.to_next.Statement.{statement}
 use Rattle.cursor.proofs.to_next.Tie as tie
@@ -8,7 +8,7 @@ use Rattle.cursor.proofs.to_next.Tie as tie
 advance-requires : tie.Need-advance-requires
 advance-requires c κs =
     let at = c.before.before.before.requires.at in
-    (at.prepared, stands-mem at.current)
+    (at.prepared, stands_mem at.current)
 
 same_length : tie.Need-same-length
 same_length c = search rules

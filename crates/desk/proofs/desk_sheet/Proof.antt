@@ -2,7 +2,7 @@
 use native.Mathlib.Omega.{arith}
 use borrow.Author.Rules.{rules}
 use Rattle.text.proofs.WroteLaws.{wrote_as}
-use Rattle.desk.proofs.CutLaws.{cut-text}
+use Rattle.desk.proofs.CutLaws.{cut_text}
 use Rattle.desk.proofs.desk_sheet.Statement.{statement}
 use Rattle.desk.proofs.desk_sheet.Tie as tie
 
@@ -25,7 +25,7 @@ returns : tie.Need-returns
 returns c =
     let done = c.before.before in
     let known = done.before.before.before.before.before in
-    wrote_as (cut-text known.input-bytes.ensures.1 (omega arith)) done.write-sheet.ensures
+    wrote_as (cut_text known.input-bytes.ensures.1 (omega arith)) done.write-sheet.ensures
 
 pub desk-sheet-spec : {M : Type 1} → statement M
 desk-sheet-spec =

@@ -1,7 +1,7 @@
 -- `print_sheet` meets its contract: the bytes that were read, and those that were written, lie within their buffers.
 use native.Mathlib.Omega.{arith}
 use borrow.Author.Rules.{rules}
-use Rattle.text.proofs.WroteLaws.{wrote-within}
+use Rattle.text.proofs.WroteLaws.{wrote_within}
 use Rattle.desk.proofs.print_sheet.Statement.{statement}
 use Rattle.desk.proofs.print_sheet.Tie as tie
 
@@ -21,10 +21,10 @@ desk-sheet-requires : tie.Need-desk-sheet-requires
 desk-sheet-requires c κs = search rules
 
 array-share-prefix-text : tie.Need-array-share-prefix-text
-array-share-prefix-text c = (wrote-within c.desk-sheet.ensures).0
+array-share-prefix-text c = (wrote_within c.desk-sheet.ensures).0
 
 slice-aggregate-write-all : tie.Need-slice-aggregate-write-all
-slice-aggregate-write-all c = (wrote-within c.before.desk-sheet.ensures).1
+slice-aggregate-write-all c = (wrote_within c.before.desk-sheet.ensures).1
 
 write-all-requires : tie.Need-write-all-requires
 write-all-requires c κs = search rules

@@ -7,21 +7,21 @@ use borrow.Author.Rules.{rules}
 use borrow.Author.Tests.{le-ltb}
 use lib.ListN.{length}
 use Rattle.lists.specs.Lists.{pick}
-use Rattle.numbers.specs.Limits.{sheetRoom, answerEntries, workEntries}
+use Rattle.numbers.specs.Limits.{sheet_room, answer_entries, work_entries}
 use Rattle.text.proofs.WroteLaws.{wrote_as}
-use Rattle.sheet_text.specs.SheetText.{sheetText}
-use Rattle.sheet.specs.Sheet.{sheetWritten}
-use Rattle.desk.specs.Desk.{inputText}
+use Rattle.sheet_text.specs.SheetText.{sheet_text}
+use Rattle.sheet.specs.Sheet.{sheet_written}
+use Rattle.desk.specs.Desk.{input_text}
 use Rattle.desk.proofs.write_sheet.Statement.{statement}
 use Rattle.desk.proofs.write_sheet.Tie as tie
 
 -- what is written with tables of the program's sizes, where the text has room
-written-text : (f a w t : List ℕ) → length a ≡ answerEntries → length w ≡ workEntries → sheetRoom ≤ length t
-    → sheetWritten f a w t ≡ inputText f
-written-text f a w t p q room =
-    ap (λ (b : Bool). pick b [] (sheetText f (length a) (length w))) (le-ltb (length t) sheetRoom room)
-    ∙ ap (λ (n : ℕ). sheetText f n (length w)) p
-    ∙ ap (λ (n : ℕ). sheetText f answerEntries n) q
+written_text : (f a w t : List ℕ) → length a ≡ answer_entries → length w ≡ work_entries → sheet_room ≤ length t
+    → sheet_written f a w t ≡ input_text f
+written_text f a w t p q room =
+    ap (λ (b : Bool). pick b [] (sheet_text f (length a) (length w))) (le-ltb (length t) sheet_room room)
+    ∙ ap (λ (n : ℕ). sheet_text f n (length w)) p
+    ∙ ap (λ (n : ℕ). sheet_text f answer_entries n) q
 
 sheet-requires : tie.Need-sheet-requires
 sheet-requires c κs = search rules
@@ -40,7 +40,7 @@ returns c =
     let done = c.before.before.before.before.before.before in
     let s = done.before.before.before.before.before.before.before.before in
     let a = s.args in
-    wrote_as (written-text a.input.now a.answer.now a.work.now a.text.now s.requires.0 s.requires.1.0 s.requires.1.1) done.sheet.ensures.0
+    wrote_as (written_text a.input.now a.answer.now a.work.now a.text.now s.requires.0 s.requires.1.0 s.requires.1.1) done.sheet.ensures.0
 
 pub write-sheet-spec : {M : Type 1} → statement M
 write-sheet-spec = tie.close (tie.spec sheet-requires same_length same-length-2 same-length-3 returns)

@@ -5,7 +5,7 @@ use native.Mathlib.Omega.{arith}
 use borrow.Author.Rules.{rules}
 use Rattle.text.proofs.WroteLaws.{wrote_as}
 use Rattle.reading.specs.Reading.{input_of}
-use Rattle.desk_combining.proofs.CutLaws.{cut-told}
+use Rattle.desk_combining.proofs.CutLaws.{cut_told}
 use Rattle.desk_combining.proofs.desk_combine.Statement.{statement}
 use Rattle.desk_combining.proofs.desk_combine.Tie as tie
 
@@ -40,7 +40,7 @@ returns c =
     let letters : List ℕ = input_of a.failed.letters a.letters.now in
     let property : List ℕ = input_of a.failed.property a.property.now in
     let same =
-    cut-told {f = rule} {letters = letters} {p = property} first.input-bytes.ensures.1 second.input-bytes2.ensures.1 third.input-bytes3.ensures.1 (omega arith) (omega arith) (omega arith) in
+    cut_told {f = rule} {letters = letters} {p = property} first.input-bytes.ensures.1 second.input-bytes2.ensures.1 third.input-bytes3.ensures.1 (omega arith) (omega arith) (omega arith) in
     (wrote_as same.0 c.write-combination.ensures.0, wrote_as same.1 c.write-combination.ensures.1)
 
 pub desk-combine-spec : {M : Type 1} → statement M

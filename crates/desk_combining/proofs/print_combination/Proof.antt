@@ -1,7 +1,7 @@
 -- `print_combination` meets its contract: what was read, and what was written, lies within its buffer.
 use native.Mathlib.Omega.{arith}
 use borrow.Author.Rules.{rules}
-use Rattle.text.proofs.WroteLaws.{wrote-within}
+use Rattle.text.proofs.WroteLaws.{wrote_within}
 use Rattle.desk_combining.proofs.print_combination.Statement.{statement}
 use Rattle.desk_combining.proofs.print_combination.Tie as tie
 
@@ -45,19 +45,19 @@ desk-combine-requires : tie.Need-desk-combine-requires
 desk-combine-requires c κs = search rules
 
 array-share-prefix-line : tie.Need-array-share-prefix-line
-array-share-prefix-line c = (wrote-within c.desk-combine.ensures.1).0
+array-share-prefix-line c = (wrote_within c.desk-combine.ensures.1).0
 
 slice-aggregate-write-all : tie.Need-slice-aggregate-write-all
-slice-aggregate-write-all c = (wrote-within c.before.desk-combine.ensures.1).1
+slice-aggregate-write-all c = (wrote_within c.before.desk-combine.ensures.1).1
 
 write-all-requires : tie.Need-write-all-requires
 write-all-requires c κs = search rules
 
 array-share-prefix-out : tie.Need-array-share-prefix-out
-array-share-prefix-out c = (wrote-within c.before.before.desk-combine.ensures.0).0
+array-share-prefix-out c = (wrote_within c.before.before.desk-combine.ensures.0).0
 
 slice-aggregate-write-all-2 : tie.Need-slice-aggregate-write-all-2
-slice-aggregate-write-all-2 c = (wrote-within c.before.before.before.desk-combine.ensures.0).1
+slice-aggregate-write-all-2 c = (wrote_within c.before.before.before.desk-combine.ensures.0).1
 
 write-all-requires-2 : tie.Need-write-all-requires-2
 write-all-requires-2 c κs = search rules

@@ -1,9 +1,9 @@
 -- `write_combination` meets its contract: the output has the size that the answer is told with.
 use borrow.Author.Rules.{rules}
 use Rattle.text.proofs.WroteLaws.{wrote_as}
-use Rattle.combine.specs.Combine.{combineOutcomeOf}
+use Rattle.combine.specs.Combine.{combine_outcome_of}
 use Rattle.desk_combining.proofs.NumberLaws.{number_fits}
-use Rattle.desk_combining.proofs.ToldLaws.{output-told, line-told}
+use Rattle.desk_combining.proofs.ToldLaws.{output_told, line_told_lem}
 use Rattle.desk_combining.proofs.write_combination.Statement.{statement}
 use Rattle.desk_combining.proofs.write_combination.Tie as tie
 
@@ -19,7 +19,7 @@ tell-requires c κs =
     let done = c.before.before.before in
     let s = start done in
     let a = s.args in (
-      number_fits a.rule.now a.letters.now a.property.now a.out.now (combineOutcomeOf done.combine.result) s.pre.0 done.combine.ensures.0,
+      number_fits a.rule.now a.letters.now a.property.now a.out.now (combine_outcome_of done.combine.result) s.pre.0 done.combine.ensures.0,
       s.pre.1,
     )
 
@@ -35,8 +35,8 @@ returns c =
     let done = told.before.before.before.before in
     let s = start done in
     let a = s.args in (
-      output-told a.rule.now a.letters.now a.property.now a.out.now s.pre.0 done.combine.ensures.0 done.combine.ensures.1 told.tell.ensures.0,
-      wrote_as (line-told a.rule.now a.letters.now a.property.now a.out.now s.pre.0 done.combine.ensures.0) told.tell.ensures.1,
+      output_told a.rule.now a.letters.now a.property.now a.out.now s.pre.0 done.combine.ensures.0 done.combine.ensures.1 told.tell.ensures.0,
+      wrote_as (line_told_lem a.rule.now a.letters.now a.property.now a.out.now s.pre.0 done.combine.ensures.0) told.tell.ensures.1,
     )
 
 pub write-combination-spec : {M : Type 1} → statement M

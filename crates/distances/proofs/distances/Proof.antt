@@ -6,9 +6,9 @@ use borrow.Author.Rules.{rules}
 use lib.ListN.{length}
 use Rattle.outcomes.proofs.OutcomeLaws.{at_length}
 use Rattle.gate.specs.Gate.{GatePassed}
-use Rattle.gate.proofs.GateLaws.{gate-refused, gate-passed, entered-length, work-refused, work-left}
-use Rattle.distances.specs.Distances.{distancesOutcome, distancesOutput}
-use Rattle.distances.proofs.DistancesLaws.{reasons-common, distances-refused}
+use Rattle.gate.proofs.GateLaws.{gate_refused, gate_passed, entered_length, work_refused, work_left_lem}
+use Rattle.distances.specs.Distances.{distances_outcome, distances_output}
+use Rattle.distances.proofs.DistancesLaws.{reasons_common, distances_refused}
 use Rattle.distances.proofs.distances.Statement.{statement}
 use Rattle.distances.proofs.distances.Tie as tie
 
@@ -26,7 +26,7 @@ passed : (c : tie.After-checked2)
 passed c =
     let entered = gate c.before.before in
     let a = (start entered).args in
-    gate-passed a.file.now 0 (length a.work.now) entered.enter.ensures.0 c.checked2.given.1
+    gate_passed a.file.now 0 (length a.work.now) entered.enter.ensures.0 c.checked2.given.1
 
 enter-requires : tie.Need-enter-requires
 enter-requires c κs = search rules
@@ -43,7 +43,7 @@ distances-model-requires c κs =
     let entered = gate accepted.before.before in
     let a = (start entered).args in
     let is = passed accepted in
-    ((is.valid, is.named), omega (arith, is.room, entered-length 0 a.work.now entered.enter.ensures.1))
+    ((is.valid, is.named), omega (arith, is.room, entered_length 0 a.work.now entered.enter.ensures.1))
 
 leave-requires : tie.Need-leave-requires
 leave-requires c κs = search rules
@@ -57,10 +57,10 @@ returns c =
     let entered = gate refused.before.before in
     let a = (start entered).args in
     let work = length a.work.now in
-    let broken = gate-refused a.file.now 0 work entered.enter.ensures.0 refused.checked.given.1 in
-    let first = reasons-common a.file.now a.ceiling.0 (length a.output.now) work _ broken in
-    let is = distances-refused a.file.now a.ceiling.0 a.output.now work _ first in
-    (is.0, (is.1, work-refused a.file.now 0 a.work.now _ broken entered.enter.ensures.1))
+    let broken = gate_refused a.file.now 0 work entered.enter.ensures.0 refused.checked.given.1 in
+    let first = reasons_common a.file.now a.ceiling.0 (length a.output.now) work _ broken in
+    let is = distances_refused a.file.now a.ceiling.0 a.output.now work _ first in
+    (is.0, (is.1, work_refused a.file.now 0 a.work.now _ broken entered.enter.ensures.1))
 
 same-length-2 : tie.Need-same-length-2
 same-length-2 c = search rules
@@ -75,12 +75,12 @@ returns-2 c =
     let accepted = done.before.before.before.before in
     let entered = gate accepted.before.before in
     let a = (start entered).args in
-    let same = entered-length 0 a.work.now entered.enter.ensures.1 in
+    let same = entered_length 0 a.work.now entered.enter.ensures.1 in
     let (answer, (output, kept)) = done.distances-model.ensures in (
-      at_length (λ n. distancesOutcome a.file.now a.ceiling.0 (length a.output.now) n) answer same,
+      at_length (λ n. distances_outcome a.file.now a.ceiling.0 (length a.output.now) n) answer same,
       (
-        at_length (λ n. distancesOutput a.file.now a.ceiling.0 a.output.now n) output same,
-        work-left a.file.now 0 a.work.now (passed accepted).clear (kept ∙ same) left.leave.ensures,
+        at_length (λ n. distances_output a.file.now a.ceiling.0 a.output.now n) output same,
+        work_left_lem a.file.now 0 a.work.now (passed accepted).clear (kept ∙ same) left.leave.ensures,
       ),
     )
 

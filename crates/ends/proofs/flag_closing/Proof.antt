@@ -3,15 +3,15 @@ use Prim.Native.Nat.{◌-◌, ◌≤◌}
 use mathlib.Core.Path.{◌≡◌, refl}
 use lib.ListN.{length}
 use native.Mathlib.Omega.{arith}
-use Rattle.model.specs.Model.{graphIn}
-use Rattle.model.proofs.Laws.{valid-sizes, valid-well-formed}
+use Rattle.model.specs.Model.{graph_in}
+use Rattle.model.proofs.Laws.{valid_sizes, valid_well_formed}
 use Rattle.ends.specs.Ends.{ClosingPut}
-use Rattle.ends.proofs.EndLaws.{flag_small, closing-none, closing-more}
+use Rattle.ends.proofs.EndLaws.{flag_small, closing_none, closing_more}
 use Rattle.ends.proofs.flag_closing.Statement.{statement}
 use Rattle.ends.proofs.flag_closing.Tie as tie
 
 abbrev invariant-loop : tie.invariant-loop
-invariant-loop file h work₀ level bound n s₀ work s = (s ≤ n) × ClosingPut (graphIn file h) n h.start level bound s work₀ work
+invariant-loop file h work₀ level bound n s₀ work s = (s ≤ n) × ClosingPut (graph_in file h) n h.start level bound s work₀ work
 
 abbrev decreases-loop : tie.decreases-loop
 decreases-loop file h work₀ level bound n s₀ work s = n - s
@@ -24,7 +24,7 @@ long : (c : tie.At-loop invariant-loop decreases-loop) → length c.loop.work �
 long c = c.loop.invariant.1.outside.same_length
 
 loop-holds : tie.Need-loop-init invariant-loop decreases-loop
-loop-holds c = (omega arith, closing-none _ _ _ _ _ _)
+loop-holds c = (omega arith, closing_none _ _ _ _ _ _)
 
 closing-flag-requires : tie.Need-closing-flag-requires invariant-loop decreases-loop
 closing-flag-requires c κs =
@@ -32,10 +32,10 @@ closing-flag-requires c κs =
     ((start l).requires.0, (omega (arith, long l, (start l).requires.1.0), ((start l).requires.1.1.0, ((start l).requires.1.1.1, omega (arith, c.before.loop-test.true)))))
 
 mul-put : tie.Need-overflow-mul-put invariant-loop decreases-loop
-mul-put c = omega (arith, (valid-sizes (start c.before.before.before.before).pre.0).states-range)
+mul-put c = omega (arith, (valid_sizes (start c.before.before.before.before).pre.0).states_range)
 
 add-put : tie.Need-overflow-add-put invariant-loop decreases-loop
-add-put c = omega (arith, (valid-sizes (start c.before.before.before.before).pre.0).states-range)
+add-put c = omega (arith, (valid_sizes (start c.before.before.before.before).pre.0).states_range)
 
 put-requires : tie.Need-put-requires invariant-loop decreases-loop
 put-requires c κs =
@@ -54,8 +54,8 @@ loop-again c =
     let l = f.before.before.before in
     let s = start l in (
       omega arith,
-      rw c.before.before.put.ensures (closing-more (graphIn s.args.file.now s.args.h) s.args.h.states s.args.h.start s.args.level s.args.bound l.loop.s s.args.work.now l.loop.work f.closing-flag.result
-          (valid-well-formed s.pre.0) refl s.pre.1.1.1 (omega (arith, f.before.before.loop-test.true)) (omega (arith, s.pre.1.0)) l.loop.invariant.1 f.closing-flag.ensures),
+      rw c.before.before.put.ensures (closing_more (graph_in s.args.file.now s.args.h) s.args.h.states s.args.h.start s.args.level s.args.bound l.loop.s s.args.work.now l.loop.work f.closing-flag.result
+          (valid_well_formed s.pre.0) refl s.pre.1.1.1 (omega (arith, f.before.before.loop-test.true)) (omega (arith, s.pre.1.0)) l.loop.invariant.1 f.closing-flag.ensures),
     )
 
 same_length : tie.Need-same-length invariant-loop decreases-loop

@@ -7,19 +7,19 @@ use native.Mathlib.Omega.{arith}
 use lib.ListN.{length, get_or}
 use Rattle.lists.specs.Decides.{Decides}
 use Rattle.lasso.specs.Extends.{Extends}
-use Rattle.model.specs.Model.{graphIn}
-use Rattle.table.proofs.Laws.{sameOutside-trans}
-use Rattle.current.specs.Current.{listIn}
-use Rattle.follow.proofs.PlacesTable.{prepared-sizes, states-to}
+use Rattle.model.specs.Model.{graph_in}
+use Rattle.table.proofs.Laws.{same_outside_trans}
+use Rattle.current.specs.Current.{list_in}
+use Rattle.follow.proofs.PlacesTable.{prepared_sizes, states_to}
 use Rattle.passed.specs.Passed.{PassedAt}
-use Rattle.followers.proofs.TriedLaws.{Tried, tried-none, tried-more, tried-found, tried-all}
-use Rattle.followers.proofs.RowLaws.{StateRead, read-row, test-asks, as_before}
+use Rattle.followers.proofs.TriedLaws.{Tried, tried_none, tried_more, tried_found, tried_all}
+use Rattle.followers.proofs.RowLaws.{StateRead, read_row, test_asks, as_before}
 use Rattle.followers.proofs.least_follower.Statement.{statement}
 use Rattle.followers.proofs.least_follower.Tie as tie
 
 abbrev invariant-loop : tie.invariant-loop
 invariant-loop file h work₀ length place bound p₀ s part d k₀ work p k =
-    Tried (graphIn file h) h.states length.0 (listIn (graphIn file h).start work₀ place) bound ((graphIn file h).succs s) work₀ work k
+    Tried (graph_in file h) h.states length.0 (list_in (graph_in file h).start work₀ place) bound ((graph_in file h).succs s) work₀ work k
     × PassedAt file h work length.0 place p
 
 abbrev decreases-loop : tie.decreases-loop
@@ -30,41 +30,41 @@ row : (c : tie.After-list-at invariant-loop decreases-loop)
     → let a = c.before.before.before.before.before.before.args in StateRead a.file.now a.h a.work.now a.transitions.0 a.place c.list_at.result
 row c =
     let p = c.before.before.before.before.before.before.requires in
-    read-row p.0 p.1.0 p.1.1.0 c.list_at.ensures
+    read_row p.0 p.1.0 p.1.1.0 c.list_at.ensures
 
 -- the number of its successors
 degree : (c : tie.After-degree invariant-loop decreases-loop)
-    → c.degree.result ≡ length ((graphIn c.before.before.before.before.before.before.before.before.args.file.now c.before.before.before.before.before.before.before.before.args.h).succs c.before.before.list_at.result)
+    → c.degree.result ≡ length ((graph_in c.before.before.before.before.before.before.before.before.args.file.now c.before.before.before.before.before.before.before.before.args.h).succs c.before.before.list_at.result)
 degree c = c.degree.ensures ∙ ap length c.before.row-part.ensures
 
 -- the successor at k stands at place k of the row
-successor-at : (c : tie.After-successor invariant-loop decreases-loop)
-    → c.successor.result ≡ get_or ((graphIn c.before.before.before.before.before.before.before.before.before.before.before.args.file.now c.before.before.before.before.before.before.before.before.before.before.before.args.h).succs c.before.before.before.before.before.list_at.result) c.before.before.loop.k 0
-successor-at c = c.successor.ensures ∙ ap (λ (ts : List ℕ). get_or ts c.before.before.loop.k 0) c.before.before.before.before.row-part.ensures
+successor_at : (c : tie.After-successor invariant-loop decreases-loop)
+    → c.successor.result ≡ get_or ((graph_in c.before.before.before.before.before.before.before.before.before.before.before.args.file.now c.before.before.before.before.before.before.before.before.before.before.before.args.h).succs c.before.before.before.before.before.list_at.result) c.before.before.loop.k 0
+successor_at c = c.successor.ensures ∙ ap (λ (ts : List ℕ). get_or ts c.before.before.loop.k 0) c.before.before.before.before.row-part.ensures
 
 -- the successor at k is one of the row
 within : (c : tie.In-loop invariant-loop decreases-loop)
-    → c.before.loop.k < length ((graphIn c.before.before.before.before.before.before.before.before.before.before.args.file.now c.before.before.before.before.before.before.before.before.before.before.args.h).succs c.before.before.before.before.list_at.result)
+    → c.before.loop.k < length ((graph_in c.before.before.before.before.before.before.before.before.before.before.args.file.now c.before.before.before.before.before.before.before.before.before.before.args.h).succs c.before.before.before.before.list_at.result)
 within c = omega (arith, c.loop-test.true, degree c.before.before)
 
 -- what the test of the successor answers
 answer : (c : tie.After-try-next invariant-loop decreases-loop)
     → let a = c.before.before.before.before.before.before.before.before.before.before.before.before.before.args in
-    Decides ((a.bound ≤ c.before.before.successor.result) × Extends (graphIn a.file.now a.h) a.transitions.0 (listIn a.h.start a.work.now a.place ++ c.before.before.successor.result ∷ [])) c.try-next.result.yes
+    Decides ((a.bound ≤ c.before.before.successor.result) × Extends (graph_in a.file.now a.h) a.transitions.0 (list_in a.h.start a.work.now a.place ++ c.before.before.successor.result ∷ [])) c.try-next.result.yes
 answer c =
     let at = c.before.before.before.before in
     let a = at.before.before.before.before.before.before.before.before.before.args in
-    let g = graphIn a.file.now a.h in
+    let g = graph_in a.file.now a.h in
     as_before (λ xs. Decides ((a.bound ≤ c.before.before.successor.result) × Extends g a.transitions.0 (g.start ∷ xs ++ c.before.before.successor.result ∷ [])) c.try-next.result.yes) (row at.before.before.before) at.loop.invariant.0.same c.try-next.ensures.decides
 
 retreat-requires : tie.Need-retreat-requires invariant-loop decreases-loop
 retreat-requires c κs =
     let s = c.before.before.before in
     let p = s.requires in
-    (p.0, (omega (arith, p.1.0), (states-to s.args.place p.0 (omega (arith, p.1.0)) p.1.1.0, p.1.1.1)))
+    (p.0, (omega (arith, p.1.0), (states_to s.args.place p.0 (omega (arith, p.1.0)) p.1.1.0, p.1.1.1)))
 
 list-at-requires : tie.Need-list-at-requires invariant-loop decreases-loop
-list-at-requires c κs = let p = c.before.before.before.before.before.requires in omega (arith, prepared-sizes p.0)
+list-at-requires c κs = let p = c.before.before.before.before.before.requires in omega (arith, prepared_sizes p.0)
 
 row-part-requires : tie.Need-row-part-requires invariant-loop decreases-loop
 row-part-requires c κs = (c.before.before.before.before.before.before.requires.0.valid, (row c).state)
@@ -73,7 +73,7 @@ degree-requires : tie.Need-degree-requires invariant-loop decreases-loop
 degree-requires c κs = tt
 
 loop-holds : tie.Need-loop-init invariant-loop decreases-loop
-loop-holds c = (tried-none _ _ _ _ _ _ _, c.before.before.before.before.retreat.ensures)
+loop-holds c = (tried_none _ _ _ _ _ _ _, c.before.before.before.before.retreat.ensures)
 
 successor-requires : tie.Need-successor-requires invariant-loop decreases-loop
 successor-requires c κs = omega (arith, c.loop-test.true, c.before.before.degree.ensures)
@@ -81,7 +81,7 @@ successor-requires c κs = omega (arith, c.loop-test.true, c.before.before.degre
 try-next-requires : tie.Need-try-next-requires invariant-loop decreases-loop
 try-next-requires c κs =
     let at = c.before.before.before in
-    let asks = test-asks c.before.successor.result (row at.before.before.before) at.loop.invariant.0.same (within c.before.before) (successor-at c.before) in
+    let asks = test_asks c.before.successor.result (row at.before.before.before) at.loop.invariant.0.same (within c.before.before) (successor_at c.before) in
     (asks.0, (asks.1.0, (asks.1.1.0, (asks.1.1.1, at.loop.invariant.1))))
 
 same_length : tie.Need-same-length invariant-loop decreases-loop
@@ -95,8 +95,8 @@ returns c =
     let at = test.before.before.before.before in
     let yes' = rw c.if1.true at (answer test) in
     record {
-      found = tried-found (row at.before.before.before) _ at.loop.invariant.0 (within test.before.before.before) (successor-at test.before.before) yes'.0 yes'.1;
-      same = sameOutside-trans at.loop.invariant.0.same test.try-next.ensures.same;
+      found = tried_found (row at.before.before.before) _ at.loop.invariant.0 (within test.before.before.before) (successor_at test.before.before) yes'.0 yes'.1;
+      same = same_outside_trans at.loop.invariant.0.same test.try-next.ensures.same;
       passed = test.try-next.ensures.passed;
     }
 
@@ -111,7 +111,7 @@ loop-again c =
     let test = c.before.before.before.before in
     let at = test.before.before.before.before in
     let no' = rw c.if1.false at (answer test) in (
-      tried-more _ at.loop.invariant.0 test.try-next.ensures.same (successor-at test.before.before) (λ b x. no' (b, x)),
+      tried_more _ at.loop.invariant.0 test.try-next.ensures.same (successor_at test.before.before) (λ b x. no' (b, x)),
       test.try-next.ensures.passed,
     )
 
@@ -121,7 +121,7 @@ same-length-2 c = c.before.loop.invariant.0.same.same_length
 returns-2 : tie.Need-returns-2 invariant-loop decreases-loop
 returns-2 c =
     record {
-      found = tried-all (row c.before.before.before.before) c.before.loop.invariant.0 (omega (arith, degree c.before.before, c.loop-test.false));
+      found = tried_all (row c.before.before.before.before) c.before.loop.invariant.0 (omega (arith, degree c.before.before, c.loop-test.false));
       same = c.before.loop.invariant.0.same;
       passed = c.before.loop.invariant.1;
     }

@@ -5,16 +5,16 @@ use mathlib.Core.Path.{◌≡◌, refl, sym, ◌∙◌, ap}
 use mathlib.Core.List.{List}
 use lib.Dec.{T}
 use Rattle.model.specs.declared.Header.{Header}
-use Rattle.model.specs.Model.{graphIn}
-use Rattle.model.proofs.Laws.{valid-sizes}
-use Rattle.current.specs.Current.{stateAt}
-use Rattle.goals.proofs.LastLaws.{NoneFrom, scan-found, scan-more, scan-none}
+use Rattle.model.specs.Model.{graph_in}
+use Rattle.model.proofs.Laws.{valid_sizes}
+use Rattle.current.specs.Current.{state_at}
+use Rattle.goals.proofs.LastLaws.{NoneFrom, scan_found, scan_more, scan_none}
 use Rattle.goal_tables.proofs.last_mark.Statement.{statement}
 use Rattle.goal_tables.proofs.last_mark.Tie as tie
 
 -- the state at a place of the list is marked
 abbrev Marked : List ℕ → Header → List ℕ → ℕ → Type 0
-Marked f h w k = T ((graphIn f h).marked (stateAt h w k))
+Marked f h w k = T ((graph_in f h).marked (state_at h w k))
 
 abbrev invariant-loop : tie.invariant-loop
 invariant-loop file h work place k₀ k = (k ≤ place + 1) × NoneFrom (Marked file h work) place k
@@ -26,14 +26,14 @@ abbrev start : tie.At-loop invariant-loop decreases-loop → tie.Start invariant
 start c = c.before.before.before
 
 -- whether the state looked at is marked
-marked-is : (c : tie.After-is-marked invariant-loop decreases-loop) → let l = c.before.before.before in let a = (start l).args in
-    c.is-marked.result ≡ (graphIn a.file.now a.h).marked (stateAt a.h a.work.now (l.loop.k - 1))
-marked-is c =
+marked_is : (c : tie.After-is-marked invariant-loop decreases-loop) → let l = c.before.before.before in let a = (start l).args in
+    c.is-marked.result ≡ (graph_in a.file.now a.h).marked (state_at a.h a.work.now (l.loop.k - 1))
+marked_is c =
     let a = (start c.before.before.before).args in
-    c.is-marked.ensures ∙ ap (λ (x : ℕ). (graphIn a.file.now a.h).marked x) c.before.list_at.ensures
+    c.is-marked.ensures ∙ ap (λ (x : ℕ). (graph_in a.file.now a.h).marked x) c.before.list_at.ensures
 
 add-k : tie.Need-overflow-add-k invariant-loop decreases-loop
-add-k c = let s = c.before.before in omega (arith, s.requires.1.1.0, (valid-sizes s.requires.0).states-range)
+add-k c = let s = c.before.before in omega (arith, s.requires.1.1.0, (valid_sizes s.requires.0).states_range)
 
 loop-holds : tie.Need-loop-init invariant-loop decreases-loop
 loop-holds c = (omega arith, λ r p q. absurd (omega arith))
@@ -56,7 +56,7 @@ returns : tie.Need-returns invariant-loop decreases-loop
 returns c =
     let l = c.before.before.before.before in
     let a = (start l).args in
-    scan-found (Marked a.file.now a.h a.work.now) a.place l.loop.k (omega (arith, c.before.before.before.loop-test.true)) l.loop.invariant.0 l.loop.invariant.1 (rw (sym (marked-is c.before) ∙ c.if1.true) tt)
+    scan_found (Marked a.file.now a.h a.work.now) a.place l.loop.k (omega (arith, c.before.before.before.loop-test.true)) l.loop.invariant.0 l.loop.invariant.1 (rw (sym (marked_is c.before) ∙ c.if1.true) tt)
 
 sub-k : tie.Need-overflow-sub-k invariant-loop decreases-loop
 sub-k c = omega (arith, c.before.before.before.loop-test.true)
@@ -68,13 +68,13 @@ loop-again : tie.Need-loop-preserved invariant-loop decreases-loop
 loop-again c =
     let l = c.before.before.before.before in
     let a = (start l).args in
-    (omega (arith, l.loop.invariant.0), scan-more (Marked a.file.now a.h a.work.now) a.place l.loop.k (omega (arith, c.before.before.before.loop-test.true)) l.loop.invariant.1 (λ x. absurd (rw (sym (marked-is c.before) ∙ c.if1.false) at x)))
+    (omega (arith, l.loop.invariant.0), scan_more (Marked a.file.now a.h a.work.now) a.place l.loop.k (omega (arith, c.before.before.before.loop-test.true)) l.loop.invariant.1 (λ x. absurd (rw (sym (marked_is c.before) ∙ c.if1.false) at x)))
 
 returns-2 : tie.Need-returns-2 invariant-loop decreases-loop
 returns-2 c =
     let l = c.before in
     let a = (start l).args in
-    scan-none (Marked a.file.now a.h a.work.now) a.place l.loop.k 0 refl (omega (arith, c.loop-test.false)) l.loop.invariant.1
+    scan_none (Marked a.file.now a.h a.work.now) a.place l.loop.k 0 refl (omega (arith, c.loop-test.false)) l.loop.invariant.1
 
 pub last-mark-spec : {M : Type 1} → statement M
 last-mark-spec =

@@ -3,11 +3,11 @@ use Prim.Native.Nat.{ℕ}
 use mathlib.Core.Path.{◌≡◌, sym, ◌∙◌}
 use native.Mathlib.Omega.{arith}
 use borrow.Author.Rules.{rules}
-use Rattle.model.specs.Model.{graphIn}
-use Rattle.model.proofs.Laws.{valid-well-formed}
+use Rattle.model.specs.Model.{graph_in}
+use Rattle.model.proofs.Laws.{valid_well_formed}
 use Rattle.edge_search.specs.declared.SpreadAnswer.TheVariants.{Nothing}
 use Rattle.goal_tables.specs.Tables.{LevelsVia}
-use Rattle.goal_tables.proofs.LevelLaws.{levels-marked, levels-on}
+use Rattle.goal_tables.proofs.LevelLaws.{levels_marked, levels_on}
 use Rattle.goal_tables.proofs.later_levels.Statement.{statement}
 use Rattle.goal_tables.proofs.later_levels.Tie as tie
 
@@ -19,11 +19,11 @@ start c = c.before.before.before.before.before.before.before
 on : (c : tie.After-slice-known3) →
     let e = c.before.before.before.before in
     let a = (start e.before).args in
-    (found : ℕ) × (c.before.before.from-marks.result ≡ Nothing found) × LevelsVia (graphIn a.file.now a.h) a.x a.limit a.work.now c.before.before.from-marks.new.1.1.0 found
+    (found : ℕ) × (c.before.before.from-marks.result ≡ Nothing found) × LevelsVia (graph_in a.file.now a.h) a.x a.limit a.work.now c.before.before.from-marks.new.1.1.0 found
 on c =
     let e = c.before.before.before.before in
     let s = start e.before in
-    levels-on _ c.before.before.from-marks.result (valid-well-formed s.pre.0) e.before.before.before.before.distances-from.ensures c.before.before.from-marks.ensures
+    levels_on _ c.before.before.from-marks.result (valid_well_formed s.pre.0) e.before.before.before.before.distances-from.ensures c.before.before.from-marks.ensures
 
 distances-from-requires : tie.Need-distances-from-requires
 distances-from-requires c κs = search rules
@@ -37,7 +37,7 @@ same_length c = search rules
 returns : tie.Need-returns
 returns c =
     let s = start c.before in
-    levels-marked (valid-well-formed s.pre.0) s.pre.1.0 (rw (sym c.before.is-marked.ensures ∙ c.if1.true) tt) c.before.before.before.before.distances-from.ensures
+    levels_marked (valid_well_formed s.pre.0) s.pre.1.0 (rw (sym c.before.is-marked.ensures ∙ c.if1.true) tt) c.before.before.before.before.distances-from.ensures
 
 from-marks-requires : tie.Need-from-marks-requires
 from-marks-requires c κs = search rules

@@ -3,11 +3,11 @@ use mathlib.Core.Path.{sym}
 use native.Mathlib.Omega.{arith}
 use borrow.Author.Rules.{rules}
 use borrow.Author.Tests.{eqb-true}
-use Rattle.model.specs.Model.{graphIn}
-use Rattle.table.proofs.Laws.{sameOutside-trans}
-use Rattle.current.specs.Current.{stateAt}
-use Rattle.goal_tables.proofs.TableLaws.{ground-sizes, ground-states, ground-agree, ground-kept, marked-done}
-use Rattle.goal_tables.proofs.AgreeLaws.{mark-agree, later-for, sooner-for}
+use Rattle.model.specs.Model.{graph_in}
+use Rattle.table.proofs.Laws.{same_outside_trans}
+use Rattle.current.specs.Current.{state_at}
+use Rattle.goal_tables.proofs.TableLaws.{ground_sizes, ground_states, ground_agree, ground_kept, marked_done}
+use Rattle.goal_tables.proofs.AgreeLaws.{mark_agree, later_for, sooner_for}
 use Rattle.goal_tables.proofs.make_tables.Statement.{statement}
 use Rattle.goal_tables.proofs.make_tables.Tie as tie
 
@@ -21,14 +21,14 @@ mark_of c = c.before.before
 last-mark-requires : tie.Need-last-mark-requires
 last-mark-requires c κs =
     let o = c.before.before.before.requires in
-    let sizes = ground-sizes o in
-    (o.prepared.valid, (omega arith, (omega arith, ground-states o)))
+    let sizes = ground_sizes o in
+    (o.prepared.valid, (omega arith, (omega arith, ground_states o)))
 
 make-later-requires : tie.Need-make-later-requires
 make-later-requires c κs = search rules
 
 add-if1 : tie.Need-overflow-add-if1
-add-if1 c = omega (arith, ground-sizes (start (mark_of c.before.before)).requires)
+add-if1 c = omega (arith, ground_sizes (start (mark_of c.before.before)).requires)
 
 same_length : tie.Need-same-length
 same_length c = search rules
@@ -43,7 +43,7 @@ returns c =
         mark = m.last-mark.result;
         last = m.last-mark.ensures;
         later = made.table;
-        sooner = marked-done s.pre m.last-mark.ensures (omega (arith, eqb-true, c.if1.true)) made;
+        sooner = marked_done s.pre m.last-mark.ensures (omega (arith, eqb-true, c.if1.true)) made;
       },
       made.outside,
     )
@@ -54,8 +54,8 @@ make-sooner-requires c κs =
     let m = mark_of l in
     let s = start m in
     let made = l.make-later.ensures in
-    let agree = ground-agree s.pre made.outside in
-    (ground-kept s.pre made.outside, (mark-agree (graphIn s.args.file.now s.args.h) (stateAt s.args.h s.args.work.now) (stateAt s.args.h l.make-later.new.1.1.0) agree m.last-mark.ensures, later-for agree made.table))
+    let agree = ground_agree s.pre made.outside in
+    (ground_kept s.pre made.outside, (mark_agree (graph_in s.args.file.now s.args.h) (state_at s.args.h s.args.work.now) (state_at s.args.h l.make-later.new.1.1.0) agree m.last-mark.ensures, later_for agree made.table))
 
 same-length-2 : tie.Need-same-length-2
 same-length-2 c = search rules
@@ -68,14 +68,14 @@ returns-2 c =
     let s = start m in
     let made = l.make-later.ensures in
     let then = k.make-sooner.ensures in
-    let agree = ground-agree s.pre made.outside in (
+    let agree = ground_agree s.pre made.outside in (
       record {
         mark = m.last-mark.result;
         last = m.last-mark.ensures;
-        later = later-for (λ i h. sym (agree i h)) then.later;
-        sooner = sooner-for (λ i h. sym (agree i h)) m.last-mark.ensures.low then.sooner;
+        later = later_for (λ i h. sym (agree i h)) then.later;
+        sooner = sooner_for (λ i h. sym (agree i h)) m.last-mark.ensures.low then.sooner;
       },
-      sameOutside-trans made.outside then.outside,
+      same_outside_trans made.outside then.outside,
     )
 
 pub make-tables-spec : {M : Type 1} → statement M

@@ -6,9 +6,9 @@ use borrow.Author.Rules.{rules}
 use lib.ListN.{length}
 use Rattle.outcomes.proofs.OutcomeLaws.{at_table}
 use Rattle.gate.specs.Gate.{GatePassed}
-use Rattle.gate.proofs.GateLaws.{gate-refused, gate-passed, entered-length, work-refused, work-left}
-use Rattle.grade.specs.Grade.{gradeOutcome}
-use Rattle.grade.proofs.GradeLaws.{grade-refused}
+use Rattle.gate.proofs.GateLaws.{gate_refused, gate_passed, entered_length, work_refused, work_left_lem}
+use Rattle.grade.specs.Grade.{grade_outcome}
+use Rattle.grade.proofs.GradeLaws.{grade_refused_lem}
 use Rattle.grade.proofs.grade.Statement.{statement}
 use Rattle.grade.proofs.grade.Tie as tie
 
@@ -26,7 +26,7 @@ passed : (c : tie.After-checked2)
 passed c =
     let entered = gate c.before.before in
     let a = (start entered).args in
-    gate-passed a.file.now a.mark-table (length a.work.now) entered.enter.ensures.0 c.checked2.given.1
+    gate_passed a.file.now a.mark-table (length a.work.now) entered.enter.ensures.0 c.checked2.given.1
 
 enter-requires : tie.Need-enter-requires
 enter-requires c κs = search rules
@@ -43,7 +43,7 @@ grade-of-model-requires c κs =
     let entered = gate accepted.before.before in
     let a = (start entered).args in
     let is = passed accepted in
-    (is.valid, omega (arith, is.room, entered-length a.mark-table a.work.now entered.enter.ensures.1))
+    (is.valid, omega (arith, is.room, entered_length a.mark-table a.work.now entered.enter.ensures.1))
 
 leave-requires : tie.Need-leave-requires
 leave-requires c κs = search rules
@@ -56,9 +56,9 @@ returns c =
     let refused = c.before in
     let entered = gate refused.before.before in
     let a = (start entered).args in
-    let broken = gate-refused a.file.now a.mark-table (length a.work.now) entered.enter.ensures.0 refused.checked.given.1 in (
-      sym (grade-refused a.file.now a.mark-table a.list.now a.k (length a.work.now) _ broken),
-      work-refused a.file.now a.mark-table a.work.now _ broken entered.enter.ensures.1,
+    let broken = gate_refused a.file.now a.mark-table (length a.work.now) entered.enter.ensures.0 refused.checked.given.1 in (
+      sym (grade_refused_lem a.file.now a.mark-table a.list.now a.k (length a.work.now) _ broken),
+      work_refused a.file.now a.mark-table a.work.now _ broken entered.enter.ensures.1,
     )
 
 same-length-2 : tie.Need-same-length-2
@@ -72,9 +72,9 @@ returns-2 c =
     let entered = gate accepted.before.before in
     let a = (start entered).args in
     let is = passed accepted in
-    let same = entered-length a.mark-table a.work.now entered.enter.ensures.1 in (
-      at_table (λ t n. gradeOutcome a.file.now t a.list.now a.k n) done.grade-of-model.ensures.0 is.named same,
-      work-left a.file.now a.mark-table a.work.now is.clear (done.grade-of-model.ensures.1 ∙ same) left.leave.ensures,
+    let same = entered_length a.mark-table a.work.now entered.enter.ensures.1 in (
+      at_table (λ t n. grade_outcome a.file.now t a.list.now a.k n) done.grade-of-model.ensures.0 is.named same,
+      work_left_lem a.file.now a.mark-table a.work.now is.clear (done.grade-of-model.ensures.1 ∙ same) left.leave.ensures,
     )
 
 pub grade-spec : {M : Type 1} → statement M

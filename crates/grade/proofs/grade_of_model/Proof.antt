@@ -3,13 +3,13 @@
 use mathlib.Core.Path.{◌≡◌, refl, sym, ◌∙◌, ap}
 use borrow.Author.Rules.{rules}
 use lib.ListN.{length}
-use Rattle.model.specs.Model.{graphIn}
-use Rattle.model.proofs.Laws.{valid-well-formed}
-use Rattle.paths.specs.Breaks.{breakOf}
+use Rattle.model.specs.Model.{graph_in}
+use Rattle.model.proofs.Laws.{valid_well_formed}
+use Rattle.paths.specs.Breaks.{break_of}
 use Rattle.grade_verdicts.specs.Verdict.{verdict}
-use Rattle.grade.specs.Grade.{verdictOf}
-use Rattle.grade_verdicts.proofs.AcceptLaws.{verdict-false}
-use Rattle.grade.proofs.GradeLaws.{accepts-broken, grade-answered}
+use Rattle.grade.specs.Grade.{verdict_of}
+use Rattle.grade_verdicts.proofs.AcceptLaws.{verdict_false}
+use Rattle.grade.proofs.GradeLaws.{accepts_broken, grade_answered}
 use Rattle.grade.proofs.grade_of_model.Statement.{statement}
 use Rattle.grade.proofs.grade_of_model.Tie as tie
 
@@ -30,17 +30,17 @@ verdict-of-requires : tie.Need-verdict-of-requires
 verdict-of-requires c κs =
     let looked = c.before.before.before in
     let s = start looked in
-    (s.pre.0, (s.pre.1, sym looked.first-break.ensures ∙ ap breakOf c.before.enum-told2.given.1))
+    (s.pre.0, (s.pre.1, sym looked.first-break.ensures ∙ ap break_of c.before.enum-told2.given.1))
 
 returns : tie.Need-returns
 returns c =
     let looked = c.before.before in
     let s = start looked in
     let a = s.args in
-    let g = graphIn a.file.now a.h in
-    let broken = sym looked.first-break.ensures ∙ ap breakOf c.enum_told.given.1 in
-    let no = verdict-false g a.list.now a.k (accepts-broken g (valid-well-formed s.pre.0) a.list.now a.k _ broken) in
-    (sym (grade-answered a.file.now a.h s.pre.0 a.list.now a.k (length a.work.now) s.pre.1 _ _ no (sym looked.first-break.ensures)), refl)
+    let g = graph_in a.file.now a.h in
+    let broken = sym looked.first-break.ensures ∙ ap break_of c.enum_told.given.1 in
+    let no = verdict_false g a.list.now a.k (accepts_broken g (valid_well_formed s.pre.0) a.list.now a.k _ broken) in
+    (sym (grade_answered a.file.now a.h s.pre.0 a.list.now a.k (length a.work.now) s.pre.1 _ _ no (sym looked.first-break.ensures)), refl)
 
 same_length : tie.Need-same-length
 same_length c = search rules
@@ -51,9 +51,9 @@ returns-2 c =
     let looked = graded.before.before.before.before in
     let s = start looked in
     let a = s.args in
-    let g = graphIn a.file.now a.h in
-    let tells : verdictOf graded.verdict-of.result ≡ verdict g a.list.now a.k = graded.verdict-of.ensures.0 in
-    (sym (grade-answered a.file.now a.h s.pre.0 a.list.now a.k (length a.work.now) s.pre.1 _ _ (sym tells) (sym looked.first-break.ensures)), graded.verdict-of.ensures.1)
+    let g = graph_in a.file.now a.h in
+    let tells : verdict_of graded.verdict-of.result ≡ verdict g a.list.now a.k = graded.verdict-of.ensures.0 in
+    (sym (grade_answered a.file.now a.h s.pre.0 a.list.now a.k (length a.work.now) s.pre.1 _ _ (sym tells) (sym looked.first-break.ensures)), graded.verdict-of.ensures.1)
 
 pub grade-of-model-spec : {M : Type 1} → statement M
 grade-of-model-spec =

@@ -4,9 +4,9 @@ use mathlib.Core.Bool.{true, false}
 use native.Mathlib.Omega.{arith}
 use borrow.Author.Rules.{rules}
 use borrow.Author.Tests.{not-true, not-false}
-use Rattle.model.specs.Model.{graphIn}
-use Rattle.grade_verdicts.specs.Verdict.{acceptsAt}
-use Rattle.grade_verdicts.proofs.AcceptLaws.{verdict-false, verdict-accepted, accepts-entries}
+use Rattle.model.specs.Model.{graph_in}
+use Rattle.grade_verdicts.specs.Verdict.{accepts_at}
+use Rattle.grade_verdicts.proofs.AcceptLaws.{verdict_false, verdict_accepted, accepts_entries}
 use Rattle.grade.proofs.verdict_of.Statement.{statement}
 use Rattle.grade.proofs.verdict_of.Tie as tie
 
@@ -20,7 +20,7 @@ tested c = c.before.before.before
 
 -- the list is accepted
 accepted : (c : tie.Else1)
-    → let a = (start (tested c)).args in acceptsAt (graphIn a.file.now a.h) a.list.now a.k ≡ true
+    → let a = (start (tested c)).args in accepts_at (graph_in a.file.now a.h) a.list.now a.k ≡ true
 accepted c = sym (tested c).accepts.ensures.0 ∙ not-false _ c.if1.false
 
 accepts-requires : tie.Need-accepts-requires
@@ -33,10 +33,10 @@ returns : tie.Need-returns
 returns c =
     let test = c.before.before.before in
     let a = (start test).args in
-    let g = graphIn a.file.now a.h in
-    let tells : test.accepts.result ≡ acceptsAt g a.list.now a.k = test.accepts.ensures.0 in
-    let no : acceptsAt g a.list.now a.k ≡ false = sym tells ∙ not-true test.accepts.result c.if1.true in
-    (sym (verdict-false g a.list.now a.k no), test.accepts.ensures.1)
+    let g = graph_in a.file.now a.h in
+    let tells : test.accepts.result ≡ accepts_at g a.list.now a.k = test.accepts.ensures.0 in
+    let no : accepts_at g a.list.now a.k ≡ false = sym tells ∙ not-true test.accepts.result c.if1.true in
+    (sym (verdict_false g a.list.now a.k no), test.accepts.ensures.1)
 
 is-least-requires : tie.Need-is-least-requires
 is-least-requires c κs =
@@ -46,7 +46,7 @@ is-least-requires c κs =
       s.pre.0,
       (
         omega (arith, s.pre.1.0, (tested passed).accepts.ensures.1),
-        accepts-entries (graphIn a.file.now a.h) a.list.now a.k (accepted passed),
+        accepts_entries (graph_in a.file.now a.h) a.list.now a.k (accepted passed),
       ),
     )
 
@@ -58,7 +58,7 @@ returns-2 c =
     let counted = c.before.before.before in
     let passed = counted.before.before in
     let a = (start (tested passed)).args in (
-      sym (verdict-accepted (graphIn a.file.now a.h) a.list.now a.k (accepted passed) _ (sym counted.is-least.ensures.0 ∙ not-true _ c.if2.true)),
+      sym (verdict_accepted (graph_in a.file.now a.h) a.list.now a.k (accepted passed) _ (sym counted.is-least.ensures.0 ∙ not-true _ c.if2.true)),
       counted.is-least.ensures.1 ∙ (tested passed).accepts.ensures.1,
     )
 
@@ -70,7 +70,7 @@ returns-3 c =
     let counted = c.before.before.before in
     let passed = counted.before.before in
     let a = (start (tested passed)).args in (
-      sym (verdict-accepted (graphIn a.file.now a.h) a.list.now a.k (accepted passed) _ (sym counted.is-least.ensures.0 ∙ not-false _ c.if2.false)),
+      sym (verdict_accepted (graph_in a.file.now a.h) a.list.now a.k (accepted passed) _ (sym counted.is-least.ensures.0 ∙ not-false _ c.if2.false)),
       counted.is-least.ensures.1 ∙ (tested passed).accepts.ensures.1,
     )
 

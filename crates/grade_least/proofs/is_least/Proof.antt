@@ -3,13 +3,13 @@ use mathlib.Core.Path.{◌≡◌, sym, subst}
 use native.Mathlib.Omega.{arith}
 use borrow.Author.Rules.{rules}
 use Rattle.lasso.specs.Graph.{edges}
-use Rattle.lasso.specs.Roll.{leastLength}
-use Rattle.lasso.proofs.RollLaws.{leastLength-range}
-use Rattle.model.specs.Model.{graphIn}
-use Rattle.model.proofs.Laws.{valid-sizes}
+use Rattle.lasso.specs.Roll.{least_length}
+use Rattle.lasso.proofs.RollLaws.{least_length_range}
+use Rattle.model.specs.Model.{graph_in}
+use Rattle.model.proofs.Laws.{valid_sizes}
 use Rattle.begun.specs.Begun.{AllRoundsSay}
 use Rattle.begun.specs.declared.AllRounds.{AllRounds}
-use Rattle.grade_verdicts.proofs.AcceptLaws.{least-none, least-same, least_other}
+use Rattle.grade_verdicts.proofs.AcceptLaws.{least_none, least_same, least_other}
 use Rattle.grade_least.proofs.is_least.Statement.{statement}
 use Rattle.grade_least.proofs.is_least.Tie as tie
 
@@ -21,8 +21,8 @@ abbrev done : tie.After-slice-known2 → tie.After-all-rounds
 done c = c.before.before
 
 -- what the answer of the rounds says, by its case
-says : (c : tie.After-all-rounds) (r : AllRounds) → c.all-rounds.result ≡ r → AllRoundsSay (graphIn (start c).args.file.now (start c).args.h) r
-says c r e = subst (AllRoundsSay (graphIn (start c).args.file.now (start c).args.h)) e c.all-rounds.ensures.0
+says : (c : tie.After-all-rounds) (r : AllRounds) → c.all-rounds.result ≡ r → AllRoundsSay (graph_in (start c).args.file.now (start c).args.h) r
+says c r e = subst (AllRoundsSay (graph_in (start c).args.file.now (start c).args.h)) e c.all-rounds.ensures.0
 
 -- the counts of entries, after the tests of the case
 abbrev counted : tie.After-struct-known2 → tie.After-entries
@@ -50,9 +50,9 @@ returns c =
     let rounds = done case.before.before in
     let s = start rounds in
     let a = s.args in
-    let least = (says rounds _ case.completed.given.1).least-is in
-    let range = leastLength-range (graphIn a.file.now a.h) _ least in (
-      sym (least_other (leastLength (graphIn a.file.now a.h)) _ least a.list.now s.pre.1.1 (λ e. omega (arith, c.if1.true, count.entries.ensures, e, range, valid-sizes s.pre.0))),
+    let least = (says rounds _ case.completed.given.1).least_is in
+    let range = least_length_range (graph_in a.file.now a.h) _ least in (
+      sym (least_other (least_length (graph_in a.file.now a.h)) _ least a.list.now s.pre.1.1 (λ e. omega (arith, c.if1.true, count.entries.ensures, e, range, valid_sizes s.pre.0))),
       rounds.all-rounds.ensures.1.1,
     )
 
@@ -63,7 +63,7 @@ returns-2 : tie.Need-returns-2
 returns-2 c =
     let rounds = done c.before.before in
     let a = (start rounds).args in
-    (sym (least-none (leastLength (graphIn a.file.now a.h)) (edges a.list.now) (says rounds _ c.enum_told.given.1).least-is), rounds.all-rounds.ensures.1.1)
+    (sym (least_none (least_length (graph_in a.file.now a.h)) (edges a.list.now) (says rounds _ c.enum_told.given.1).least_is), rounds.all-rounds.ensures.1.1)
 
 same-length-3 : tie.Need-same-length-3
 same-length-3 c = search rules
@@ -75,9 +75,9 @@ returns-3 c =
     let rounds = done case.before.before in
     let s = start rounds in
     let a = s.args in
-    let least = (says rounds _ case.completed.given.1).least-is in
-    let range = leastLength-range (graphIn a.file.now a.h) _ least in (
-      sym (least-same (leastLength (graphIn a.file.now a.h)) _ least a.list.now (omega (arith, c.if1.false, count.entries.ensures, range, valid-sizes s.pre.0))),
+    let least = (says rounds _ case.completed.given.1).least_is in
+    let range = least_length_range (graph_in a.file.now a.h) _ least in (
+      sym (least_same (least_length (graph_in a.file.now a.h)) _ least a.list.now (omega (arith, c.if1.false, count.entries.ensures, range, valid_sizes s.pre.0))),
       rounds.all-rounds.ensures.1.1,
     )
 

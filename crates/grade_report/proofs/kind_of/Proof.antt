@@ -2,8 +2,8 @@
 use mathlib.Core.Path.{sym, ap}
 use borrow.Author.Rules.{rules}
 use Rattle.grade.specs.declared.Verdict.{Verdict}
-use Rattle.grade.specs.Grade.{verdictOf}
-use Rattle.grade_report.specs.Grades.{verdictKind}
+use Rattle.grade.specs.Grade.{verdict_of}
+use Rattle.grade_report.specs.Grades.{verdict_kind}
 use Rattle.grade_report.proofs.kind_of.Statement.{statement}
 use Rattle.grade_report.proofs.kind_of.Tie as tie
 
@@ -17,13 +17,13 @@ enum-told-3 : tie.Need-enum-told-3
 enum-told-3 c = search rules
 
 returns : tie.Need-returns
-returns c = sym (ap (λ (v : Verdict). verdictKind (verdictOf v)) c.enum_told.given.1)
+returns c = sym (ap (λ (v : Verdict). verdict_kind (verdict_of v)) c.enum_told.given.1)
 
 returns-2 : tie.Need-returns-2
-returns-2 c = sym (ap (λ (v : Verdict). verdictKind (verdictOf v)) c.enum-told2.given.1)
+returns-2 c = sym (ap (λ (v : Verdict). verdict_kind (verdict_of v)) c.enum-told2.given.1)
 
 returns-3 : tie.Need-returns-3
-returns-3 c = sym (ap (λ (v : Verdict). verdictKind (verdictOf v)) c.enum-told3.given.1)
+returns-3 c = sym (ap (λ (v : Verdict). verdict_kind (verdict_of v)) c.enum-told3.given.1)
 
 pub kind-of-spec : {M : Type 1} → statement M
 kind-of-spec = tie.close (tie.spec enum_told enum-told-2 enum-told-3 returns returns-2 returns-3)

@@ -6,17 +6,17 @@ use lib.Seq.{set_split}
 use Rattle.paths.specs.declared.FirstBreak.{FirstBreak}
 use Rattle.grade.specs.declared.GradeAnswer.{GradeAnswer}
 use Rattle.grade.specs.declared.GradeAnswer.TheVariants.{Graded}
-use Rattle.grade.specs.Grade.{gradeOutcomeOf}
+use Rattle.grade.specs.Grade.{grade_outcome_of}
 use Rattle.figures.specs.Kinds.{Report}
-use Rattle.grade_report.specs.Grades.{gradeReport}
-use Rattle.figures.proofs.ReportLaws.{reports-known}
-use Rattle.grade_report.proofs.PlaceLaws.{place-known}
+use Rattle.grade_report.specs.Grades.{grade_report}
+use Rattle.figures.proofs.ReportLaws.{reports_known}
+use Rattle.grade_report.proofs.PlaceLaws.{place_known}
 use Rattle.grade_report.proofs.report_grade.Statement.{statement}
 use Rattle.grade_report.proofs.report_grade.Tie as tie
 
 -- the report of an answer of the code
-abbrev answerReport : GradeAnswer → Report
-answerReport a = gradeReport (gradeOutcomeOf a)
+abbrev answer_report : GradeAnswer → Report
+answer_report a = grade_report (grade_outcome_of a)
 
 -- the function's start, from its match
 abbrev start : tie.After-slice-known2 → tie.Start
@@ -51,8 +51,8 @@ returns c =
     let told = c.before in
     let a = (start told.before.before).args in
     let is = told.answer.given.1 in
-    let r = reports-known answerReport a.out.now is refl refl in
-    (r.0, (r.1, place-known a.place.now is refl))
+    let r = reports_known answer_report a.out.now is refl refl in
+    (r.0, (r.1, place_known a.place.now is refl))
 
 same_length : tie.Need-same-length
 same_length c = search rules
@@ -64,8 +64,8 @@ returns-2 c =
     let s = start given.before.before in
     let a = s.args in
     let is = given.answer2.given.1 ∙ ap (λ (b : FirstBreak). Graded given.answer2.given.0.0 b) c.enum_told.given.1 in
-    let r = reports-known answerReport a.out.now is graded.kind-of.ensures (set_split a.out.now 0 0 (omega (arith, s.pre.1))) in
-    (r.0, (r.1, place-known a.place.now is refl))
+    let r = reports_known answer_report a.out.now is graded.kind-of.ensures (set_split a.out.now 0 0 (omega (arith, s.pre.1))) in
+    (r.0, (r.1, place_known a.place.now is refl))
 
 same-length-2 : tie.Need-same-length-2
 same-length-2 c = search rules
@@ -81,8 +81,8 @@ returns-3 c =
     let s = start given.before.before in
     let a = s.args in
     let is = given.answer2.given.1 ∙ ap (λ (b : FirstBreak). Graded given.answer2.given.0.0 b) told.broken.given.1 in
-    let r = reports-known answerReport a.out.now is graded.kind-of.ensures (set_split a.out.now 0 1 (omega (arith, s.pre.1))) in
-    (r.0, (r.1, place-known a.place.now is (set_split a.place.now 0 told.broken.given.0.0 (omega (arith, s.pre.0)))))
+    let r = reports_known answer_report a.out.now is graded.kind-of.ensures (set_split a.out.now 0 1 (omega (arith, s.pre.1))) in
+    (r.0, (r.1, place_known a.place.now is (set_split a.place.now 0 told.broken.given.0.0 (omega (arith, s.pre.0)))))
 
 pub report-grade-spec : {M : Type 1} → statement M
 report-grade-spec =

@@ -3,9 +3,9 @@ use Prim.Native.Nat.{◌-◌, ◌≤◌, ◌<◌}
 use mathlib.Core.Path.{refl}
 use native.Mathlib.Omega.{arith}
 use borrow.Author.Rules.{rules}
-use Rattle.lists.proofs.Tests.{NoneOf, noneOf-more}
-use Rattle.model.specs.Model.{graphIn, steps_of}
-use Rattle.model.proofs.Laws.{valid-sizes, row-edge, row-none, row-state}
+use Rattle.lists.proofs.Tests.{NoneOf, none_of_more}
+use Rattle.model.specs.Model.{graph_in, steps_of}
+use Rattle.model.proofs.Laws.{valid_sizes, row_edge, row_none, row_state}
 use Rattle.looks.specs.Looks.{GoalAt}
 use Rattle.looks.proofs.closing_flag.Statement.{statement}
 use Rattle.looks.proofs.closing_flag.Tie as tie
@@ -20,22 +20,22 @@ abbrev start : tie.At-loop invariant-loop decreases-loop → tie.Start invariant
 start c = c.before.before.before.before.before.before.before
 
 -- the successor is a state
-successor-state : (c : tie.After-successor invariant-loop decreases-loop) → c.successor.result < (start c.before.before).args.h.states
-successor-state c =
+successor_state : (c : tie.After-successor invariant-loop decreases-loop) → c.successor.result < (start c.before.before).args.h.states
+successor_state c =
     let s = start c.before.before in
-    row-state s.args.s c.before.before.loop.k s.pre.0 c.before.before.before.before.row-part.ensures (omega arith) c.successor.ensures
+    row_state s.args.s c.before.before.loop.k s.pre.0 c.before.before.before.before.row-part.ensures (omega arith) c.successor.ensures
 
 mul-get : tie.Need-overflow-mul-get invariant-loop decreases-loop
-mul-get c = omega (arith, (valid-sizes c.before.before.requires.0).states-range)
+mul-get c = omega (arith, (valid_sizes c.before.before.requires.0).states_range)
 
 add-get : tie.Need-overflow-add-get invariant-loop decreases-loop
-add-get c = omega (arith, (valid-sizes c.before.before.requires.0).states-range)
+add-get c = omega (arith, (valid_sizes c.before.before.requires.0).states_range)
 
 get-requires : tie.Need-get-requires invariant-loop decreases-loop
 get-requires c κs = omega arith
 
 add-if1 : tie.Need-overflow-add-if1 invariant-loop decreases-loop
-add-if1 c = omega (arith, (valid-sizes c.before.before.before.requires.0).states-range)
+add-if1 c = omega (arith, (valid_sizes c.before.before.before.requires.0).states_range)
 
 returns : tie.Need-returns invariant-loop decreases-loop
 returns c = λ (level, x). omega (arith, c.if1.true, c.before.get.ensures.0, level)
@@ -55,7 +55,7 @@ successor-requires c κs = search rules
 is-goal-requires : tie.Need-is-goal-requires invariant-loop decreases-loop
 is-goal-requires c κs =
     let s = start c.before.before in
-    (omega (arith, s.pre.1.0), ((valid-sizes s.pre.0).states-range.1, (s.pre.1.1.1.0, successor-state c)))
+    (omega (arith, s.pre.1.0), ((valid_sizes s.pre.0).states_range.1, (s.pre.1.1.1.0, successor_state c)))
 
 returns-2 : tie.Need-returns-2 invariant-loop decreases-loop
 returns-2 c =
@@ -63,7 +63,7 @@ returns-2 c =
     let l = f.before.before in
     let s = start l in
     let e = l.before.before.before in
-    let edge = row-edge (graphIn s.args.file.now s.args.h) s.args.s l.loop.k l.before.before.row-part.ensures (omega (arith, f.before.loop-test.true, l.before.degree.ensures)) f.successor.ensures in
+    let edge = row_edge (graph_in s.args.file.now s.args.h) s.args.s l.loop.k l.before.before.row-part.ensures (omega (arith, f.before.loop-test.true, l.before.degree.ensures)) f.successor.ensures in
     ((omega (arith, e.if1.false, e.before.get.ensures.0), (f.successor.result, edge, rw c.if2.true at c.before.is-goal.ensures)), refl)
 
 add-k : tie.Need-overflow-add-k invariant-loop decreases-loop
@@ -78,7 +78,7 @@ loop-again c =
     let l = f.before.before in
     let a = (start l).args in (
       omega arith,
-      noneOf-more (GoalAt a.h.states a.h.start a.work.now a.bound) (steps_of a.h a.s l.before.before.row-part.result.now) l.loop.k f.successor.result
+      none_of_more (GoalAt a.h.states a.h.start a.work.now a.bound) (steps_of a.h a.s l.before.before.row-part.result.now) l.loop.k f.successor.result
           l.loop.invariant.1 f.successor.ensures (rw c.if2.false at c.before.is-goal.ensures),
     )
 
@@ -87,7 +87,7 @@ returns-3 c =
     let l = c.before in
     let a = (start l).args in
     λ (level, (y, edge, goal)).
-    row-none (GoalAt a.h.states a.h.start a.work.now a.bound) (graphIn a.file.now a.h) a.s l.loop.k y
+    row_none (GoalAt a.h.states a.h.start a.work.now a.bound) (graph_in a.file.now a.h) a.s l.loop.k y
     l.before.before.row-part.ensures (omega (arith, l.before.degree.ensures, c.loop-test.false)) l.loop.invariant.1 edge goal
 
 pub closing-flag-spec : {M : Type 1} → statement M

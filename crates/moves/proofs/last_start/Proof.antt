@@ -2,7 +2,7 @@
 use Prim.Native.Nat.{◌+◌, ◌-◌, ◌≤◌}
 use native.Mathlib.Omega.{arith}
 use mathlib.Core.Path.{refl}
-use Rattle.goals.proofs.LastLaws.{NoneFrom, scan-found, scan-more, scan-none}
+use Rattle.goals.proofs.LastLaws.{NoneFrom, scan_found, scan_more, scan_none}
 use Rattle.moves.specs.Moves.{LoopEntry}
 use Rattle.moves.proofs.last_start.Statement.{statement}
 use Rattle.moves.proofs.last_start.Tie as tie
@@ -36,7 +36,7 @@ returns : tie.Need-returns invariant-loop decreases-loop
 returns c =
     let l = c.before.before.before in
     let a = (start l).args in
-    scan-found (LoopEntry a.h.states a.h.start a.work.now) a.place l.loop.k (omega (arith, c.before.before.loop-test.true)) l.loop.invariant.0 l.loop.invariant.1 (rw c.if1.true at c.before.starts-at.ensures)
+    scan_found (LoopEntry a.h.states a.h.start a.work.now) a.place l.loop.k (omega (arith, c.before.before.loop-test.true)) l.loop.invariant.0 l.loop.invariant.1 (rw c.if1.true at c.before.starts-at.ensures)
 
 sub-k : tie.Need-overflow-sub-k invariant-loop decreases-loop
 sub-k c = omega (arith, c.before.before.loop-test.true)
@@ -48,13 +48,13 @@ loop-again : tie.Need-loop-preserved invariant-loop decreases-loop
 loop-again c =
     let l = c.before.before.before in
     let a = (start l).args in
-    (omega (arith, l.loop.invariant.0), scan-more (LoopEntry a.h.states a.h.start a.work.now) a.place l.loop.k (omega (arith, c.before.before.loop-test.true)) l.loop.invariant.1 (rw c.if1.false at c.before.starts-at.ensures))
+    (omega (arith, l.loop.invariant.0), scan_more (LoopEntry a.h.states a.h.start a.work.now) a.place l.loop.k (omega (arith, c.before.before.loop-test.true)) l.loop.invariant.1 (rw c.if1.false at c.before.starts-at.ensures))
 
 returns-2 : tie.Need-returns-2 invariant-loop decreases-loop
 returns-2 c =
     let l = c.before in
     let a = (start l).args in
-    scan-none (LoopEntry a.h.states a.h.start a.work.now) a.place l.loop.k 0 refl (omega (arith, c.loop-test.false)) l.loop.invariant.1
+    scan_none (LoopEntry a.h.states a.h.start a.work.now) a.place l.loop.k 0 refl (omega (arith, c.loop-test.false)) l.loop.invariant.1
 
 pub last-start-spec : {M : Type 1} → statement M
 last-start-spec =

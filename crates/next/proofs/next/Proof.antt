@@ -5,10 +5,10 @@ use native.Mathlib.Omega.{arith}
 use borrow.Author.Rules.{rules}
 use lib.ListN.{length}
 use Rattle.gate.specs.Gate.{GatePassed}
-use Rattle.outcomes.proofs.OutcomeLaws.{call-answer, at_table}
-use Rattle.gate.proofs.GateLaws.{gate-refused, gate-passed, entered-length, work-refused, work-left}
-use Rattle.next.specs.Next.{nextOutcome, nextAnswer}
-use Rattle.next.proofs.NextLaws.{next-refused}
+use Rattle.outcomes.proofs.OutcomeLaws.{call_answer, at_table}
+use Rattle.gate.proofs.GateLaws.{gate_refused, gate_passed, entered_length, work_refused, work_left_lem}
+use Rattle.next.specs.Next.{next_outcome, next_answer}
+use Rattle.next.proofs.NextLaws.{next_refused}
 use Rattle.next.proofs.next.Statement.{statement}
 use Rattle.next.proofs.next.Tie as tie
 
@@ -26,7 +26,7 @@ passed : (c : tie.After-checked2)
 passed c =
     let entered = gate c.before.before in
     let a = (start entered).args in
-    gate-passed a.file.now a.mark-table (length a.work.now) entered.enter.ensures.0 c.checked2.given.1
+    gate_passed a.file.now a.mark-table (length a.work.now) entered.enter.ensures.0 c.checked2.given.1
 
 enter-requires : tie.Need-enter-requires
 enter-requires c κs = search rules
@@ -43,7 +43,7 @@ next-of-model-requires c κs =
     let entered = gate accepted.before.before in
     let a = (start entered).args in
     let is = passed accepted in
-    (is.valid, omega (arith, is.room, entered-length a.mark-table a.work.now entered.enter.ensures.1))
+    (is.valid, omega (arith, is.room, entered_length a.mark-table a.work.now entered.enter.ensures.1))
 
 leave-requires : tie.Need-leave-requires
 leave-requires c κs = search rules
@@ -56,12 +56,12 @@ returns c =
     let refused = c.before in
     let entered = gate refused.before.before in
     let a = (start entered).args in
-    let broken = gate-refused a.file.now a.mark-table (length a.work.now) entered.enter.ensures.0 refused.checked.given.1 in
-    let is = next-refused a.file.now a.mark-table a.earlier.now (length a.answer.now) (length a.work.now) _ broken in (
-      sym is.outcome-is,
+    let broken = gate_refused a.file.now a.mark-table (length a.work.now) entered.enter.ensures.0 refused.checked.given.1 in
+    let is = next_refused a.file.now a.mark-table a.earlier.now (length a.answer.now) (length a.work.now) _ broken in (
+      sym is.outcome_is,
       (
-        sym (call-answer a.answer.now is),
-        work-refused a.file.now a.mark-table a.work.now _ broken entered.enter.ensures.1,
+        sym (call_answer a.answer.now is),
+        work_refused a.file.now a.mark-table a.work.now _ broken entered.enter.ensures.1,
       ),
     )
 
@@ -79,11 +79,11 @@ returns-2 c =
     let entered = gate accepted.before.before in
     let a = (start entered).args in
     let is = passed accepted in
-    let same = entered-length a.mark-table a.work.now entered.enter.ensures.1 in (
-      at_table (λ t n. nextOutcome a.file.now t a.earlier.now (length a.answer.now) n) done.next-of-model.ensures.0 is.named same,
+    let same = entered_length a.mark-table a.work.now entered.enter.ensures.1 in (
+      at_table (λ t n. next_outcome a.file.now t a.earlier.now (length a.answer.now) n) done.next-of-model.ensures.0 is.named same,
       (
-        at_table (λ t n. nextAnswer a.file.now t a.earlier.now a.answer.now n) done.next-of-model.ensures.1.0 is.named same,
-        work-left a.file.now a.mark-table a.work.now is.clear
+        at_table (λ t n. next_answer a.file.now t a.earlier.now a.answer.now n) done.next-of-model.ensures.1.0 is.named same,
+        work_left_lem a.file.now a.mark-table a.work.now is.clear
             (done.next-of-model.ensures.1.1 ∙ same) left.leave.ensures,
       ),
     )

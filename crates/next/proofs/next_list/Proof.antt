@@ -13,16 +13,16 @@ use lib.Seq.{length-take-le}
 use Rattle.lasso.specs.Graph.{Graph}
 use Rattle.lasso.specs.Roll.{roll}
 use Rattle.lasso.specs.Following.{following}
-use Rattle.model.specs.Model.{graphIn, graph_of}
-use Rattle.model.proofs.Laws.{valid-graph, valid-sizes, valid-well-formed}
-use Rattle.current.specs.Current.{listIn}
-use Rattle.outcomes.proofs.OutcomeLaws.{call-answer}
-use Rattle.gate.proofs.GateLaws.{valid-room}
-use Rattle.paths.proofs.LoopTests.{lassoOf}
+use Rattle.model.specs.Model.{graph_in, graph_of}
+use Rattle.model.proofs.Laws.{valid_graph, valid_sizes, valid_well_formed}
+use Rattle.current.specs.Current.{list_in}
+use Rattle.outcomes.proofs.OutcomeLaws.{call_answer}
+use Rattle.gate.proofs.GateLaws.{valid_room}
+use Rattle.paths.proofs.LoopTests.{lasso_of}
 use Rattle.cursor.proofs.TableLaws.{least_fits}
-use Rattle.cursor.proofs.CursorLaws.{moved_none, moved-some}
-use Rattle.next.specs.Next.{notShortest}
-use Rattle.next.proofs.NextLaws.{lassoOf-mem, notShortest-lasso, next-not-shortest, next-no-more, next-no-room, following-written}
+use Rattle.cursor.proofs.CursorLaws.{moved_none, moved_some}
+use Rattle.next.specs.Next.{not_shortest}
+use Rattle.next.proofs.NextLaws.{lasso_of_mem, not_shortest_lasso, next_not_shortest, next_no_more, next_no_room, following-written}
 use Rattle.next.proofs.next_list.Statement.{statement}
 use Rattle.next.proofs.next_list.Tie as tie
 
@@ -42,22 +42,22 @@ abbrev origin : tie.After-to-next → tie.Start
 origin c = start (tested (put c)).before
 
 -- the test of the earlier list
-list-tested : (c : tie.After-is-lasso)
-    → let a = (start c).args in lassoOf (graphIn a.file.now a.h) a.earlier.now a.transitions.0 ≡ c.is-lasso.result
-list-tested c = sym c.is-lasso.ensures
+list_tested : (c : tie.After-is-lasso)
+    → let a = (start c).args in lasso_of (graph_in a.file.now a.h) a.earlier.now a.transitions.0 ≡ c.is-lasso.result
+list_tested c = sym c.is-lasso.ensures
 
 -- the earlier list is in the roll
-in-roll : (c : tie.Else1) → let a = (start c.before).args in Memᴰ a.earlier.now (roll (graphIn a.file.now a.h))
-in-roll c =
+in_roll : (c : tie.Else1) → let a = (start c.before).args in Memᴰ a.earlier.now (roll (graph_in a.file.now a.h))
+in_roll c =
     let s = start c.before in
-    lassoOf-mem (graphIn s.args.file.now s.args.h) (valid-well-formed s.pre.0.valid) s.args.transitions.0 s.pre.1 s.args.earlier.now
-    (list-tested c.before ∙ not-false _ c.if1.false)
+    lasso_of_mem (graph_in s.args.file.now s.args.h) (valid_well_formed s.pre.0.valid) s.args.transitions.0 s.pre.1 s.args.earlier.now
+    (list_tested c.before ∙ not-false _ c.if1.false)
 
 -- the same of the file's graph
-in-file-roll : (c : tie.Else1) → let a = (start c.before).args in Memᴰ a.earlier.now (roll (graph_of a.file.now a.h.table))
-in-file-roll c =
+in_file_roll : (c : tie.Else1) → let a = (start c.before).args in Memᴰ a.earlier.now (roll (graph_of a.file.now a.h.table))
+in_file_roll c =
     let s = start c.before in
-    subst (λ (g : Graph). Memᴰ s.args.earlier.now (roll g)) (valid-graph s.pre.0.valid) (in-roll c)
+    subst (λ (g : Graph). Memᴰ s.args.earlier.now (roll g)) (valid_graph s.pre.0.valid) (in_roll c)
 
 -- the working table keeps its length
 kept : (c : tie.After-to-next) → length c.to-next.new.1.1.1.0 ≡ length (origin c).args.work.now
@@ -67,14 +67,14 @@ kept c = c.to-next.ensures.1 ∙ (put c).to-list.ensures.1
 follows : (c : tie.Else3)
     → let adv = c.before.before.before in
     let a = (origin adv).args in
-    following a.earlier.now (roll (graph_of a.file.now a.h.table)) ≡ some (listIn (graph_of a.file.now a.h.table).start adv.to-next.new.1.1.1.0 a.transitions.0)
+    following a.earlier.now (roll (graph_of a.file.now a.h.table)) ≡ some (list_in (graph_of a.file.now a.h.table).start adv.to-next.new.1.1.1.0 a.transitions.0)
 follows c =
     let adv = c.before.before.before in
     let s = origin adv in
     let a = s.args in
     let w = adv.to-next.new.1.1.1.0 in
-    subst (λ (g : Graph). following a.earlier.now (roll g) ≡ some (listIn g.start w a.transitions.0)) (valid-graph s.pre.0.valid)
-    (moved-some w adv.to-next.result (put adv).to-list.ensures.0 adv.to-next.ensures.0 (not-false _ c.if3.false))
+    subst (λ (g : Graph). following a.earlier.now (roll g) ≡ some (list_in g.start w a.transitions.0)) (valid_graph s.pre.0.valid)
+    (moved_some w adv.to-next.result (put adv).to-list.ensures.0 adv.to-next.ensures.0 (not-false _ c.if3.false))
 
 -- a list of the least length fits the table
 fits : (c : tie.After-to-next) → (origin c).args.transitions.0 ≤ length c.to-next.new.1.1.1.0
@@ -91,10 +91,10 @@ returns c =
     let a = s.args in
     let v = s.pre.0.valid in
     let apart =
-    subst (λ (g : Graph). notShortest g a.earlier.now ≡ true) (valid-graph v)
-    (notShortest-lasso (graphIn a.file.now a.h) (valid-well-formed v) a.transitions.0 s.pre.1 a.earlier.now (list-tested c.before ∙ not-true _ c.if1.true)) in
-    let is = next-not-shortest a.file.now a.h.table v.accepted v.table-limit a.earlier.now (length a.answer.now) (length a.work.now) (valid-room v s.pre.0.room) apart in
-    (sym is.outcome-is, (sym (call-answer a.answer.now is), refl))
+    subst (λ (g : Graph). not_shortest g a.earlier.now ≡ true) (valid_graph v)
+    (not_shortest_lasso (graph_in a.file.now a.h) (valid_well_formed v) a.transitions.0 s.pre.1 a.earlier.now (list_tested c.before ∙ not-true _ c.if1.true)) in
+    let is = next_not_shortest a.file.now a.h.table v.accepted v.table_limit a.earlier.now (length a.answer.now) (length a.work.now) (valid_room v s.pre.0.room) apart in
+    (sym is.outcome_is, (sym (call_answer a.answer.now is), refl))
 
 returns-2 : tie.Need-returns-2
 returns-2 c =
@@ -105,7 +105,7 @@ to-list-requires : tie.Need-to-list-requires
 to-list-requires c κs =
     let enough = c.before.before.before in
     let s = start enough.before in
-    (s.pre.0, (s.pre.1, in-roll enough))
+    (s.pre.0, (s.pre.1, in_roll enough))
 
 to-next-requires : tie.Need-to-next-requires
 to-next-requires c κs = c.before.before.before.to-list.ensures.0.placed
@@ -120,10 +120,10 @@ returns-3 c =
     let a = s.args in
     let v = s.pre.0.valid in
     let last =
-    subst (λ (g : Graph). following a.earlier.now (roll g) ≡ none) (valid-graph v)
+    subst (λ (g : Graph). following a.earlier.now (roll g) ≡ none) (valid_graph v)
     (moved_none adv.to-next.new.1.1.1.0 adv.to-next.result (put adv).to-list.ensures.0 adv.to-next.ensures.0 (not-true _ c.if3.true)) in
-    let is = next-no-more a.file.now a.h.table v.accepted v.table-limit a.earlier.now (length a.answer.now) (length a.work.now) (valid-room v s.pre.0.room) (in-file-roll (tested (put adv))) last in
-    (sym is.outcome-is, (sym (call-answer a.answer.now is), kept adv))
+    let is = next_no_more a.file.now a.h.table v.accepted v.table_limit a.earlier.now (length a.answer.now) (length a.work.now) (valid_room v s.pre.0.room) (in_file_roll (tested (put adv))) last in
+    (sym is.outcome_is, (sym (call_answer a.answer.now is), kept adv))
 
 entries-requires : tie.Need-entries-requires
 entries-requires c κs = search rules
@@ -140,8 +140,8 @@ returns-4 c =
     let a = s.args in
     let v = s.pre.0.valid in
     let long = length-take-le a.transitions.0 adv.to-next.new.1.1.1.0 (fits adv) in
-    let is = next-no-room a.file.now a.h.table v.accepted v.table-limit a.earlier.now (length a.answer.now) (length a.work.now) (valid-room v s.pre.0.room) (in-file-roll (tested (put adv))) _ (follows more) (omega (arith, long, counted.entries.ensures, c.if4.true)) in
-    (sym is.outcome-is, (sym (call-answer a.answer.now is), kept adv))
+    let is = next_no_room a.file.now a.h.table v.accepted v.table_limit a.earlier.now (length a.answer.now) (length a.work.now) (valid_room v s.pre.0.room) (in_file_roll (tested (put adv))) _ (follows more) (omega (arith, long, counted.entries.ensures, c.if4.true)) in
+    (sym is.outcome_is, (sym (call_answer a.answer.now is), kept adv))
 
 write-list-requires : tie.Need-write-list-requires
 write-list-requires c κs =
@@ -149,7 +149,7 @@ write-list-requires c κs =
     let counted = free.before.before.before in
     let adv = counted.before.before.before.before in
     let s = origin adv in
-    let sizes = valid-sizes s.pre.0.valid in
+    let sizes = valid_sizes s.pre.0.valid in
     omega (arith, fits adv, counted.entries.ensures, free.if4.false)
 
 cast-loop-start : tie.Need-overflow-cast-loop-start
@@ -172,8 +172,8 @@ returns-5 c =
     let a = s.args in
     let v = s.pre.0.valid in
     let is =
-    following-written a.file.now a.h.table v.accepted v.table-limit (length a.work.now) (valid-room v s.pre.0.room) a.earlier.now a.answer.now _ _ a.h.start a.transitions.0 wrote.write-list.result
-    (in-file-roll (tested (put adv))) (valid-sizes v).start_is (fits adv) (follows more) (omega (arith, counted.entries.ensures, free.if4.false))
+    following-written a.file.now a.h.table v.accepted v.table_limit (length a.work.now) (valid_room v s.pre.0.room) a.earlier.now a.answer.now _ _ a.h.start a.transitions.0 wrote.write-list.result
+    (in_file_roll (tested (put adv))) (valid_sizes v).start_is (fits adv) (follows more) (omega (arith, counted.entries.ensures, free.if4.false))
     wrote.write-list.ensures.0.0 wrote.write-list.ensures.1 in
     (is.0, (is.1, kept adv))
 

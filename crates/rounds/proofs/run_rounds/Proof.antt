@@ -4,20 +4,20 @@ use Prim.Native.Nat.{◌*◌, ◌-◌, ◌≤◌, ◌<◌}
 use mathlib.Core.Path.{sym, ◌∙◌}
 use mathlib.Core.Logic.{⊎_elim}
 use native.Mathlib.Omega.{arith}
-use Rattle.lasso.specs.Values.{recordOf}
-use Rattle.model.specs.Model.{graphIn}
-use Rattle.model.proofs.Laws.{valid-sizes}
+use Rattle.lasso.specs.Values.{record_of}
+use Rattle.model.specs.Model.{graph_in}
+use Rattle.model.proofs.Laws.{valid_sizes}
 use Rattle.table.specs.Changes.{SameOutside}
-use Rattle.table.proofs.Laws.{sameOutside-refl, sameOutside-trans}
-use Rattle.candidates.proofs.DistanceLaws.{ready-kept}
-use Rattle.candidates.proofs.CandidateLaws.{counted-left, counted-at}
-use Rattle.rounds.proofs.RecordLaws.{Underway, underway-none, underway-yes, underway-no, underway-stopped, underway-all}
+use Rattle.table.proofs.Laws.{same_outside_refl, same_outside_trans}
+use Rattle.candidates.proofs.DistanceLaws.{ready_kept}
+use Rattle.candidates.proofs.CandidateLaws.{counted_left, counted_at}
+use Rattle.rounds.proofs.RecordLaws.{Underway, underway_none, underway_yes, underway_no, underway_stopped, underway_all}
 use Rattle.rounds.proofs.run_rounds.Statement.{statement}
 use Rattle.rounds.proofs.run_rounds.Tie as tie
 
 abbrev invariant-loop : tie.invariant-loop
 invariant-loop file h work₀ ceiling allowance n record₀ s₀ work «record» s =
-    (s ≤ n) × SameOutside (2 * n) (6 * n) work₀ work × Underway (graphIn file h) ceiling.0 allowance s (recordOf «record»)
+    (s ≤ n) × SameOutside (2 * n) (6 * n) work₀ work × Underway (graph_in file h) ceiling.0 allowance s (record_of «record»)
 
 abbrev decreases-loop : tie.decreases-loop
 decreases-loop file h work₀ ceiling allowance n record₀ s₀ work «record» s = n - s
@@ -25,44 +25,44 @@ decreases-loop file h work₀ ceiling allowance n record₀ s₀ work «record»
 loop-holds : tie.Need-loop-init invariant-loop decreases-loop
 loop-holds c =
     let start = c.before.before in
-    (omega arith, sameOutside-refl _ _ _, underway-none (graphIn start.args.file.now start.args.h) start.args.ceiling.0 start.args.allowance)
+    (omega arith, same_outside_refl _ _ _, underway_none (graph_in start.args.file.now start.args.h) start.args.ceiling.0 start.args.allowance)
 
 -- the loop's turn, and the function's start, from where the state at hand is tested
-abbrev at-loop : tie.After-is-candidate invariant-loop decreases-loop → tie.At-loop invariant-loop decreases-loop
-at-loop c = c.before.before.before
+abbrev at_loop : tie.After-is-candidate invariant-loop decreases-loop → tie.At-loop invariant-loop decreases-loop
+at_loop c = c.before.before.before
 
 abbrev start : tie.After-is-candidate invariant-loop decreases-loop → tie.Start invariant-loop decreases-loop
-start c = (at-loop c).before.before.before
+start c = (at_loop c).before.before.before
 
 -- the state at hand is a state
-inside : (c : tie.After-is-candidate invariant-loop decreases-loop) → (at-loop c).loop.s < (graphIn (start c).args.file.now (start c).args.h).size
-inside c = let sizes = valid-sizes (start c).requires.valid in omega (arith, c.before.before.loop-test.true)
+inside : (c : tie.After-is-candidate invariant-loop decreases-loop) → (at_loop c).loop.s < (graph_in (start c).args.file.now (start c).args.h).size
+inside c = let sizes = valid_sizes (start c).requires.valid in omega (arith, c.before.before.loop-test.true)
 
 is-candidate-requires : tie.Need-is-candidate-requires invariant-loop decreases-loop
 is-candidate-requires c κs =
     let at = c.before.before in
-    (ready-kept at.before.before.before.requires at.loop.invariant.1, omega arith)
+    (ready_kept at.before.before.before.requires at.loop.invariant.1, omega arith)
 
 cast-done : tie.Need-overflow-cast-done invariant-loop decreases-loop
 cast-done c = omega arith
 
 same_length : tie.Need-same-length invariant-loop decreases-loop
-same_length c = (at-loop c.before.before.before).loop.inv.1.same_length
+same_length c = (at_loop c.before.before.before).loop.inv.1.same_length
 
 returns : tie.Need-returns invariant-loop decreases-loop
 returns c =
-    let inv = (at-loop c.before.before.before).loop.inv in
-    (underway-stopped (omega arith) inv.2, inv.1)
+    let inv = (at_loop c.before.before.before).loop.inv in
+    (underway_stopped (omega arith) inv.2, inv.1)
 
 after-round-requires : tie.Need-after-round-requires invariant-loop decreases-loop
 after-round-requires c κs =
     let then = c.before.before.before in
     let tested = then.before in
-    let inv = (at-loop tested).loop.invariant in
+    let inv = (at_loop tested).loop.invariant in
     let test = sym tested.is-candidate.ensures ∙ then.if1.true in
     let counted = inv.2.counted in (
-      ready-kept (start tested).requires inv.1,
-      (counted-left (inside tested) test counted, sym (counted-at (inside tested) test counted)),
+      ready_kept (start tested).requires inv.1,
+      (counted_left (inside tested) test counted, sym (counted_at (inside tested) test counted)),
     )
 
 add-s : tie.Need-overflow-add-s invariant-loop decreases-loop
@@ -76,14 +76,14 @@ loop-again c =
     let tested = c.before in
     let test = sym tested.is-candidate.ensures in
     let low = inside tested in
-    let (within, same, underway) = (at-loop tested).loop.invariant in
+    let (within, same, underway) = (at_loop tested).loop.invariant in
     ⊎_elim
     (λ w. (
       omega arith,
-      rw w.7 (sameOutside-trans same w.4.ensures.1),
-      rw w.8 (underway-yes low (test ∙ w.0.taken) (omega (arith, w.2.left)) w.4.ensures.0 underway),
+      rw w.7 (same_outside_trans same w.4.ensures.1),
+      rw w.8 (underway_yes low (test ∙ w.0.taken) (omega (arith, w.2.left)) w.4.ensures.0 underway),
     ))
-    (λ w. (omega arith, rw w.1 same, rw w.2 (underway-no low (test ∙ w.0.left) underway)))
+    (λ w. (omega arith, rw w.1 same, rw w.2 (underway_no low (test ∙ w.0.left) underway)))
     c.if1.branch
 
 same-length-2 : tie.Need-same-length-2 invariant-loop decreases-loop
@@ -91,8 +91,8 @@ same-length-2 c = c.before.loop.invariant.1.same_length
 
 returns-2 : tie.Need-returns-2 invariant-loop decreases-loop
 returns-2 c =
-    let sizes = valid-sizes c.before.before.before.before.requires.valid in
-    (underway-all (omega arith) c.before.loop.invariant.2, c.before.loop.invariant.1)
+    let sizes = valid_sizes c.before.before.before.before.requires.valid in
+    (underway_all (omega arith) c.before.loop.invariant.2, c.before.loop.invariant.1)
 
 pub run-rounds-spec : {M : Type 1} → statement M
 run-rounds-spec =

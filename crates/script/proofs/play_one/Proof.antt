@@ -1,8 +1,8 @@
 -- `play_one` meets its contract: the call that is made is the one that the first command asks for.
 use native.Mathlib.Omega.{arith}
 use mathlib.Core.Path.{refl}
-use Rattle.script_commands.proofs.CommandLaws.{list-there}
-use Rattle.script.proofs.AskedLaws.{called-copy, called-list, made-search}
+use Rattle.script_commands.proofs.CommandLaws.{list_there}
+use Rattle.script.proofs.AskedLaws.{called_copy, called_list, made_search}
 use Rattle.script_call.proofs.CallLaws.{made_as}
 use borrow.Author.Rules.{rules}
 use Rattle.script.proofs.play_one.Statement.{statement}
@@ -44,7 +44,7 @@ returns c =
     let three = then.before in
     let first = three.before.before in
     let a = (start first).args in
-    made-search a.script.now a.copy.now a.answer.now a.work.now first.number_at.ensures
+    made_search a.script.now a.copy.now a.answer.now a.work.now first.number_at.ensures
     three.before.number-at2.ensures done.play-search.ensures refl three.number-at3.ensures
     read.number-at4.ensures then.if1.true
 
@@ -68,7 +68,7 @@ returns-2 c =
     let second = else.before.before in
     let a = (start second.before).args in
     made_as
-    (called-copy a.script.now a.copy.now a.answer.now a.work.now second.before.number_at.ensures
+    (called_copy a.script.now a.copy.now a.answer.now a.work.now second.before.number_at.ensures
     second.number-at2.ensures else.if1.false (omega (arith, then.if2.true)))
     done.play-next.ensures
 
@@ -90,7 +90,7 @@ part-play-next-end c =
     let three = else.before in
     let first = three.before.before in
     let s = start first in
-    let there = list-there s.args.script.now s.pre.0 (λ e. omega (arith, else.if1.false, first.number_at.ensures)) (λ e. omega (arith, c.if2.false, first.number_at.ensures)) in
+    let there = list_there s.args.script.now s.pre.0 (λ e. omega (arith, else.if1.false, first.number_at.ensures)) (λ e. omega (arith, c.if2.false, first.number_at.ensures)) in
     omega (arith, there, three.number-at3.ensures)
 
 play-next-requires-2 : tie.Need-play-next-requires-2
@@ -114,7 +114,7 @@ returns-3 c =
     let first = three.before.before in
     let a = (start first).args in
     made_as
-    (called-list a.script.now a.copy.now a.answer.now a.work.now first.number_at.ensures
+    (called_list a.script.now a.copy.now a.answer.now a.work.now first.number_at.ensures
     three.before.number-at2.ensures three.number-at3.ensures else.if1.false last.if2.false)
     done.play-next2.ensures
 

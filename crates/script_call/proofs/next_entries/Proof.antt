@@ -1,5 +1,5 @@
 -- `next_entries` meets its contract, answer by answer.
-use Rattle.script_call.proofs.CallLaws.{next-entries-known}
+use Rattle.script_call.proofs.CallLaws.{next_entries_known}
 use borrow.Author.Rules.{rules}
 use Rattle.script_call.proofs.next_entries.Statement.{statement}
 use Rattle.script_call.proofs.next_entries.Tie as tie
@@ -22,7 +22,7 @@ returns c = search rules
 returns-2 : tie.Need-returns-2
 returns-2 c =
     let told = c.before.before in
-    next-entries-known told.answer.given.1 c.entries.ensures
+    next_entries_known told.answer.given.1 c.entries.ensures
 
 returns-3 : tie.Need-returns-3
 returns-3 c = search rules

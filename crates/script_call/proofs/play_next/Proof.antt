@@ -2,9 +2,9 @@
 use native.Mathlib.Omega.{arith}
 use mathlib.Core.Path.{ap}
 use lib.ListN.{length}
-use Rattle.next.specs.Next.{nextOutcomeOf, nextOutcome}
+use Rattle.next.specs.Next.{next_outcome_of, next_outcome}
 use Rattle.sequence.specs.Calls as calls
-use Rattle.script_call.proofs.CallLaws.{call-made}
+use Rattle.script_call.proofs.CallLaws.{call_made}
 use borrow.Author.Rules.{rules}
 use Rattle.script_call.proofs.play_next.Statement.{statement}
 use Rattle.script_call.proofs.play_next.Tie as tie
@@ -43,8 +43,8 @@ returns c =
     let done = reported.before.before.before.before.before.before in
     let s = done.before.before.before.before.before.before.before.before in
     let a = s.args in
-    call-made a.file.now (calls.next a.mark-table a.earlier.now a.answer.now a.work.now) a.place (calls.ofNext (nextOutcomeOf done.next.result))
-    (ap calls.ofNext {y = nextOutcome a.file.now a.mark-table a.earlier.now (length a.answer.now) (length a.work.now)} done.next.ensures.0) done.next.ensures.1.0 done.next.ensures.1.1 (omega arith)
+    call_made a.file.now (calls.next a.mark-table a.earlier.now a.answer.now a.work.now) a.place (calls.of_next (next_outcome_of done.next.result))
+    (ap calls.of_next {y = next_outcome a.file.now a.mark-table a.earlier.now (length a.answer.now) (length a.work.now)} done.next.ensures.0) done.next.ensures.1.0 done.next.ensures.1.1 (omega arith)
     reported.report-next.ensures.0 reported.report-next.ensures.1 logged.put-row.ensures c.next-entries.ensures
 
 pub play-next-spec : {M : Type 1} → statement M

@@ -2,9 +2,9 @@
 use native.Mathlib.Omega.{arith}
 use mathlib.Core.Path.{ap}
 use lib.ListN.{length}
-use Rattle.search.specs.Search.{searchOutcomeOf, searchOutcome}
+use Rattle.search.specs.Search.{search_outcome_of, search_outcome}
 use Rattle.sequence.specs.Calls as calls
-use Rattle.script_call.proofs.CallLaws.{call-made}
+use Rattle.script_call.proofs.CallLaws.{call_made}
 use borrow.Author.Rules.{rules}
 use Rattle.script_call.proofs.play_search.Statement.{statement}
 use Rattle.script_call.proofs.play_search.Tie as tie
@@ -43,8 +43,8 @@ returns c =
     let done = reported.before.before.before.before.before.before in
     let s = done.before.before.before.before.before.before.before in
     let a = s.args in
-    call-made a.file.now (calls.search a.ask a.answer.now a.work.now) a.place (calls.ofSearch (searchOutcomeOf done.search.result))
-    (ap calls.ofSearch {y = searchOutcome a.file.now a.ask (length a.answer.now) (length a.work.now)} done.search.ensures.0) done.search.ensures.1.0 done.search.ensures.1.1 (omega arith)
+    call_made a.file.now (calls.search a.ask a.answer.now a.work.now) a.place (calls.of_search (search_outcome_of done.search.result))
+    (ap calls.of_search {y = search_outcome a.file.now a.ask (length a.answer.now) (length a.work.now)} done.search.ensures.0) done.search.ensures.1.0 done.search.ensures.1.1 (omega arith)
     reported.report-search.ensures.0 reported.report-search.ensures.1 logged.put-row.ensures c.search-entries.ensures
 
 pub play-search-spec : {M : Type 1} → statement M

@@ -1,7 +1,7 @@
 -- `put_row` meets its contract: the four numbers stand one after another.
 use native.Mathlib.Omega.{arith}
 use lib.ListN.{length-set}
-use Rattle.script_call.proofs.CallLaws.{row-stored}
+use Rattle.script_call.proofs.CallLaws.{row_stored}
 use borrow.Author.Rules.{rules}
 use Rattle.script_call.proofs.put_row.Statement.{statement}
 use Rattle.script_call.proofs.put_row.Tie as tie
@@ -54,7 +54,7 @@ same_length c = search rules
 returns : tie.Need-returns
 returns c =
     let s = c.before.before.before in
-    row-stored s.args.log.now s.args.figures.now s.args.place s.args.kind s.requires.0 s.requires.1
+    row_stored s.args.log.now s.args.figures.now s.args.place s.args.kind s.requires.0 s.requires.1
 
 pub put-row-spec : {M : Type 1} → statement M
 put-row-spec =

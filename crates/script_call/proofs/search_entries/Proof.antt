@@ -1,5 +1,5 @@
 -- `search_entries` meets its contract, answer by answer.
-use Rattle.script_call.proofs.CallLaws.{search-entries-known}
+use Rattle.script_call.proofs.CallLaws.{search_entries_known}
 use borrow.Author.Rules.{rules}
 use Rattle.script_call.proofs.search_entries.Statement.{statement}
 use Rattle.script_call.proofs.search_entries.Tie as tie
@@ -28,7 +28,7 @@ returns-2 c = search rules
 returns-3 : tie.Need-returns-3
 returns-3 c =
     let told = c.before.before in
-    search-entries-known told.answer.given.1 c.entries.ensures
+    search_entries_known told.answer.given.1 c.entries.ensures
 
 returns-4 : tie.Need-returns-4
 returns-4 c = search rules

@@ -7,18 +7,18 @@ use native.Mathlib.Omega.{arith}
 use borrow.Author.Rules.{rules}
 use lib.ListN.{length}
 use Rattle.lasso.specs.Graph.{Graph}
-use Rattle.lasso.specs.Roll.{leastLength, roll}
+use Rattle.lasso.specs.Roll.{least_length, roll}
 use Rattle.lasso.specs.Rounds.{candidates}
-use Rattle.lasso.proofs.RollLaws.{leastLength-range}
-use Rattle.model.specs.Model.{graphIn, graph_of}
-use Rattle.model.proofs.Laws.{valid-graph, valid-sizes}
+use Rattle.lasso.proofs.RollLaws.{least_length_range}
+use Rattle.model.specs.Model.{graph_in, graph_of}
+use Rattle.model.proofs.Laws.{valid_graph, valid_sizes}
 use Rattle.outcomes.specs.Outcome.{refused}
-use Rattle.outcomes.proofs.OutcomeLaws.{call-answer}
-use Rattle.gate.proofs.GateLaws.{valid-room}
-use Rattle.current.specs.Current.{listIn}
-use Rattle.cursor.proofs.RollPlaces.{stands-head}
-use Rattle.search.specs.Search.{graphAsked, WithEnough}
-use Rattle.search.proofs.SearchLaws.{SearchIs, search-no-room, first-written}
+use Rattle.outcomes.proofs.OutcomeLaws.{call_answer}
+use Rattle.gate.proofs.GateLaws.{valid_room}
+use Rattle.current.specs.Current.{list_in}
+use Rattle.cursor.proofs.RollPlaces.{stands_head}
+use Rattle.search.specs.Search.{graph_asked, WithEnough}
+use Rattle.search.proofs.SearchLaws.{SearchIs, search_no_room, first_written}
 use Rattle.search.proofs.first_list.Statement.{statement}
 use Rattle.search.proofs.first_list.Tie as tie
 
@@ -32,8 +32,8 @@ roomy c = c.before.before
 returns : tie.Need-returns
 returns c =
     let s = c.before.before.before.before.before in
-    let sizes = valid-sizes s.requires.0.valid in
-    absurd (omega (arith, leastLength-range (graphIn s.args.file.now s.args.h) s.args.transitions.0 s.requires.1.0, c.if1.true))
+    let sizes = valid_sizes s.requires.0.valid in
+    absurd (omega (arith, least_length_range (graph_in s.args.file.now s.args.h) s.args.transitions.0 s.requires.1.0, c.if1.true))
 
 entries-requires : tie.Need-entries-requires
 entries-requires c κs = search rules
@@ -44,16 +44,16 @@ returns-2 c =
     let s = start counted in
     let a = s.args in
     let v = s.pre.0.valid in
-    let least = subst (λ (g : Graph). leastLength g ≡ some a.transitions.0) (valid-graph v) s.pre.1.0 in
-    let rounds-are = subst (λ (g : Graph). a.rounds ≡ length (candidates g)) (valid-graph v) s.pre.1.1 in
+    let least = subst (λ (g : Graph). least_length g ≡ some a.transitions.0) (valid_graph v) s.pre.1.0 in
+    let rounds_are = subst (λ (g : Graph). a.rounds ≡ length (candidates g)) (valid_graph v) s.pre.1.1 in
     let asked : WithEnough a.h.table a.rounds a.transitions.0 (λ ask.
-    (leastLength (graphAsked a.file.now ask) ≡ some a.transitions.0) × (a.rounds ≡ length (candidates (graphAsked a.file.now ask)))) =
-    λ ask asks. subst (λ (g : Graph). (leastLength g ≡ some a.transitions.0) × (a.rounds ≡ length (candidates g)))
-    (ap (graph_of a.file.now) (sym asks.named)) (least, rounds-are) in
+    (least_length (graph_asked a.file.now ask) ≡ some a.transitions.0) × (a.rounds ≡ length (candidates (graph_asked a.file.now ask)))) =
+    λ ask asks. subst (λ (g : Graph). (least_length g ≡ some a.transitions.0) × (a.rounds ≡ length (candidates g)))
+    (ap (graph_of a.file.now) (sym asks.named)) (least, rounds_are) in
     let is : WithEnough a.h.table a.rounds a.transitions.0 (λ ask. SearchIs a.file.now ask (length a.answer.now) (length a.work.now) (refused 15) none) =
-    λ ask asks. search-no-room a.file.now v.accepted ask (length a.answer.now) (length a.work.now) (valid-room v s.pre.0.room) (omega (arith, v.table-limit, asks.named)) asks.not-high (omega (arith, (asked ask asks).1, asks.allowed)) a.transitions.0 (asked ask asks).0 asks.within (omega (arith, counted.entries.ensures, c.if2.true)) in (
-      λ ask asks. sym (is ask asks).outcome-is,
-      (λ ask asks. sym (call-answer a.answer.now (is ask asks)), refl),
+    λ ask asks. search_no_room a.file.now v.accepted ask (length a.answer.now) (length a.work.now) (valid_room v s.pre.0.room) (omega (arith, v.table_limit, asks.named)) asks.not_high (omega (arith, (asked ask asks).1, asks.allowed)) a.transitions.0 (asked ask asks).0 asks.within (omega (arith, counted.entries.ensures, c.if2.true)) in (
+      λ ask asks. sym (is ask asks).outcome_is,
+      (λ ask asks. sym (call_answer a.answer.now (is ask asks)), refl),
     )
 
 to-first-requires : tie.Need-to-first-requires
@@ -64,8 +64,8 @@ write-list-requires c κs =
     let listed = c.before.before.before.before in
     let entered = (roomy listed).before.before.before in
     let s = start entered in
-    let sizes = valid-sizes s.pre.0.valid in
-    omega (arith, leastLength-range (graphIn s.args.file.now s.args.h) s.args.transitions.0 s.pre.1.0, s.pre.0.room, listed.to-first.ensures.1, entered.entries.ensures, (roomy listed).if2.false)
+    let sizes = valid_sizes s.pre.0.valid in
+    omega (arith, least_length_range (graph_in s.args.file.now s.args.h) s.args.transitions.0 s.pre.1.0, s.pre.0.room, listed.to-first.ensures.1, entered.entries.ensures, (roomy listed).if2.false)
 
 cast-loop-start : tie.Need-overflow-cast-loop-start
 cast-loop-start c = search rules
@@ -84,16 +84,16 @@ returns-3 c =
     let s = start entered in
     let a = s.args in
     let v = s.pre.0.valid in
-    let sizes = valid-sizes v in
-    let range = leastLength-range (graphIn a.file.now a.h) a.transitions.0 s.pre.1.0 in
+    let sizes = valid_sizes v in
+    let range = least_length_range (graph_in a.file.now a.h) a.transitions.0 s.pre.1.0 in
     let kept = listed.to-first.ensures.1 in
-    let rounds-are = subst (λ (g : Graph). a.rounds ≡ length (candidates g)) (valid-graph v) s.pre.1.1 in
-    let least = subst (λ (g : Graph). leastLength g ≡ some a.transitions.0) (valid-graph v) s.pre.1.0 in
-    let first = subst (λ (g : Graph). head? (roll g) ≡ some (listIn g.start listed.to-first.new.1.1.1.0 a.transitions.0)) (valid-graph v) (stands-head listed.to-first.ensures.0.current) in
+    let rounds_are = subst (λ (g : Graph). a.rounds ≡ length (candidates g)) (valid_graph v) s.pre.1.1 in
+    let least = subst (λ (g : Graph). least_length g ≡ some a.transitions.0) (valid_graph v) s.pre.1.0 in
+    let first = subst (λ (g : Graph). head? (roll g) ≡ some (list_in g.start listed.to-first.new.1.1.1.0 a.transitions.0)) (valid_graph v) (stands_head listed.to-first.ensures.0.current) in
     let both =
-    first-written a.file.now a.h.table v.accepted v.table-limit (length a.work.now) (valid-room v s.pre.0.room) a.answer.now _ _ a.h.start a.transitions.0 wrote.write-list.result a.rounds
+    first_written a.file.now a.h.table v.accepted v.table_limit (length a.work.now) (valid_room v s.pre.0.room) a.answer.now _ _ a.h.start a.transitions.0 wrote.write-list.result a.rounds
     sizes.start_is (omega (arith, kept, s.pre.0.room)) least first (omega (arith, entered.entries.ensures, (roomy listed).if2.false))
-    wrote.write-list.ensures.0.0 rounds-are wrote.write-list.ensures.1 in
+    wrote.write-list.ensures.0.0 rounds_are wrote.write-list.ensures.1 in
     (λ ask asks. (both ask asks).0, (λ ask asks. (both ask asks).1, kept))
 
 pub first-list-spec : {M : Type 1} → statement M

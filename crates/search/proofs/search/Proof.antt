@@ -5,10 +5,10 @@ use native.Mathlib.Omega.{arith}
 use borrow.Author.Rules.{rules}
 use lib.ListN.{length}
 use Rattle.gate.specs.Gate.{GatePassed}
-use Rattle.outcomes.proofs.OutcomeLaws.{call-answer, at_length}
-use Rattle.gate.proofs.GateLaws.{gate-refused, gate-passed, entered-length, work-refused, work-left}
-use Rattle.search.specs.Search.{searchOutcome, searchAnswer}
-use Rattle.search.proofs.SearchLaws.{search-refused}
+use Rattle.outcomes.proofs.OutcomeLaws.{call_answer, at_length}
+use Rattle.gate.proofs.GateLaws.{gate_refused, gate_passed, entered_length, work_refused, work_left_lem}
+use Rattle.search.specs.Search.{search_outcome, search_answer}
+use Rattle.search.proofs.SearchLaws.{search_refused}
 use Rattle.search.proofs.search.Statement.{statement}
 use Rattle.search.proofs.search.Tie as tie
 
@@ -26,7 +26,7 @@ passed : (c : tie.After-checked2)
 passed c =
     let entered = gate c.before.before in
     let a = (start entered).args in
-    gate-passed a.file.now a.ask.table (length a.work.now) entered.enter.ensures.0 c.checked2.given.1
+    gate_passed a.file.now a.ask.table (length a.work.now) entered.enter.ensures.0 c.checked2.given.1
 
 enter-requires : tie.Need-enter-requires
 enter-requires c κs = search rules
@@ -43,7 +43,7 @@ search-model-requires c κs =
     let entered = gate accepted.before.before in
     let a = (start entered).args in
     let is = passed accepted in
-    ((is.valid, is.named), omega (arith, is.room, entered-length a.ask.table a.work.now entered.enter.ensures.1))
+    ((is.valid, is.named), omega (arith, is.room, entered_length a.ask.table a.work.now entered.enter.ensures.1))
 
 leave-requires : tie.Need-leave-requires
 leave-requires c κs = search rules
@@ -56,12 +56,12 @@ returns c =
     let refused = c.before in
     let entered = gate refused.before.before in
     let a = (start entered).args in
-    let broken = gate-refused a.file.now a.ask.table (length a.work.now) entered.enter.ensures.0 refused.checked.given.1 in
-    let is = search-refused a.file.now a.ask (length a.answer.now) (length a.work.now) _ broken in (
-      sym is.outcome-is,
+    let broken = gate_refused a.file.now a.ask.table (length a.work.now) entered.enter.ensures.0 refused.checked.given.1 in
+    let is = search_refused a.file.now a.ask (length a.answer.now) (length a.work.now) _ broken in (
+      sym is.outcome_is,
       (
-        sym (call-answer a.answer.now is),
-        work-refused a.file.now a.ask.table a.work.now _ broken entered.enter.ensures.1,
+        sym (call_answer a.answer.now is),
+        work_refused a.file.now a.ask.table a.work.now _ broken entered.enter.ensures.1,
       ),
     )
 
@@ -78,11 +78,11 @@ returns-2 c =
     let accepted = done.before.before.before.before in
     let entered = gate accepted.before.before in
     let a = (start entered).args in
-    let same = entered-length a.ask.table a.work.now entered.enter.ensures.1 in (
-      at_length (λ n. searchOutcome a.file.now a.ask (length a.answer.now) n) done.search-model.ensures.0 same,
+    let same = entered_length a.ask.table a.work.now entered.enter.ensures.1 in (
+      at_length (λ n. search_outcome a.file.now a.ask (length a.answer.now) n) done.search-model.ensures.0 same,
       (
-        at_length (λ n. searchAnswer a.file.now a.ask a.answer.now n) done.search-model.ensures.1.0 same,
-        work-left a.file.now a.ask.table a.work.now (passed accepted).clear
+        at_length (λ n. search_answer a.file.now a.ask a.answer.now n) done.search-model.ensures.1.0 same,
+        work_left_lem a.file.now a.ask.table a.work.now (passed accepted).clear
             (done.search-model.ensures.1.1 ∙ same) left.leave.ensures,
       ),
     )

@@ -8,19 +8,19 @@ use borrow.Author.Rules.{rules}
 use borrow.Author.Tests.{ltb-true, ltb-false}
 use lib.ListN.{length}
 use Rattle.lasso.specs.Graph.{Graph}
-use Rattle.lasso.specs.Roll.{ofLeast}
+use Rattle.lasso.specs.Roll.{of_least}
 use Rattle.lasso.specs.Rounds.{Record}
-use Rattle.format.specs.Rules.{firstBroken}
-use Rattle.gate.specs.Gate.{namedRules}
-use Rattle.model.specs.Model.{graphIn}
-use Rattle.outcomes.proofs.OutcomeLaws.{call-answer, at_length}
-use Rattle.gate.proofs.GateLaws.{named-graph, valid-room, valid-clear}
+use Rattle.format.specs.Rules.{first_broken}
+use Rattle.gate.specs.Gate.{named_rules}
+use Rattle.model.specs.Model.{graph_in}
+use Rattle.outcomes.proofs.OutcomeLaws.{call_answer, at_length}
+use Rattle.gate.proofs.GateLaws.{named_graph, valid_room, valid_clear}
 use Rattle.begun.specs.Begun.{BegunSays}
 use Rattle.begun.specs.declared.Begun.{Begun}
-use Rattle.begun.proofs.BegunLaws.{begun-least}
+use Rattle.begun.proofs.BegunLaws.{begun_least}
 use Rattle.outcomes.specs.Outcome.{answered}
-use Rattle.search.specs.Search.{stopped, noneWithin, graphAsked, searchOutcome, searchAnswer, AsksEnough}
-use Rattle.search.proofs.SearchLaws.{search-too-high, search-stopped, search-none}
+use Rattle.search.specs.Search.{stopped, none_within, graph_asked, search_outcome, search_answer, AsksEnough}
+use Rattle.search.proofs.SearchLaws.{search_too_high, search_stopped, search_none}
 use Rattle.search.proofs.search_model.Statement.{statement}
 use Rattle.search.proofs.search_model.Tie as tie
 
@@ -35,33 +35,33 @@ abbrev done : tie.After-slice-known3 → tie.After-begin
 done c = c.before.before
 
 -- the ceiling is not too high
-not-high : (c : tie.After-begin) → (start c).args.ask.ceiling.0 ≤ 4096
-not-high c = ltb-false 4096 _ (sym (low c).before.ceiling-too-high.ensures ∙ (low c).if1.false)
+not_high : (c : tie.After-begin) → (start c).args.ask.ceiling.0 ≤ 4096
+not_high c = ltb-false 4096 _ (sym (low c).before.ceiling-too-high.ensures ∙ (low c).if1.false)
 
 -- the graph read by the header is the one that the search is about
-asked-graph : (s : tie.Start) → graphIn s.args.file.now s.args.h ≡ graphAsked s.args.file.now s.args.ask
-asked-graph s = named-graph s.requires.0.0 s.requires.0.1
+asked_graph : (s : tie.Start) → graph_in s.args.file.now s.args.h ≡ graph_asked s.args.file.now s.args.ask
+asked_graph s = named_graph s.requires.0.0 s.requires.0.1
 
 -- the search names mark table 0 or 1
-asked-one : (s : tie.Start) → s.args.ask.table ≤ 1
-asked-one s = omega (arith, s.requires.0.0.table-limit, s.requires.0.1)
+asked_one : (s : tie.Start) → s.args.ask.table ≤ 1
+asked_one s = omega (arith, s.requires.0.0.table_limit, s.requires.0.1)
 
 -- what an answer of the rounds says, by its case
 says : (c : tie.After-begin) (r : Begun) → c.begin.result ≡ r
-    → BegunSays (graphIn (start c).args.file.now (start c).args.h) (start c).args.ask.ceiling.0 (start c).args.ask.allowance r
+    → BegunSays (graph_in (start c).args.file.now (start c).args.h) (start c).args.ask.ceiling.0 (start c).args.ask.allowance r
 says c r e = rw e at c.begin.ensures.0
 
 -- the same of the graph of the file that the search is about
-says-file : (c : tie.After-begin) (r : Begun) → c.begin.result ≡ r
-    → BegunSays (graphAsked (start c).args.file.now (start c).args.ask) (start c).args.ask.ceiling.0 (start c).args.ask.allowance r
-says-file c r e =
-    subst (λ (g : Graph). BegunSays g (start c).args.ask.ceiling.0 (start c).args.ask.allowance r) (asked-graph (start c)) (says c r e)
+says_file : (c : tie.After-begin) (r : Begun) → c.begin.result ≡ r
+    → BegunSays (graph_asked (start c).args.file.now (start c).args.ask) (start c).args.ask.ceiling.0 (start c).args.ask.allowance r
+says_file c r e =
+    subst (λ (g : Graph). BegunSays g (start c).args.ask.ceiling.0 (start c).args.ask.allowance r) (asked_graph (start c)) (says c r e)
 
 -- none of 22 and 1 to 12 holds
-asked-clear : (s : tie.Start) → firstBroken (namedRules s.args.file.now s.args.ask.table (length s.args.work.now)) ≡ none
-asked-clear s =
+asked_clear : (s : tie.Start) → first_broken (named_rules s.args.file.now s.args.ask.table (length s.args.work.now)) ≡ none
+asked_clear s =
     let work = length s.args.work.now in
-    subst (λ (t : ℕ). firstBroken (namedRules s.args.file.now t work) ≡ none) s.requires.0.1 (valid-clear s.requires.0.0 work s.requires.1)
+    subst (λ (t : ℕ). first_broken (named_rules s.args.file.now t work) ≡ none) s.requires.0.1 (valid_clear s.requires.0.0 work s.requires.1)
 
 ceiling-too-high-requires : tie.Need-ceiling-too-high-requires
 ceiling-too-high-requires c κs = search rules
@@ -71,8 +71,8 @@ returns c =
     let s = c.before.before.before.before.before in
     let a = s.args in
     let high = ltb-true 4096 _ (sym c.before.ceiling-too-high.ensures ∙ c.if1.true) in
-    let is = search-too-high a.file.now a.ask (length a.answer.now) (length a.work.now) (asked-clear s) high in
-    (sym is.outcome-is, (sym (call-answer a.answer.now is), refl))
+    let is = search_too_high a.file.now a.ask (length a.answer.now) (length a.work.now) (asked_clear s) high in
+    (sym is.outcome_is, (sym (call_answer a.answer.now is), refl))
 
 begin-requires : tie.Need-begin-requires
 begin-requires c κs = search rules
@@ -91,7 +91,7 @@ first-list-requires c κs =
     let listed = c.before.before.before in
     let begun = done listed.before.before in
     let all = says begun _ listed.begun3.given.1 in
-    (begun.begin.ensures.1.0, ((begun-least all).0, all.rounds-are))
+    (begun.begin.ensures.1.0, ((begun_least all).0, all.rounds_are))
 
 same_length : tie.Need-same-length
 same_length c = search rules
@@ -101,10 +101,10 @@ returns-2 c =
     let begun = done c.before.before.before in
     let s = start begun in
     let a = s.args in
-    let stop = says-file begun _ c.before.begun.given.1 in
-    let is = search-stopped a.file.now s.pre.0.0.accepted a.ask (length a.answer.now) (length a.work.now) (valid-room s.pre.0.0 s.pre.1) (asked-one s) (not-high begun) stop.short in (
-      ap (λ (r : Record). answered (stopped r)) stop.record_is ∙ sym is.outcome-is,
-      (sym (call-answer a.answer.now is), begun.begin.ensures.1.1),
+    let stop = says_file begun _ c.before.begun.given.1 in
+    let is = search_stopped a.file.now s.pre.0.0.accepted a.ask (length a.answer.now) (length a.work.now) (valid_room s.pre.0.0 s.pre.1) (asked_one s) (not_high begun) stop.short in (
+      ap (λ (r : Record). answered (stopped r)) stop.record_is ∙ sym is.outcome_is,
+      (sym (call_answer a.answer.now is), begun.begin.ensures.1.1),
     )
 
 same-length-2 : tie.Need-same-length-2
@@ -115,11 +115,11 @@ returns-3 c =
     let begun = done c.before.before.before in
     let s = start begun in
     let a = s.args in
-    let all = says-file begun _ c.before.begun2.given.1 in
-    let none_left = ap (ofLeast (graphAsked a.file.now a.ask)) all.least-is in
-    let is = search-none a.file.now s.pre.0.0.accepted a.ask (length a.answer.now) (length a.work.now) (valid-room s.pre.0.0 s.pre.1) (asked-one s) (not-high begun) all.enough none_left in (
-      ap (λ (n : ℕ). answered (noneWithin n)) all.rounds-are ∙ sym is.outcome-is,
-      (sym (call-answer a.answer.now is), begun.begin.ensures.1.1),
+    let all = says_file begun _ c.before.begun2.given.1 in
+    let none_left = ap (of_least (graph_asked a.file.now a.ask)) all.least_is in
+    let is = search_none a.file.now s.pre.0.0.accepted a.ask (length a.answer.now) (length a.work.now) (valid_room s.pre.0.0 s.pre.1) (asked_one s) (not_high begun) all.enough none_left in (
+      ap (λ (n : ℕ). answered (none_within n)) all.rounds_are ∙ sym is.outcome_is,
+      (sym (call_answer a.answer.now is), begun.begin.ensures.1.1),
     )
 
 same-length-3 : tie.Need-same-length-3
@@ -137,10 +137,10 @@ returns-4 c =
     let all = says begun _ listed.begun3.given.1 in
     let kept = begun.begin.ensures.1.1 in
     let asks : AsksEnough a.h.table listed.begun3.given.0.1.0 listed.begun3.given.0.0.0 a.ask =
-    record { named = sym (start begun).pre.0.1; allowed = omega (arith, all.rounds-are, all.enough); within = (begun-least all).1; not-high = not-high begun } in (
-      at_length (λ n. searchOutcome a.file.now a.ask (length a.answer.now) n) (wrote.first-list.ensures.0 a.ask asks) kept,
+    record { named = sym (start begun).pre.0.1; allowed = omega (arith, all.rounds_are, all.enough); within = (begun_least all).1; not_high = not_high begun } in (
+      at_length (λ n. search_outcome a.file.now a.ask (length a.answer.now) n) (wrote.first-list.ensures.0 a.ask asks) kept,
       (
-        at_length (λ n. searchAnswer a.file.now a.ask a.answer.now n) (wrote.first-list.ensures.1.0 a.ask asks) kept,
+        at_length (λ n. search_answer a.file.now a.ask a.answer.now n) (wrote.first-list.ensures.1.0 a.ask asks) kept,
         wrote.first-list.ensures.1.1 ∙ kept,
       ),
     )

@@ -6,16 +6,16 @@ use mathlib.Core.Option.{some}
 use native.Mathlib.Omega.{arith}
 use borrow.Author.Rules.{rules}
 use lib.ListN.{length}
-use Rattle.format.specs.Rules.{firstBroken}
-use Rattle.gate.specs.Gate.{namedRules, GatePassed}
-use Rattle.gate.proofs.GateLaws.{gate-refused, gate-passed, entered-length, work-left}
+use Rattle.format.specs.Rules.{first_broken}
+use Rattle.gate.specs.Gate.{named_rules, GatePassed}
+use Rattle.gate.proofs.GateLaws.{gate_refused, gate_passed, entered_length, work_left_lem}
 use Rattle.outcomes.proofs.OutcomeLaws.{at_length}
 use Rattle.text.proofs.WroteLaws.{wrote_as}
-use Rattle.text.proofs.DecimalLaws.{decimal-five}
+use Rattle.text.proofs.DecimalLaws.{decimal_five}
 use Rattle.text.proofs.FigureLaws.{figure-length}
-use Rattle.sheet_head.specs.Words.{refusedWord}
-use Rattle.sheet_text.specs.SheetText.{sheetText, sheetAnswer}
-use Rattle.sheet.proofs.LeaveLaws.{leaves-short, leaves-sheet, leaves-refused}
+use Rattle.sheet_head.specs.Words.{refused_word}
+use Rattle.sheet_text.specs.SheetText.{sheet_text, sheet_answer}
+use Rattle.sheet.proofs.LeaveLaws.{leaves_short, leaves_sheet, leaves_refused}
 use Rattle.sheet.proofs.sheet.Statement.{statement}
 use Rattle.sheet.proofs.sheet.Tie as tie
 
@@ -32,11 +32,11 @@ start c = (roomy c).before.before.before.before.before
 -- the gate's refusal
 broken : (c : tie.After-checked)
     → let a = (start (gate c.before.before)).args in
-    firstBroken (namedRules a.input.now 0 (length a.work.now)) ≡ some c.checked.given.0.0
+    first_broken (named_rules a.input.now 0 (length a.work.now)) ≡ some c.checked.given.0.0
 broken c =
     let entered = gate c.before.before in
     let a = (start entered).args in
-    gate-refused a.input.now 0 (length a.work.now) entered.enter.ensures.0 c.checked.given.1
+    gate_refused a.input.now 0 (length a.work.now) entered.enter.ensures.0 c.checked.given.1
 
 -- the file has passed the gate, with its header
 passed : (c : tie.After-checked2)
@@ -44,16 +44,16 @@ passed : (c : tie.After-checked2)
 passed c =
     let entered = gate c.before.before in
     let a = (start entered).args in
-    gate-passed a.input.now 0 (length a.work.now) entered.enter.ensures.0 c.checked2.given.1
+    gate_passed a.input.now 0 (length a.work.now) entered.enter.ensures.0 c.checked2.given.1
 
 -- the working table has as many entries after the gate as before it
 kept : (c : tie.After-enter) → length c.enter.new.1.1.0 ≡ length (start c).args.work.now
-kept c = entered-length 0 (start c).args.work.now c.enter.ensures.1
+kept c = entered_length 0 (start c).args.work.now c.enter.ensures.1
 
 returns : tie.Need-returns
 returns c =
     let a = c.before.before.before.before.before.args in
-    leaves-short a.input.now a.text.now a.answer.now a.work.now c.if1.true
+    leaves_short a.input.now a.text.now a.answer.now a.work.now c.if1.true
 
 enter-requires : tie.Need-enter-requires
 enter-requires c κs = search rules
@@ -68,7 +68,7 @@ write-refusal-requires : tie.Need-write-refusal-requires
 write-refusal-requires c κs =
     let refused = c.before.before in
     let number = refused.checked.given.0.0 in
-    omega (arith, figure-length refusedWord number, decimal-five number (search rules), (roomy (gate refused.before.before)).if1.false)
+    omega (arith, figure-length refused_word number, decimal_five number (search rules), (roomy (gate refused.before.before)).if1.false)
 
 enum-known-checked-2 : tie.Need-enum-known-checked-2
 enum-known-checked-2 c = search rules
@@ -93,7 +93,7 @@ returns-2 c =
     let done = c.before.before in
     let refused = done.before.before.before in
     let a = (start (gate refused.before.before)).args in
-    leaves-refused a.input.now a.text.now a.answer.now a.work.now (roomy (gate refused.before.before)).if1.false (broken refused) (gate refused.before.before).enter.ensures.1 done.write-refusal.ensures
+    leaves_refused a.input.now a.text.now a.answer.now a.work.now (roomy (gate refused.before.before)).if1.false (broken refused) (gate refused.before.before).enter.ensures.1 done.write-refusal.ensures
 
 same-length-3 : tie.Need-same-length-3
 same-length-3 c = search rules
@@ -111,10 +111,10 @@ returns-3 c =
     let accepted = done.before.before.before.before.before in
     let a = (start (gate accepted.before.before)).args in
     let same = kept (gate accepted.before.before) in
-    leaves-sheet a.input.now a.text.now a.answer.now a.work.now (roomy (gate accepted.before.before)).if1.false
-    (wrote_as (ap (λ (n : ℕ). sheetText a.input.now (length a.answer.now) n) same) done.sheet-model.ensures.0)
-    (at_length (λ n. sheetAnswer a.input.now a.answer.now n) done.sheet-model.ensures.1.0 same)
-    (work-left a.input.now 0 a.work.now (passed accepted).clear (done.sheet-model.ensures.1.1 ∙ same) left.leave.ensures)
+    leaves_sheet a.input.now a.text.now a.answer.now a.work.now (roomy (gate accepted.before.before)).if1.false
+    (wrote_as (ap (λ (n : ℕ). sheet_text a.input.now (length a.answer.now) n) same) done.sheet-model.ensures.0)
+    (at_length (λ n. sheet_answer a.input.now a.answer.now n) done.sheet-model.ensures.1.0 same)
+    (work_left_lem a.input.now 0 a.work.now (passed accepted).clear (done.sheet-model.ensures.1.1 ∙ same) left.leave.ensures)
 
 pub sheet-spec : {M : Type 1} → statement M
 sheet-spec =

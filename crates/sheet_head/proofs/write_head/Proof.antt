@@ -7,8 +7,8 @@ use lib.ListN.{length}
 use Rattle.text.specs.Characters.{space}
 use Rattle.text.specs.Decimal.{decimal}
 use Rattle.text.specs.Figure.{figure}
-use Rattle.text.proofs.WroteLaws.{wrote-length, wrote_then}
-use Rattle.sheet_head.specs.Words.{roundsWord}
+use Rattle.text.proofs.WroteLaws.{wrote_length, wrote_then}
+use Rattle.sheet_head.specs.Words.{rounds_word}
 use Rattle.sheet_head.proofs.HeadLaws.{head-length}
 use Rattle.sheet_head.proofs.write_head.Statement.{statement}
 use Rattle.sheet_head.proofs.write_head.Tie as tie
@@ -24,7 +24,7 @@ abbrev states : tie.After-write-figure → tie.After-write-number
 states c = c.before.before.before.before.before
 
 -- what all four writers need
-room : (s : tie.Start) → 6 + length (decimal s.args.h.states) + length (figure (space ∷ []) s.args.h.edges) + length (figure roundsWord s.args.rounds) ≤ length s.args.text.now
+room : (s : tie.Start) → 6 + length (decimal s.args.h.states) + length (figure (space ∷ []) s.args.h.edges) + length (figure rounds_word s.args.rounds) ≤ length s.args.text.now
 room s = omega (arith, s.requires, head-length s.args.h.states s.args.h.edges s.args.rounds)
 
 slice-aggregate-write-bytes : tie.Need-slice-aggregate-write-bytes
@@ -37,7 +37,7 @@ write-number-requires : tie.Need-write-number-requires
 write-number-requires c κs =
     let after = c.before.before.before in
     let w = after.write_bytes.ensures in
-    omega (arith, room (start after), w.place, wrote-length w)
+    omega (arith, room (start after), w.place, wrote_length w)
 
 slice-aggregate-write-figure : tie.Need-slice-aggregate-write-figure
 slice-aggregate-write-figure c = search rules
@@ -47,7 +47,7 @@ write-figure-requires c κs =
     let after = c.before.before.before.before in
     let w = (word after).write_bytes.ensures in
     let v = after.write-number.ensures in
-    omega (arith, room (start (word after)), w.place, v.place, wrote-length w, wrote-length v)
+    omega (arith, room (start (word after)), w.place, v.place, wrote_length w, wrote_length v)
 
 slice-aggregate-write-figure-2 : tie.Need-slice-aggregate-write-figure-2
 slice-aggregate-write-figure-2 c = search rules
@@ -58,7 +58,7 @@ write-figure-requires-2 c κs =
     let w = (word (states after)).write_bytes.ensures in
     let v = (states after).write-number.ensures in
     let u = after.write-figure.ensures in
-    omega (arith, room (start (word (states after))), w.place, v.place, u.place, wrote-length w, wrote-length v, wrote-length u)
+    omega (arith, room (start (word (states after))), w.place, v.place, u.place, wrote_length w, wrote_length v, wrote_length u)
 
 same_length : tie.Need-same-length
 same_length c = search rules

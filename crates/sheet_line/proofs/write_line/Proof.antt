@@ -6,22 +6,22 @@ use native.Mathlib.Omega.{arith}
 use borrow.Author.Rules.{rules}
 use lib.ListN.{length, take, drop}
 use lib.Seq.{length-take-le}
-use Rattle.text.proofs.WroteLaws.{wrote-length, wrote_then, wrote_as}
-use Rattle.sheet_line.specs.Line.{spaceAfter, spaceBefore}
-use Rattle.sheet_line.proofs.LineLaws.{stemLoop-length, stemLoop-parts}
+use Rattle.text.proofs.WroteLaws.{wrote_length, wrote_then, wrote_as}
+use Rattle.sheet_line.specs.Line.{space_after, space_before}
+use Rattle.sheet_line.proofs.LineLaws.{stem_loop-length, stem_loop_parts}
 use Rattle.sheet_line.proofs.write_line.Statement.{statement}
 use Rattle.sheet_line.proofs.write_line.Tie as tie
 
 -- the states of the stem and of the loop
-abbrev stem-of : tie.Start → List ℕ
-stem-of s = take s.args.k s.args.list.now
+abbrev stem_of : tie.Start → List ℕ
+stem_of s = take s.args.k s.args.list.now
 
-abbrev loop-of : tie.Start → List ℕ
-loop-of s = take (s.args.transitions.0 - s.args.k) (drop s.args.k s.args.list.now)
+abbrev loop_of : tie.Start → List ℕ
+loop_of s = take (s.args.transitions.0 - s.args.k) (drop s.args.k s.args.list.now)
 
 -- what all four writers need
-room : (s : tie.Start) → s.args.at + (length (spaceAfter (stem-of s)) + 1 + length (spaceBefore (loop-of s)) + 1) ≤ length s.args.text.now
-room s = omega (arith, s.requires.1, stemLoop-length (stem-of s) (loop-of s))
+room : (s : tie.Start) → s.args.at + (length (space_after (stem_of s)) + 1 + length (space_before (loop_of s)) + 1) ≤ length s.args.text.now
+room s = omega (arith, s.requires.1, stem_loop-length (stem_of s) (loop_of s))
 
 -- the function's start, from after the stem, and the stem, from after the bar
 abbrev start : tie.After-write-stem → tie.Start
@@ -42,7 +42,7 @@ write-byte-requires : tie.Need-write-byte-requires
 write-byte-requires c κs =
     let after = c.before.before.before in
     let w = after.write-stem.ensures in
-    omega (arith, room (start after), w.place, wrote-length w)
+    omega (arith, room (start after), w.place, wrote_length w)
 
 number-requires : tie.Need-number-requires
 number-requires c κs = search rules
@@ -65,7 +65,7 @@ write-loop-requires c κs =
     let after = measured.before.before.before in
     let w = (stem after).write-stem.ensures in
     let v = after.write_byte.ensures in
-    rw measured.number.ensures (omega (arith, room (start (stem after)), w.place, v.place, wrote-length w, wrote-length v))
+    rw measured.number.ensures (omega (arith, room (start (stem after)), w.place, v.place, wrote_length w, wrote_length v))
 
 write-byte-requires-2 : tie.Need-write-byte-requires-2
 write-byte-requires-2 c κs =
@@ -75,7 +75,7 @@ write-byte-requires-2 c κs =
     let w = (stem barred).write-stem.ensures in
     let v = barred.write_byte.ensures in
     let u = rw measured.number.ensures at after.write-loop.ensures in
-    omega (arith, room (start (stem barred)), w.place, v.place, u.place, wrote-length w, wrote-length v, wrote-length u)
+    omega (arith, room (start (stem barred)), w.place, v.place, u.place, wrote_length w, wrote_length v, wrote_length u)
 
 same_length : tie.Need-same-length
 same_length c = search rules
@@ -87,7 +87,7 @@ returns c =
     let measured = after.before.before.before in
     let barred = measured.before.before.before in
     let s = start (stem barred) in
-    wrote_as (stemLoop-parts (stem-of s) (loop-of s))
+    wrote_as (stem_loop_parts (stem_of s) (loop_of s))
     (wrote_then (wrote_then (wrote_then (stem barred).write-stem.ensures barred.write_byte.ensures) (rw measured.number.ensures at after.write-loop.ensures)) end.write-byte2.ensures)
 
 pub write-line-spec : {M : Type 1} → statement M

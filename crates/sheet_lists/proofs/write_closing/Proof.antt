@@ -3,7 +3,7 @@ use mathlib.Core.Path.{sym, ap}
 use mathlib.Core.Bool.{Bool}
 use borrow.Author.Rules.{rules}
 use Rattle.text.proofs.WroteLaws.{wrote_as}
-use Rattle.sheet_lists.specs.RollText.{closingLine}
+use Rattle.sheet_lists.specs.RollText.{closing_line}
 use Rattle.sheet_lists.proofs.write_closing.Statement.{statement}
 use Rattle.sheet_lists.proofs.write_closing.Tie as tie
 
@@ -23,7 +23,7 @@ returns : tie.Need-returns
 returns c =
     let done = c.before.before in
     let then = done.before.before.before in
-    wrote_as (sym (ap (λ (b : Bool). closingLine b then.before.before.args.count) then.if1.true)) done.write-figure.ensures
+    wrote_as (sym (ap (λ (b : Bool). closing_line b then.before.before.args.count) then.if1.true)) done.write-figure.ensures
 
 slice-aggregate-write-figure-2 : tie.Need-slice-aggregate-write-figure-2
 slice-aggregate-write-figure-2 c = search rules
@@ -41,7 +41,7 @@ returns-2 : tie.Need-returns-2
 returns-2 c =
     let done = c.before.before in
     let else = done.before.before.before in
-    wrote_as (sym (ap (λ (b : Bool). closingLine b else.before.before.args.count) else.if1.false)) done.write-figure2.ensures
+    wrote_as (sym (ap (λ (b : Bool). closing_line b else.before.before.args.count) else.if1.false)) done.write-figure2.ensures
 
 pub write-closing-spec : {M : Type 1} → statement M
 write-closing-spec =

@@ -7,7 +7,7 @@ use borrow.Author.Rules.{rules}
 use lib.ListN.{length, take, drop}
 use lib.Seq.{length-take-le}
 use Rattle.text.proofs.WroteLaws.{wrote_as}
-use Rattle.sheet_line.specs.Line.{stemLoop, line}
+use Rattle.sheet_line.specs.Line.{stem_loop, line}
 use Rattle.sheet_line.proofs.LineLaws.{line_read}
 use Rattle.sheet_lists.proofs.write_current.Statement.{statement}
 use Rattle.sheet_lists.proofs.write_current.Tie as tie
@@ -18,7 +18,7 @@ start c = c.before.before.before.before.before
 
 -- the line read off the answer table is the list's
 same_line : (c : tie.After-write-list) → let a = (start c).args in let t = c.write-list.new.1.1.1.0 in
-    stemLoop (take c.write-list.result t) (take (a.transitions.0 - c.write-list.result) (drop c.write-list.result t)) ≡ line (a.h.start ∷ take a.transitions.0 a.work.now)
+    stem_loop (take c.write-list.result t) (take (a.transitions.0 - c.write-list.result) (drop c.write-list.result t)) ≡ line (a.h.start ∷ take a.transitions.0 a.work.now)
 same_line c =
     let s = start c in
     let long : length (take s.args.transitions.0 s.args.work.now) ≡ s.args.transitions.0 = length-take-le s.args.transitions.0 s.args.work.now s.pre.0 in

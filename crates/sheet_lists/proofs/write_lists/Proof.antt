@@ -7,10 +7,10 @@ use native.Mathlib.Omega.{arith}
 use borrow.Author.Rules.{rules}
 use borrow.Author.Tests.{not-true, not-false}
 use lib.ListN.{length}
-use Rattle.numbers.specs.Limits.{mostLists}
-use Rattle.text.proofs.WroteLaws.{wrote-length}
+use Rattle.numbers.specs.Limits.{most_lists}
+use Rattle.text.proofs.WroteLaws.{wrote_length}
 use Rattle.cursor.specs.Cursor.{MovedTo}
-use Rattle.sheet_lists.proofs.PrintLaws.{Printing, printed-answer-length, printing-first, listed-asks, closing-asks, printing-next, closed-last, closed-full, printing-closed}
+use Rattle.sheet_lists.proofs.PrintLaws.{Printing, printed_answer_length, printing_first, listed_asks, closing_asks, printing_next, closed_last, closed_full, printing_closed}
 use Rattle.sheet_lists.proofs.write_lists.Statement.{statement}
 use Rattle.sheet_lists.proofs.write_lists.Tie as tie
 
@@ -19,34 +19,34 @@ invariant-loop file h length answer₀ work₀ text₀ at next₀ count₀ answe
     Printing file h length.0 answer₀ work₀ text₀ at answer work text next count
 
 abbrev decreases-loop : tie.decreases-loop
-decreases-loop file h length answer₀ work₀ text₀ at next₀ count₀ answer work text next count = mostLists - count
+decreases-loop file h length answer₀ work₀ text₀ at next₀ count₀ answer work text next count = most_lists - count
 
 -- the function's start, and the places on the way to the following list
 abbrev start : tie.After-to-first invariant-loop decreases-loop → tie.Start invariant-loop decreases-loop
 start c = c.before.before.before.before.before.before
 
-abbrev at-loop : tie.After-write-current invariant-loop decreases-loop → tie.At-loop invariant-loop decreases-loop
-at-loop c = c.before.before.before.before
+abbrev at_loop : tie.After-write-current invariant-loop decreases-loop → tie.At-loop invariant-loop decreases-loop
+at_loop c = c.before.before.before.before
 
 abbrev from : tie.At-loop invariant-loop decreases-loop → tie.Start invariant-loop decreases-loop
 from c = start c.before.before.before
 
-abbrev written-list : tie.After-to-next invariant-loop decreases-loop → tie.After-write-current invariant-loop decreases-loop
-written-list c = c.before.before.before.before.before.before
+abbrev written_list : tie.After-to-next invariant-loop decreases-loop → tie.After-write-current invariant-loop decreases-loop
+written_list c = c.before.before.before.before.before.before
 
 -- the tables and the text keep their lengths up to the following list
-kept : (c : tie.After-to-next invariant-loop decreases-loop) → length c.to-next.new.1.1.1.0 ≡ length (from (at-loop (written-list c))).args.work.now
+kept : (c : tie.After-to-next invariant-loop decreases-loop) → length c.to-next.new.1.1.1.0 ≡ length (from (at_loop (written_list c))).args.work.now
 kept c =
-    let l = at-loop (written-list c) in
-    c.to-next.ensures.1 ∙ l.loop.inv.work-length ∙ l.before.before.before.to-first.ensures.1
+    let l = at_loop (written_list c) in
+    c.to-next.ensures.1 ∙ l.loop.inv.work_length ∙ l.before.before.before.to-first.ensures.1
 
-kept-answer : (c : tie.After-write-current invariant-loop decreases-loop) → length c.write-current.new.1.1.0 ≡ length (from (at-loop c)).args.answer.now
-kept-answer c =
-    let l = at-loop c in
-    printed-answer-length l.loop.inv c.write-current.ensures.0 c.write-current.ensures.1 (from l).pre.1.1.0
+kept_answer : (c : tie.After-write-current invariant-loop decreases-loop) → length c.write-current.new.1.1.0 ≡ length (from (at_loop c)).args.answer.now
+kept_answer c =
+    let l = at_loop c in
+    printed_answer_length l.loop.inv c.write-current.ensures.0 c.write-current.ensures.1 (from l).pre.1.1.0
 
-kept-text : (c : tie.After-write-current invariant-loop decreases-loop) → length c.write-current.new.1.1.1.1.0 ≡ length (from (at-loop c)).args.text.now
-kept-text c = wrote-length c.write-current.ensures.0 ∙ wrote-length (at-loop c).loop.invariant.lines
+kept_text : (c : tie.After-write-current invariant-loop decreases-loop) → length c.write-current.new.1.1.1.1.0 ≡ length (from (at_loop c)).args.text.now
+kept_text c = wrote_length c.write-current.ensures.0 ∙ wrote_length (at_loop c).loop.invariant.lines
 
 to-first-requires : tie.Need-to-first-requires invariant-loop decreases-loop
 to-first-requires c κs = search rules
@@ -55,83 +55,83 @@ loop-holds : tie.Need-loop-init invariant-loop decreases-loop
 loop-holds c =
     let listed = c.before.before in
     let s = start listed in
-    printing-first listed.to-first.ensures.0 (omega (arith, s.pre.1.1.1))
+    printing_first listed.to-first.ensures.0 (omega (arith, s.pre.1.1.1))
 
 write-current-requires : tie.Need-write-current-requires invariant-loop decreases-loop
 write-current-requires c κs =
     let l = c.before.before.before in
     let s = from l in
-    listed-asks l.loop.invariant s.pre.1.1.0 s.pre.1.1.1
+    listed_asks l.loop.invariant s.pre.1.1.0 s.pre.1.1.1
 
 add-count : tie.Need-overflow-add-count invariant-loop decreases-loop
-add-count c = omega (arith, (at-loop c.before.before.before.before).loop.inv.few)
+add-count c = omega (arith, (at_loop c.before.before.before.before).loop.inv.few)
 
 to-next-requires : tie.Need-to-next-requires invariant-loop decreases-loop
-to-next-requires c κs = record { place = _; at = (at-loop c.before.before.before.before.before).loop.inv.here }
+to-next-requires c κs = record { place = _; at = (at_loop c.before.before.before.before.before).loop.inv.here }
 
 -- what the step to the following list says of the place reached
 moved : (c : tie.After-to-next invariant-loop decreases-loop) (more : Bool) → c.to-next.result ≡ more
-    → let l = at-loop (written-list c) in
+    → let l = at_loop (written_list c) in
     let a = (from l).args in
     MovedTo a.file.now a.h a.transitions.0 l.loop.count c.to-next.new.1.1.1.0 more
 moved c more e =
-    let l = at-loop (written-list c) in
+    let l = at_loop (written_list c) in
     let a = (from l).args in
     subst (λ (b : Bool). MovedTo a.file.now a.h a.transitions.0 l.loop.count c.to-next.new.1.1.1.0 b) e
     (c.to-next.ensures.0 l.loop.count l.loop.inv.here)
 
 write-closing-requires : tie.Need-write-closing-requires invariant-loop decreases-loop
 write-closing-requires c κs =
-    let printed = written-list c.before.before.before.before in
-    let l = at-loop printed in
-    closing-asks l.loop.inv printed.write-current.ensures.0 printed.write-current.ensures.1 (from l).pre.1.1.1 false
+    let printed = written_list c.before.before.before.before in
+    let l = at_loop printed in
+    closing_asks l.loop.inv printed.write-current.ensures.0 printed.write-current.ensures.1 (from l).pre.1.1.1 false
 
 same_length : tie.Need-same-length invariant-loop decreases-loop
-same_length c = kept-answer (written-list c.before.before.before.before.before.before.before)
+same_length c = kept_answer (written_list c.before.before.before.before.before.before.before)
 
 same-length-2 : tie.Need-same-length-2 invariant-loop decreases-loop
 same-length-2 c = kept c.before.before.before.before.before.before.before
 
 same-length-3 : tie.Need-same-length-3 invariant-loop decreases-loop
 same-length-3 c =
-    wrote-length c.before.before.write-closing.ensures ∙ kept-text (written-list c.before.before.before.before.before.before.before)
+    wrote_length c.before.before.write-closing.ensures ∙ kept_text (written_list c.before.before.before.before.before.before.before)
 
 returns : tie.Need-returns invariant-loop decreases-loop
 returns c =
     let done = c.before.before in
     let then = done.before.before in
     let advanced = then.before.before.before in
-    let printed = written-list advanced in
-    let p = (at-loop printed).loop.inv in
-    let closed = closed-last p (moved advanced false (not-true _ then.if1.true)) in
-    let (text, answer) = printing-closed p printed.write-current.ensures.0 printed.write-current.ensures.1 closed done.write-closing.ensures in
+    let printed = written_list advanced in
+    let p = (at_loop printed).loop.inv in
+    let closed = closed_last p (moved advanced false (not-true _ then.if1.true)) in
+    let (text, answer) = printing_closed p printed.write-current.ensures.0 printed.write-current.ensures.1 closed done.write-closing.ensures in
     (text, (answer, kept advanced))
 
 write-closing-requires-2 : tie.Need-write-closing-requires-2 invariant-loop decreases-loop
 write-closing-requires-2 c κs =
-    let printed = written-list c.before.before.before.before.before in
-    let l = at-loop printed in
-    closing-asks l.loop.inv printed.write-current.ensures.0 printed.write-current.ensures.1 (from l).pre.1.1.1 true
+    let printed = written_list c.before.before.before.before.before in
+    let l = at_loop printed in
+    closing_asks l.loop.inv printed.write-current.ensures.0 printed.write-current.ensures.1 (from l).pre.1.1.1 true
 
 same-length-4 : tie.Need-same-length-4 invariant-loop decreases-loop
-same-length-4 c = kept-answer (written-list c.before.before.before.before.before.before.before.before)
+same-length-4 c = kept_answer (written_list c.before.before.before.before.before.before.before.before)
 
 same-length-5 : tie.Need-same-length-5 invariant-loop decreases-loop
 same-length-5 c = kept c.before.before.before.before.before.before.before.before
 
 same-length-6 : tie.Need-same-length-6 invariant-loop decreases-loop
 same-length-6 c =
-    wrote-length c.before.before.write-closing2.ensures ∙ kept-text (written-list c.before.before.before.before.before.before.before.before)
+    wrote_length c.before.before.write-closing2.ensures ∙ kept_text (written_list c.before.before.before.before.before.before.before.before)
 
 returns-2 : tie.Need-returns-2 invariant-loop decreases-loop
 returns-2 c =
     let done = c.before.before in
     let full = done.before.before in
     let advanced = full.before.before.before.before in
-    let printed = written-list advanced in
-    let p = (at-loop printed).loop.inv in
-    let closed = closed-full p (moved advanced true (not-false _ full.before.if1.false)) (omega (arith, full.if2.true)) in
-    let (text, answer) = printing-closed p printed.write-current.ensures.0 printed.write-current.ensures.1 closed done.write-closing2.ensures in
+    let printed = written_list advanced in
+    let p = (at_loop printed).loop.inv in
+    let closed = closed_full p (moved advanced true (not-false _ full.before.if1.false)) (omega (arith, full.if2.true)) in
+    let (text, answer) = printing_closed p printed.write-current.ensures.0 printed.write-current.ensures.1 closed done.write-closing2.ensures in
     (text, (answer, kept advanced))
 
 loop-less : tie.Need-loop-smaller invariant-loop decreases-loop
@@ -141,9 +141,9 @@ loop-again : tie.Need-loop-preserved invariant-loop decreases-loop
 loop-again c =
     let else = c.before in
     let advanced = else.before.before.before in
-    let printed = written-list advanced in
-    let l = at-loop printed in
-    printing-next l.loop.inv printed.write-current.ensures.0 printed.write-current.ensures.1 (from l).pre.1.1.0
+    let printed = written_list advanced in
+    let l = at_loop printed in
+    printing_next l.loop.inv printed.write-current.ensures.0 printed.write-current.ensures.1 (from l).pre.1.1.0
     (moved advanced true (not-false _ else.if1.false)) advanced.to-next.ensures.1 c.if2.false
 
 pub write-lists-spec : {M : Type 1} → statement M

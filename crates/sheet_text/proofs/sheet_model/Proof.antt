@@ -7,16 +7,16 @@ use native.Mathlib.Omega.{arith}
 use borrow.Author.Rules.{rules}
 use lib.ListN.{length}
 use Rattle.lasso.specs.Graph.{Graph}
-use Rattle.lasso.specs.Roll.{leastLength}
+use Rattle.lasso.specs.Roll.{least_length}
 use Rattle.lasso.specs.Rounds.{candidates}
-use Rattle.model.specs.Model.{graphIn, graph_of}
-use Rattle.gate.proofs.GateLaws.{named-graph, valid-room}
+use Rattle.model.specs.Model.{graph_in, graph_of}
+use Rattle.gate.proofs.GateLaws.{named_graph, valid_room}
 use Rattle.begun.specs.Begun.{AllRoundsSay}
 use Rattle.begun.specs.declared.AllRounds.{AllRounds}
-use Rattle.text.proofs.WroteLaws.{wrote-length, wrote_then, wrote_as}
-use Rattle.sheet_head.specs.Words.{noneLine}
-use Rattle.sheet_text.specs.SheetText.{sheetText, sheetAnswer}
-use Rattle.sheet_text.proofs.SheetLaws.{head-is, head-fits, sheet-answer, sheet-none}
+use Rattle.text.proofs.WroteLaws.{wrote_length, wrote_then, wrote_as}
+use Rattle.sheet_head.specs.Words.{none_line}
+use Rattle.sheet_text.specs.SheetText.{sheet_text, sheet_answer}
+use Rattle.sheet_text.proofs.SheetLaws.{head_is, head_fits, sheet_answer_lem, sheet_none}
 use Rattle.sheet_text.proofs.sheet_model.Statement.{statement}
 use Rattle.sheet_text.proofs.sheet_model.Tie as tie
 
@@ -28,18 +28,18 @@ abbrev done : tie.After-slice-known4 → tie.After-all-rounds
 done c = c.before.before
 
 -- what the answer of the rounds says, by its case
-says : (c : tie.After-all-rounds) (r : AllRounds) → c.all-rounds.result ≡ r → AllRoundsSay (graphIn (start c).args.file.now (start c).args.h) r
-says c r e = subst (AllRoundsSay (graphIn (start c).args.file.now (start c).args.h)) e c.all-rounds.ensures.0
+says : (c : tie.After-all-rounds) (r : AllRounds) → c.all-rounds.result ≡ r → AllRoundsSay (graph_in (start c).args.file.now (start c).args.h) r
+says c r e = subst (AllRoundsSay (graph_in (start c).args.file.now (start c).args.h)) e c.all-rounds.ensures.0
 
 -- without a list: the rounds, from where their answer was seen
-abbrev none-rounds : tie.After-completed → tie.After-all-rounds
-none-rounds c = done c.before.before
+abbrev none_rounds : tie.After-completed → tie.After-all-rounds
+none_rounds c = done c.before.before
 
 -- all of them are done: their number
-none_done : (c : tie.After-completed) → c.completed.given.0.0 ≡ length (candidates (graph_of (start (none-rounds c)).args.file.now 0))
+none_done : (c : tie.After-completed) → c.completed.given.0.0 ≡ length (candidates (graph_of (start (none_rounds c)).args.file.now 0))
 none_done c =
-    let rounds = none-rounds c in
-    subst (λ (g : Graph). c.completed.given.0.0 ≡ length (candidates g)) (named-graph (start rounds).pre.0.0 (start rounds).pre.0.1) (says rounds _ c.completed.given.1).rounds-are
+    let rounds = none_rounds c in
+    subst (λ (g : Graph). c.completed.given.0.0 ≡ length (candidates g)) (named_graph (start rounds).pre.0.0 (start rounds).pre.0.1) (says rounds _ c.completed.given.1).rounds_are
 
 all-rounds-requires : tie.Need-all-rounds-requires
 all-rounds-requires c κs = search rules
@@ -53,8 +53,8 @@ cast-write-head c = search rules
 write-head-requires : tie.Need-write-head-requires
 write-head-requires c κs =
     let told = c.before.before in
-    let s = start (none-rounds told) in
-    omega (arith, head-fits s.pre.0.0 (none_done told), s.pre.1.1)
+    let s = start (none_rounds told) in
+    omega (arith, head_fits s.pre.0.0 (none_done told), s.pre.1.1)
 
 slice-aggregate-write-bytes : tie.Need-slice-aggregate-write-bytes
 slice-aggregate-write-bytes c = search rules
@@ -63,9 +63,9 @@ write-bytes-requires : tie.Need-write-bytes-requires
 write-bytes-requires c κs =
     let headed = c.before.before.before.before in
     let told = headed.before.before.before in
-    let s = start (none-rounds told) in
+    let s = start (none_rounds told) in
     let w = headed.write-head.ensures in
-    omega (arith, head-fits s.pre.0.0 (none_done told), s.pre.1.1, w.place, wrote-length w)
+    omega (arith, head_fits s.pre.0.0 (none_done told), s.pre.1.1, w.place, wrote_length w)
 
 enum-known-completed-2 : tie.Need-enum-known-completed-2
 enum-known-completed-2 c = search rules
@@ -75,7 +75,7 @@ write-shortest-requires c κs =
     let told = c.before.before.before.before in
     let rounds = done told.before.before in
     let all = says rounds _ told.completed2.given.1 in
-    ((rounds.all-rounds.ensures.1.0, (start rounds).pre.0.1), (all.least-is, (all.rounds-are, (start rounds).pre.1.1)))
+    ((rounds.all-rounds.ensures.1.0, (start rounds).pre.0.1), (all.least_is, (all.rounds_are, (start rounds).pre.1.1)))
 
 same_length : tie.Need-same-length
 same_length c = search rules
@@ -88,14 +88,14 @@ returns c =
     let end = c.before.before in
     let head = end.before.before.before.before.before in
     let told = head.before.before.before in
-    let rounds = none-rounds told in
+    let rounds = none_rounds told in
     let s = start rounds in
     let a = s.args in
     let v = s.pre.0.0 in
-    let none-least = subst (λ (g : Graph). leastLength g ≡ none) (named-graph v s.pre.0.1) (says rounds _ told.completed.given.1).least-is in
-    let is = sheet-none a.file.now v.accepted (length a.answer.now) (length a.work.now) (valid-room v s.pre.1.0) none-least in (
-      wrote_as (ap (λ (r : List ℕ). r ++ noneLine) (head-is v (none_done told)) ∙ sym is.text-is) (wrote_then head.write-head.ensures end.write_bytes.ensures),
-      (sym (sheet-answer a.answer.now is), rounds.all-rounds.ensures.1.1),
+    let none-least = subst (λ (g : Graph). least_length g ≡ none) (named_graph v s.pre.0.1) (says rounds _ told.completed.given.1).least_is in
+    let is = sheet_none a.file.now v.accepted (length a.answer.now) (length a.work.now) (valid_room v s.pre.1.0) none-least in (
+      wrote_as (ap (λ (r : List ℕ). r ++ none_line) (head_is v (none_done told)) ∙ sym is.text_is) (wrote_then head.write-head.ensures end.write_bytes.ensures),
+      (sym (sheet_answer_lem a.answer.now is), rounds.all-rounds.ensures.1.1),
     )
 
 same-length-3 : tie.Need-same-length-3
@@ -114,9 +114,9 @@ returns-2 c =
     let rounds = done told.before.before in
     let a = (start rounds).args in
     let kept = rounds.all-rounds.ensures.1.1 in (
-      wrote_as (ap (λ (n : ℕ). sheetText a.file.now (length a.answer.now) n) kept) wrote.write-shortest.ensures.0,
+      wrote_as (ap (λ (n : ℕ). sheet_text a.file.now (length a.answer.now) n) kept) wrote.write-shortest.ensures.0,
       (
-        wrote.write-shortest.ensures.1.0 ∙ ap (λ (n : ℕ). sheetAnswer a.file.now a.answer.now n) kept,
+        wrote.write-shortest.ensures.1.0 ∙ ap (λ (n : ℕ). sheet_answer a.file.now a.answer.now n) kept,
         wrote.write-shortest.ensures.1.1 ∙ kept,
       ),
     )

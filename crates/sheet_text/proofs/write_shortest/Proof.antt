@@ -8,19 +8,19 @@ use native.Mathlib.Omega.{arith}
 use borrow.Author.Rules.{rules}
 use lib.ListN.{length}
 use Rattle.lasso.specs.Graph.{Graph}
-use Rattle.lasso.specs.Roll.{leastLength, roll}
+use Rattle.lasso.specs.Roll.{least_length, roll}
 use Rattle.lasso.specs.Rounds.{candidates}
-use Rattle.lasso.proofs.RollLaws.{leastLength-range}
+use Rattle.lasso.proofs.RollLaws.{least_length_range}
 use Rattle.model.specs.Model.{graph_of}
-use Rattle.model.proofs.Laws.{valid-sizes}
-use Rattle.gate.proofs.GateLaws.{named-graph, valid-room}
+use Rattle.model.proofs.Laws.{valid_sizes}
+use Rattle.gate.proofs.GateLaws.{named_graph, valid_room}
 use Rattle.outcomes.specs.Tables.{written}
 use Rattle.text.specs.Figure.{figure}
-use Rattle.text.proofs.WroteLaws.{wrote-length, wrote_then, wrote_as}
-use Rattle.text.proofs.FigureLaws.{figure-room}
-use Rattle.sheet_head.specs.Words.{refusedWord, shortestWord}
-use Rattle.sheet_lists.specs.RollText.{listsText, lastPrinted}
-use Rattle.sheet_text.proofs.SheetLaws.{SheetIs, headLines, head-is, head-fits, sheet-answer, sheet-lists, sheet-no-room}
+use Rattle.text.proofs.WroteLaws.{wrote_length, wrote_then, wrote_as}
+use Rattle.text.proofs.FigureLaws.{figure_room}
+use Rattle.sheet_head.specs.Words.{refused_word, shortest_word}
+use Rattle.sheet_lists.specs.RollText.{lists_text, last_printed}
+use Rattle.sheet_text.proofs.SheetLaws.{SheetIs, head_lines, head_is, head_fits, sheet_answer_lem, sheet_lists, sheet_no_room}
 use Rattle.sheet_text.proofs.write_shortest.Statement.{statement}
 use Rattle.sheet_text.proofs.write_shortest.Tie as tie
 
@@ -44,29 +44,29 @@ abbrev figured : tie.After-write-lists → tie.After-write-figure
 figured c = c.before.before.before.before.before.before
 
 -- the length is the least of an accepting path of the file
-least : (s : tie.Start) → leastLength (graph_of s.args.file.now 0) ≡ some s.args.transitions.0
-least s = subst (λ (g : Graph). leastLength g ≡ some s.args.transitions.0) (named-graph s.requires.0.0.valid s.requires.0.1) s.requires.1.0
+least : (s : tie.Start) → least_length (graph_of s.args.file.now 0) ≡ some s.args.transitions.0
+least s = subst (λ (g : Graph). least_length g ≡ some s.args.transitions.0) (named_graph s.requires.0.0.valid s.requires.0.1) s.requires.1.0
 
 -- the rounds are as many as the file has candidates
-rounds-are : (s : tie.Start) → s.args.rounds ≡ length (candidates (graph_of s.args.file.now 0))
-rounds-are s = subst (λ (g : Graph). s.args.rounds ≡ length (candidates g)) (named-graph s.requires.0.0.valid s.requires.0.1) s.requires.1.1.0
+rounds_are : (s : tie.Start) → s.args.rounds ≡ length (candidates (graph_of s.args.file.now 0))
+rounds_are s = subst (λ (g : Graph). s.args.rounds ≡ length (candidates g)) (named_graph s.requires.0.0.valid s.requires.0.1) s.requires.1.1.0
 
 -- no accepting path is longer than there are states
-length-range : (s : tie.Start) → s.args.transitions.0 ≤ 4096
-length-range s =
-    let sizes = valid-sizes s.requires.0.0.valid in
-    omega (arith, leastLength-range (graph_of s.args.file.now 0) s.args.transitions.0 (least s))
+length_range : (s : tie.Start) → s.args.transitions.0 ≤ 4096
+length_range s =
+    let sizes = valid_sizes s.requires.0.0.valid in
+    omega (arith, least_length_range (graph_of s.args.file.now 0) s.args.transitions.0 (least s))
 
 -- the sheet of a file with lists that have room
-lists-are : (c : tie.Else1) → let a = (start (counted c)).args in
+lists_are : (c : tie.Else1) → let a = (start (counted c)).args in
     SheetIs a.file.now (length a.answer.now) (length a.work.now)
-    (headLines a.file.now ++ figure shortestWord a.transitions.0 ++ listsText (roll (graph_of a.file.now 0)))
-    (lastPrinted (roll (graph_of a.file.now 0)))
-lists-are c =
+    (head_lines a.file.now ++ figure shortest_word a.transitions.0 ++ lists_text (roll (graph_of a.file.now 0)))
+    (last_printed (roll (graph_of a.file.now 0)))
+lists_are c =
     let s = start (counted c) in
     let a = s.args in
     let v = s.pre.0.0.valid in
-    sheet-lists a.file.now v.accepted (length a.answer.now) (length a.work.now) (valid-room v s.pre.0.0.room) a.transitions.0 (least s)
+    sheet_lists a.file.now v.accepted (length a.answer.now) (length a.work.now) (valid_room v s.pre.0.0.room) a.transitions.0 (least s)
     (omega (arith, (counted c).entries.ensures, c.if1.false))
 
 entries-requires : tie.Need-entries-requires
@@ -78,7 +78,7 @@ cast-write-refusal c = search rules
 write-refusal-requires : tie.Need-write-refusal-requires
 write-refusal-requires c κs =
     let s = start c.before.before.before.before in
-    le_trans (figure-room refusedWord _ (omega arith)) (omega (arith, s.pre.1.1.1))
+    le_trans (figure_room refused_word _ (omega arith)) (omega (arith, s.pre.1.1.1))
 
 same_length : tie.Need-same-length
 same_length c = search rules
@@ -91,13 +91,13 @@ returns c =
     let s = start before in
     let a = s.args in
     let v = s.pre.0.0.valid in
-    let is = sheet-no-room a.file.now v.accepted (length a.answer.now) (length a.work.now) (valid-room v s.pre.0.0.room) a.transitions.0 (least s) (omega (arith, before.entries.ensures, then.if1.true)) in
-    (wrote_as (sym is.text-is) done.write-refusal.ensures, (sym (sheet-answer a.answer.now is), refl))
+    let is = sheet_no_room a.file.now v.accepted (length a.answer.now) (length a.work.now) (valid_room v s.pre.0.0.room) a.transitions.0 (least s) (omega (arith, before.entries.ensures, then.if1.true)) in
+    (wrote_as (sym is.text_is) done.write-refusal.ensures, (sym (sheet_answer_lem a.answer.now is), refl))
 
 write-head-requires : tie.Need-write-head-requires
 write-head-requires c κs =
     let s = start (counted c.before) in
-    omega (arith, head-fits s.pre.0.0.valid (rounds-are s), s.pre.1.1.1)
+    omega (arith, head_fits s.pre.0.0.valid (rounds_are s), s.pre.1.1.1)
 
 number-requires : tie.Need-number-requires
 number-requires c κs = search rules
@@ -111,7 +111,7 @@ write-figure-requires c κs =
     let s = origin head in
     let w = head.write-head.ensures in
     let number = c.before.before.number in
-    omega (arith, head-fits s.pre.0.0.valid (rounds-are s), figure-room shortestWord number.result (omega (arith, number.ensures, length-range s)), s.pre.1.1.1, w.place, wrote-length w)
+    omega (arith, head_fits s.pre.0.0.valid (rounds_are s), figure_room shortest_word number.result (omega (arith, number.ensures, length_range s)), s.pre.1.1.1, w.place, wrote_length w)
 
 write-lists-requires : tie.Need-write-lists-requires
 write-lists-requires c κs =
@@ -127,7 +127,7 @@ write-lists-requires c κs =
         s.pre.1.0,
         (
           omega (arith, (counted else).entries.ensures, else.if1.left),
-          omega (arith, head-fits s.pre.0.0.valid (rounds-are s), figure-room shortestWord number.result (omega (arith, number.ensures, length-range s)), s.pre.1.1.1, w.place, v.place, wrote-length w, wrote-length v),
+          omega (arith, head_fits s.pre.0.0.valid (rounds_are s), figure_room shortest_word number.result (omega (arith, number.ensures, length_range s)), s.pre.1.1.1, w.place, v.place, wrote_length w, wrote_length v),
         ),
       ),
     )
@@ -147,15 +147,15 @@ returns-2 c =
     let length-line = figured lists in
     let head = headed length-line in
     let s = origin head in
-    let is = lists-are head.before.before in
+    let is = lists_are head.before.before in
     let a = s.args in
     let v = s.pre.0.0.valid in
-    let g-is = named-graph v s.pre.0.1 in
-    let same_text = ap (λ (g : Graph). listsText (roll g)) g-is in
-    let same_answer = ap (λ (g : Graph). written (lastPrinted (roll g)) a.answer.now) g-is in (
-      wrote_as (ap (λ (r : List ℕ). r ++ figure shortestWord a.transitions.0 ++ listsText (roll (graph_of a.file.now 0))) (head-is v (rounds-are s)) ∙ sym is.text-is)
-          (wrote_then (wrote_then head.write-head.ensures (wrote_as (ap (figure shortestWord) length-line.before.before.before.number.ensures) length-line.write-figure.ensures)) (wrote_as same_text lists.write-lists.ensures.0)),
-      (lists.write-lists.ensures.1.0 ∙ same_answer ∙ sym (sheet-answer a.answer.now is), lists.write-lists.ensures.1.1),
+    let g-is = named_graph v s.pre.0.1 in
+    let same_text = ap (λ (g : Graph). lists_text (roll g)) g-is in
+    let same_answer = ap (λ (g : Graph). written (last_printed (roll g)) a.answer.now) g-is in (
+      wrote_as (ap (λ (r : List ℕ). r ++ figure shortest_word a.transitions.0 ++ lists_text (roll (graph_of a.file.now 0))) (head_is v (rounds_are s)) ∙ sym is.text_is)
+          (wrote_then (wrote_then head.write-head.ensures (wrote_as (ap (figure shortest_word) length-line.before.before.before.number.ensures) length-line.write-figure.ensures)) (wrote_as same_text lists.write-lists.ensures.0)),
+      (lists.write-lists.ensures.1.0 ∙ same_answer ∙ sym (sheet_answer_lem a.answer.now is), lists.write-lists.ensures.1.1),
     )
 
 pub write-shortest-spec : {M : Type 1} → statement M

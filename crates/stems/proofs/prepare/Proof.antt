@@ -4,11 +4,11 @@ use mathlib.Core.Path.{subst}
 use mathlib.Core.Logic.{inr}
 use native.Mathlib.Omega.{arith}
 use borrow.Author.Rules.{rules}
-use Rattle.lasso.proofs.RollLaws.{leastLength-range}
-use Rattle.model.specs.Model.{graphIn}
-use Rattle.model.proofs.Laws.{Sizes, valid-sizes, valid-well-formed}
+use Rattle.lasso.proofs.RollLaws.{least_length_range}
+use Rattle.model.specs.Model.{graph_in}
+use Rattle.model.proofs.Laws.{Sizes, valid_sizes, valid_well_formed}
 use Rattle.walks.specs.Through.{DistancesWithin}
-use Rattle.stems.proofs.StemSteps.{stems-queue, stems-fit, stems-done, stems-outside}
+use Rattle.stems.proofs.StemSteps.{stems_queue, stems_fit, stems_done, stems_outside}
 use Rattle.stems.proofs.prepare.Statement.{statement}
 use Rattle.stems.proofs.prepare.Tie as tie
 
@@ -19,18 +19,18 @@ start c = c.before.before.before.before.before.before.before.before.before
 -- the distances are those up to the least length
 away : (c : tie.After-distances-from) →
     let a = (start c).args in
-    DistancesWithin (graphIn a.file.now a.h) a.h.start a.transitions.0 c.before.before.before.before.before.prepare-starts.new.1.1.0 c.distances-from.new.1.1.0 c.distances-from.result
+    DistancesWithin (graph_in a.file.now a.h) a.h.start a.transitions.0 c.before.before.before.before.before.prepare-starts.new.1.1.0 c.distances-from.new.1.1.0 c.distances-from.result
 away c =
     let a = (start c).args in
-    subst (λ (k : ℕ). DistancesWithin (graphIn a.file.now a.h) a.h.start k c.before.before.before.before.before.prepare-starts.new.1.1.0 c.distances-from.new.1.1.0 c.distances-from.result)
+    subst (λ (k : ℕ). DistancesWithin (graph_in a.file.now a.h) a.h.start k c.before.before.before.before.before.prepare-starts.new.1.1.0 c.distances-from.new.1.1.0 c.distances-from.result)
     c.before.before.number.ensures c.distances-from.ensures
 
 -- the distances, from the place after the copy, and from the place after the pass
 abbrev away_of : tie.After-copy → tie.After-distances-from
 away_of c = c.before.before.before.before
 
-abbrev copied-of : tie.After-keep-ways → tie.After-copy
-copied-of c = c.before.before.before.before
+abbrev copied_of : tie.After-keep-ways → tie.After-copy
+copied_of c = c.before.before.before.before
 
 prepare-starts-requires : tie.Need-prepare-starts-requires
 prepare-starts-requires c κs = search rules
@@ -41,11 +41,11 @@ number-requires c κs = search rules
 distances-from-requires : tie.Need-distances-from-requires
 distances-from-requires c κs =
     let s = c.before.before.before.before.before.before.before.before in
-    let sizes : Sizes s.args.file.now s.args.h = valid-sizes s.requires.0.valid in
-    let range = leastLength-range (graphIn s.args.file.now s.args.h) s.args.transitions.0 s.requires.1 in
+    let sizes : Sizes s.args.file.now s.args.h = valid_sizes s.requires.0.valid in
+    let range = least_length_range (graph_in s.args.file.now s.args.h) s.args.transitions.0 s.requires.1 in
     let same = c.before.before.before.before.prepare-starts.ensures.1.same_length in
     let number = c.before.number.ensures in
-    (s.requires.0.valid, (sizes.start-below, (omega arith, (omega arith, omega (arith, s.requires.0.room)))))
+    (s.requires.0.valid, (sizes.start_below, (omega arith, (omega arith, omega (arith, s.requires.0.room)))))
 
 mul-copy : tie.Need-overflow-mul-copy
 mul-copy c = search rules
@@ -66,21 +66,21 @@ keep-ways-requires c κs =
       s.pre.0.valid,
       (
         omega (arith, s.pre.0.room, first.1.same_length, (away a).outside.same_length, d.copy.ensures.others.same_length),
-        stems-queue (valid-well-formed s.pre.0.valid) s.pre.1 first.0 (away a) d.copy.ensures,
+        stems_queue (valid_well_formed s.pre.0.valid) s.pre.1 first.0 (away a) d.copy.ensures,
       ),
     )
 
 put-stems-requires : tie.Need-put-stems-requires
 put-stems-requires c κs =
     let k = c.before.before.before in
-    let d = copied-of k in
+    let d = copied_of k in
     let a = away_of d in
     let s = start a in
     let first = a.before.before.before.before.before.prepare-starts.ensures in (
-      (valid-sizes s.pre.0.valid).states-range.1,
+      (valid_sizes s.pre.0.valid).states_range.1,
       (
         omega (arith, s.pre.0.room, first.1.same_length, (away a).outside.same_length, d.copy.ensures.others.same_length, k.keep-ways.ensures.outside.same_length),
-        stems-fit (valid-well-formed s.pre.0.valid) s.pre.1 first.0 (away a) d.copy.ensures k.keep-ways.ensures,
+        stems_fit (valid_well_formed s.pre.0.valid) s.pre.1 first.0 (away a) d.copy.ensures k.keep-ways.ensures,
       ),
     )
 
@@ -91,13 +91,13 @@ returns : tie.Need-returns
 returns c =
     let p = c.before.before in
     let k = p.before.before.before.before in
-    let d = copied-of k in
+    let d = copied_of k in
     let a = away_of d in
     let s = start a in
     let first = a.before.before.before.before.before.prepare-starts.ensures in
-    let wf = valid-well-formed s.pre.0.valid in (
-      stems-done wf s.pre.1 first.0 (away a) d.copy.ensures k.keep-ways.ensures p.put-stems.ensures,
-      stems-outside wf s.pre.1 first.0 (away a) d.copy.ensures k.keep-ways.ensures p.put-stems.ensures first.1,
+    let wf = valid_well_formed s.pre.0.valid in (
+      stems_done wf s.pre.1 first.0 (away a) d.copy.ensures k.keep-ways.ensures p.put-stems.ensures,
+      stems_outside wf s.pre.1 first.0 (away a) d.copy.ensures k.keep-ways.ensures p.put-stems.ensures first.1,
     )
 
 pub prepare-spec : {M : Type 1} → statement M

@@ -5,8 +5,8 @@ use native.Mathlib.Omega.{arith}
 use borrow.Author.Rules.{rules}
 use lib.ListN.{length}
 use Rattle.frontier.specs.Regions.{entry}
-use Rattle.stems.specs.Stems.{flagOf, StemsPut}
-use Rattle.stems.proofs.StemTable.{entry-one, flag-low, stems-none, stems-more}
+use Rattle.stems.specs.Stems.{flag_of, StemsPut}
+use Rattle.stems.proofs.StemTable.{entry_one, flag_low, stems_none, stems_more}
 use Rattle.stems.proofs.put_stems.Statement.{statement}
 use Rattle.stems.proofs.put_stems.Tie as tie
 
@@ -24,22 +24,22 @@ long : (c : tie.At-loop invariant-loop decreases-loop) → length c.loop.work �
 long c = c.loop.invariant.1.outside.same_length
 
 -- the loop, from the place after the flag
-abbrev loop-of : tie.After-flag invariant-loop decreases-loop → tie.At-loop invariant-loop decreases-loop
-loop-of c = c.before.before.before.before.before.before
+abbrev loop_of : tie.After-flag invariant-loop decreases-loop → tie.At-loop invariant-loop decreases-loop
+loop_of c = c.before.before.before.before.before.before
 
 -- the level read is that of the table at first, and small
-level-low : (c : tie.After-flag invariant-loop decreases-loop) → c.before.before.before.get.result ≤ (start (loop-of c)).args.n
-level-low c =
-    let l = loop-of c in
+level_low : (c : tie.After-flag invariant-loop decreases-loop) → c.before.before.before.get.result ≤ (start (loop_of c)).args.n
+level_low c =
+    let l = loop_of c in
     let s = start l in
     omega (arith, c.before.before.before.get.ensures.0, l.loop.inv.1.outside.same_after (2 * s.args.n + l.loop.s) (omega arith), s.pre.1.1 l.loop.s (omega (arith, c.before.before.before.before.before.loop-test.true)))
 
 -- the flag is at most 1
-one-low : (c : tie.After-flag invariant-loop decreases-loop) → c.flag.result ≤ 1
-one-low c = omega (arith, c.flag.ensures, flag-low c.before.get2.result)
+one_low : (c : tie.After-flag invariant-loop decreases-loop) → c.flag.result ≤ 1
+one_low c = omega (arith, c.flag.ensures, flag_low c.before.get2.result)
 
 loop-holds : tie.Need-loop-init invariant-loop decreases-loop
-loop-holds c = (omega arith, stems-none _ _)
+loop-holds c = (omega arith, stems_none _ _)
 
 mul-get : tie.Need-overflow-mul-get invariant-loop decreases-loop
 mul-get c = omega arith
@@ -63,14 +63,14 @@ add-put : tie.Need-overflow-add-put invariant-loop decreases-loop
 add-put c = omega arith
 
 mul-put : tie.Need-overflow-mul-put invariant-loop decreases-loop
-mul-put c = omega (arith, level-low c.before)
+mul-put c = omega (arith, level_low c.before)
 
 add-put-2 : tie.Need-overflow-add-put-2 invariant-loop decreases-loop
-add-put-2 c = omega (arith, level-low c.before, one-low c.before)
+add-put-2 c = omega (arith, level_low c.before, one_low c.before)
 
 put-requires : tie.Need-put-requires invariant-loop decreases-loop
 put-requires c κs =
-    (omega (arith, long (loop-of c.before)), omega (arith, level-low c.before, one-low c.before))
+    (omega (arith, long (loop_of c.before)), omega (arith, level_low c.before, one_low c.before))
 
 add-s : tie.Need-overflow-add-s invariant-loop decreases-loop
 add-s c = omega arith
@@ -81,13 +81,13 @@ loop-less c = omega arith
 loop-again : tie.Need-loop-preserved invariant-loop decreases-loop
 loop-again c =
     let f = c.before.before.before.before in
-    let l = loop-of f in
+    let l = loop_of f in
     let n = (start l).args.n in
-    let one : flagOf f.before.get2.result ≡ flagOf (entry 1 n l.loop.work l.loop.s) =
-    ap flagOf (f.before.get2.ensures.0 ∙ sym (entry-one n l.loop.work l.loop.s)) in (
+    let one : flag_of f.before.get2.result ≡ flag_of (entry 1 n l.loop.work l.loop.s) =
+    ap flag_of (f.before.get2.ensures.0 ∙ sym (entry_one n l.loop.work l.loop.s)) in (
       omega arith,
       rw c.before.before.put.ensures
-          (stems-more _ (omega arith) (omega arith) l.loop.inv.1 (omega (arith, one, f.flag.ensures, f.before.before.before.get.ensures.0))),
+          (stems_more _ (omega arith) (omega arith) l.loop.inv.1 (omega (arith, one, f.flag.ensures, f.before.before.before.get.ensures.0))),
     )
 
 same_length : tie.Need-same-length invariant-loop decreases-loop

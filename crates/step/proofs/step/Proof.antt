@@ -4,12 +4,12 @@ use mathlib.Core.Path.{◌∙◌}
 use native.Mathlib.Omega.{arith}
 use borrow.Author.Rules.{rules}
 use lib.ListN.{length}
-use Rattle.lasso.specs.Values.{recordOf}
+use Rattle.lasso.specs.Values.{record_of}
 use Rattle.outcomes.proofs.OutcomeLaws.{at_table}
 use Rattle.gate.specs.Gate.{GatePassed}
-use Rattle.gate.proofs.GateLaws.{gate-refused, gate-passed, entered-length, work-refused, work-left}
-use Rattle.step.specs.Step.{stepOutcome}
-use Rattle.step.proofs.StepLaws.{step-refused}
+use Rattle.gate.proofs.GateLaws.{gate_refused, gate_passed, entered_length, work_refused, work_left_lem}
+use Rattle.step.specs.Step.{step_outcome}
+use Rattle.step.proofs.StepLaws.{step_refused}
 use Rattle.step.proofs.step.Statement.{statement}
 use Rattle.step.proofs.step.Tie as tie
 
@@ -27,7 +27,7 @@ passed : (c : tie.After-checked2)
 passed c =
     let entered = gate c.before.before in
     let a = (start entered).args in
-    gate-passed a.file.now a.mark-table (length a.work.now) entered.enter.ensures.0 c.checked2.given.1
+    gate_passed a.file.now a.mark-table (length a.work.now) entered.enter.ensures.0 c.checked2.given.1
 
 enter-requires : tie.Need-enter-requires
 enter-requires c κs = search rules
@@ -44,7 +44,7 @@ step-model-requires c κs =
     let entered = gate accepted.before.before in
     let a = (start entered).args in
     let is = passed accepted in
-    (is.valid, omega (arith, is.room, entered-length a.mark-table a.work.now entered.enter.ensures.1))
+    (is.valid, omega (arith, is.room, entered_length a.mark-table a.work.now entered.enter.ensures.1))
 
 leave-requires : tie.Need-leave-requires
 leave-requires c κs = search rules
@@ -57,9 +57,9 @@ returns c =
     let refused = c.before in
     let entered = gate refused.before.before in
     let a = (start entered).args in
-    let broken = gate-refused a.file.now a.mark-table (length a.work.now) entered.enter.ensures.0 refused.checked.given.1 in (
-      step-refused a.file.now a.mark-table a.ceiling.0 (recordOf a.so_far) _ _ broken,
-      work-refused a.file.now a.mark-table a.work.now _ broken entered.enter.ensures.1,
+    let broken = gate_refused a.file.now a.mark-table (length a.work.now) entered.enter.ensures.0 refused.checked.given.1 in (
+      step_refused a.file.now a.mark-table a.ceiling.0 (record_of a.so_far) _ _ broken,
+      work_refused a.file.now a.mark-table a.work.now _ broken entered.enter.ensures.1,
     )
 
 same-length-2 : tie.Need-same-length-2
@@ -73,9 +73,9 @@ returns-2 c =
     let entered = gate accepted.before.before in
     let a = (start entered).args in
     let is = passed accepted in
-    let same = entered-length a.mark-table a.work.now entered.enter.ensures.1 in (
-      at_table (λ t n. stepOutcome a.file.now t a.ceiling.0 (recordOf a.so_far) n) done.step-model.ensures.0 is.named same,
-      work-left a.file.now a.mark-table a.work.now is.clear (done.step-model.ensures.1 ∙ same) left.leave.ensures,
+    let same = entered_length a.mark-table a.work.now entered.enter.ensures.1 in (
+      at_table (λ t n. step_outcome a.file.now t a.ceiling.0 (record_of a.so_far) n) done.step-model.ensures.0 is.named same,
+      work_left_lem a.file.now a.mark-table a.work.now is.clear (done.step-model.ensures.1 ∙ same) left.leave.ensures,
     )
 
 pub step_spec : {M : Type 1} → statement M

@@ -7,13 +7,13 @@ use borrow.Author.Rules.{rules}
 use borrow.Author.Tests.{ltb-true, ltb-false}
 use lib.ListN.{length}
 use Rattle.lasso.specs.Graph.{Graph}
-use Rattle.lasso.specs.Rounds.{candidates, afterRound}
-use Rattle.lasso.specs.Values.{recordOf}
-use Rattle.model.specs.Model.{graphIn}
-use Rattle.model.proofs.Laws.{valid-graph}
-use Rattle.gate.proofs.GateLaws.{valid-clear}
-use Rattle.candidates.proofs.DistanceLaws.{ready-started}
-use Rattle.step.proofs.StepLaws.{step-too-high, step-finished, step-advanced}
+use Rattle.lasso.specs.Rounds.{candidates, after_round}
+use Rattle.lasso.specs.Values.{record_of}
+use Rattle.model.specs.Model.{graph_in}
+use Rattle.model.proofs.Laws.{valid_graph}
+use Rattle.gate.proofs.GateLaws.{valid_clear}
+use Rattle.candidates.proofs.DistanceLaws.{ready_started}
+use Rattle.step.proofs.StepLaws.{step_too_high, step_finished, step_advanced}
 use Rattle.step.proofs.step_model.Statement.{statement}
 use Rattle.step.proofs.step_model.Tie as tie
 
@@ -28,11 +28,11 @@ abbrev start : tie.After-count-candidates → tie.Start
 start c = (low c).before.before.before.before
 
 -- the ceiling is not too high
-not-high : (c : tie.After-count-candidates) → (start c).args.ceiling.0 ≤ 4096
-not-high c = ltb-false 4096 _ (sym (low c).before.ceiling-too-high.ensures ∙ (low c).if1.false)
+not_high : (c : tie.After-count-candidates) → (start c).args.ceiling.0 ≤ 4096
+not_high c = ltb-false 4096 _ (sym (low c).before.ceiling-too-high.ensures ∙ (low c).if1.false)
 
 -- a candidate is left
-left_over : (c : tie.Else2) → let a = (start c.before.before).args in a.so_far.done < length (candidates (graphIn a.file.now a.h))
+left_over : (c : tie.Else2) → let a = (start c.before.before).args in a.so_far.done < length (candidates (graph_in a.file.now a.h))
 left_over c = omega (arith, c.before.before.count-candidates.ensures, c.if2.false)
 
 ceiling-too-high-requires : tie.Need-ceiling-too-high-requires
@@ -42,7 +42,7 @@ returns : tie.Need-returns
 returns c =
     let s = c.before.before.before.before in
     let a = s.args in (
-      step-too-high a.file.now a.h.table a.ceiling.0 (recordOf a.so_far) _ (valid-clear s.requires.0 _ s.requires.1)
+      step_too_high a.file.now a.h.table a.ceiling.0 (record_of a.so_far) _ (valid_clear s.requires.0 _ s.requires.1)
           (ltb-true 4096 _ (sym c.before.ceiling-too-high.ensures ∙ c.if1.true)),
       refl,
     )
@@ -64,17 +64,17 @@ returns-2 c =
     let counted = c.before.before in
     let s = start counted in
     let a = s.args in
-    let none_left : length (candidates (graphIn a.file.now a.h)) ≤ a.so_far.done = omega (arith, counted.count-candidates.ensures, c.if2.true) in (
-      step-finished a.file.now a.h.table a.ceiling.0 (recordOf a.so_far) _ (valid-clear s.pre.0 _ s.pre.1) (not-high counted)
-          (subst (λ (g : Graph). length (candidates g) ≤ a.so_far.done) (valid-graph s.pre.0) none_left),
-      (started counted).start-distances.ensures.same_length,
+    let none_left : length (candidates (graph_in a.file.now a.h)) ≤ a.so_far.done = omega (arith, counted.count-candidates.ensures, c.if2.true) in (
+      step_finished a.file.now a.h.table a.ceiling.0 (record_of a.so_far) _ (valid_clear s.pre.0 _ s.pre.1) (not_high counted)
+          (subst (λ (g : Graph). length (candidates g) ≤ a.so_far.done) (valid_graph s.pre.0) none_left),
+      (started counted).start_distances.ensures.same_length,
     )
 
 next-round-requires : tie.Need-next-round-requires
 next-round-requires c κs =
     let counted = c.before.before.before in
     let s = start counted in
-    (ready-started s.pre.0 s.pre.1 (started counted).start-distances.ensures, left_over c.before)
+    (ready_started s.pre.0 s.pre.1 (started counted).start_distances.ensures, left_over c.before)
 
 same-length-2 : tie.Need-same-length-2
 same-length-2 c = search rules
@@ -86,11 +86,11 @@ returns-3 c =
     let counted = else.before.before in
     let s = start counted in
     let a = s.args in
-    let g-is = valid-graph s.pre.0 in (
-      step-advanced a.file.now a.h.table a.ceiling.0 (recordOf a.so_far) _ (valid-clear s.pre.0 _ s.pre.1) (not-high counted)
+    let g-is = valid_graph s.pre.0 in (
+      step_advanced a.file.now a.h.table a.ceiling.0 (record_of a.so_far) _ (valid_clear s.pre.0 _ s.pre.1) (not_high counted)
           (subst (λ (g : Graph). a.so_far.done < length (candidates g)) g-is (left_over else)) _
-          (subst (λ (g : Graph). recordOf done.next-round.result ≡ afterRound g a.ceiling.0 (recordOf a.so_far)) g-is done.next-round.ensures.0),
-      done.next-round.ensures.1.same_length ∙ (started counted).start-distances.ensures.same_length,
+          (subst (λ (g : Graph). record_of done.next-round.result ≡ after_round g a.ceiling.0 (record_of a.so_far)) g-is done.next-round.ensures.0),
+      done.next-round.ensures.1.same_length ∙ (started counted).start_distances.ensures.same_length,
     )
 
 pub step-model-spec : {M : Type 1} → statement M

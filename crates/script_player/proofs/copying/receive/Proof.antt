@@ -4,7 +4,7 @@ use mathlib.Core.Path.{◌≡◌, refl, sym, ◌∙◌, ap}
 use mathlib.Core.List.{List}
 use Prim.Native.Nat.{ℕ, ◌+◌, ◌-◌, ◌≤◌}
 use lib.ListN.{length, take}
-use Rattle.script_player.proofs.CopyLaws.{entry-copied, nothing-got, something-got}
+use Rattle.script_player.proofs.CopyLaws.{entry-copied, nothing_got, something_got}
 use Rattle.script_player.proofs.copying.receive.Statement.{statement}
 use Rattle.script_player.proofs.copying.receive.Tie as tie
 
@@ -17,7 +17,7 @@ decreases-loop answer got copy₀ held i₀ copy i = got - i
 returns : tie.Need-returns invariant-loop decreases-loop
 returns c =
     let a = c.before.before.before.args in
-    (nothing-got a.answer.now a.copy.now a.got a.held c.if1.true, c.before.before.before.requires.1.1)
+    (nothing_got a.answer.now a.copy.now a.got a.held c.if1.true, c.before.before.before.requires.1.1)
 
 loop-holds : tie.Need-loop-init invariant-loop decreases-loop
 loop-holds c = (omega arith, refl, refl)
@@ -52,7 +52,7 @@ returns-2 c =
     let else = at.before in
     let a = else.before.before.before.args in
     let e : at.loop.i ≡ a.got = omega arith in
-    (something-got a.answer.now a.copy.now at.loop.copy a.got a.held else.if1.false (ap (λ (n : ℕ). take n at.loop.copy) (sym e) ∙ at.loop.invariant.2 ∙ ap (λ (n : ℕ). take n a.answer.now) e), else.before.before.before.requires.1.0)
+    (something_got a.answer.now a.copy.now at.loop.copy a.got a.held else.if1.false (ap (λ (n : ℕ). take n at.loop.copy) (sym e) ∙ at.loop.invariant.2 ∙ ap (λ (n : ℕ). take n a.answer.now) e), else.before.before.before.requires.1.0)
 
 pub receive-spec : {M : Type 1} → statement M
 receive-spec =

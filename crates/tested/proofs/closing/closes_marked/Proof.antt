@@ -8,22 +8,22 @@ use mathlib.Core.List.{List, ◌∷◌}
 use native.Mathlib.Omega.{arith}
 use lib.ListN.{get_or}
 use Rattle.model.specs.declared.Header.{Header}
-use Rattle.model.specs.Model.{graphIn}
+use Rattle.model.specs.Model.{graph_in}
 use Rattle.frontier.specs.Regions.{entry}
 use Rattle.lists.specs.Decides.{Decides}
-use Rattle.tested.proofs.ClosingTests.{MarkFrom, markFrom-here, markFrom-skip, from_more, read-two}
+use Rattle.tested.proofs.ClosingTests.{MarkFrom, mark_from_here, mark_from_skip, from_more, read_two}
 use Rattle.tested.proofs.closing.closes_marked.Statement.{statement}
 use Rattle.tested.proofs.closing.closes_marked.Tie as tie
 
 -- the state at place x is not reached soon enough, or no state from it on is marked
 abbrev NotClosing : List ℕ → Header → List ℕ → ℕ → ℕ → ℕ → Type 0
 NotClosing f h w place left x =
-    (a : ℕ) → MarkFrom (graphIn f h) h.start w place x → entry 2 h.states w (get_or (h.start ∷ w) x 0) ≡ suc a
+    (a : ℕ) → MarkFrom (graph_in f h) h.start w place x → entry 2 h.states w (get_or (h.start ∷ w) x 0) ≡ suc a
     → a ≤ left → ⊥
 
 abbrev invariant-loop : tie.invariant-loop
 invariant-loop file h work place left n marked₀ k₀ marked k =
-    (k ≤ place + 1) × Decides (MarkFrom (graphIn file h) h.start work place k) marked × ((x : ℕ) → k ≤ x → NotClosing file h work place left x)
+    (k ≤ place + 1) × Decides (MarkFrom (graph_in file h) h.start work place k) marked × ((x : ℕ) → k ≤ x → NotClosing file h work place left x)
 
 abbrev decreases-loop : tie.decreases-loop
 decreases-loop file h work place left n marked₀ k₀ marked k = k
@@ -51,21 +51,21 @@ is-marked-requires c κs = (c.before.before.before.before.before.requires.0, ins
 
 -- what the mark's test answers of the state at the place
 mark : (c : tie.After-is-marked invariant-loop decreases-loop) → let at = c.before.before.before in let a = at.before.before.before.args in
-    (graphIn a.file.now a.h).marked (get_or (a.h.start ∷ a.work.now) (at.loop.k - 1) 0) ≡ c.is-marked.result
+    (graph_in a.file.now a.h).marked (get_or (a.h.start ∷ a.work.now) (at.loop.k - 1) 0) ≡ c.is-marked.result
 mark c =
     let at = c.before.before.before in
     let a = at.before.before.before.args in
-    sym (c.is-marked.ensures ∙ ap (graphIn a.file.now a.h).marked c.before.list_at.ensures)
+    sym (c.is-marked.ensures ∙ ap (graph_in a.file.now a.h).marked c.before.list_at.ensures)
 
 -- after its state is looked at, the flag tells if a state from a place on is marked
 flag : (c : tie.Joined1 invariant-loop decreases-loop) → let at = c.before.before.before.before in let a = at.before.before.before.args in
-    Decides (MarkFrom (graphIn a.file.now a.h) a.h.start a.work.now a.place (at.loop.k - 1)) c.if1.marked
+    Decides (MarkFrom (graph_in a.file.now a.h) a.h.start a.work.now a.place (at.loop.k - 1)) c.if1.marked
 flag c =
     let at = c.before.before.before.before in
     let a = at.before.before.before.args in
-    let g = graphIn a.file.now a.h in
+    let g = graph_in a.file.now a.h in
     let l : 1 ≤ at.loop.k = omega arith in
-    ⊎_elim (λ v. markFrom-here g a.h.start a.work.now a.place at.loop.k l (omega arith) (mark c.before ∙ v.0.taken) c.if1.marked v.1) (λ v. markFrom-skip g a.h.start a.work.now a.place at.loop.k l (mark c.before ∙ v.0.left) c.if1.marked at.loop.marked v.1 at.loop.invariant.1) c.if1.branch
+    ⊎_elim (λ v. mark_from_here g a.h.start a.work.now a.place at.loop.k l (omega arith) (mark c.before ∙ v.0.taken) c.if1.marked v.1) (λ v. mark_from_skip g a.h.start a.work.now a.place at.loop.k l (mark c.before ∙ v.0.left) c.if1.marked at.loop.marked v.1 at.loop.invariant.1) c.if1.branch
 
 -- the level read is the entry of region 2 for the state at the place
 level : (c : tie.After-get invariant-loop decreases-loop) → let at = c.before.before.before.before.before.before in let a = at.before.before.before.args in
@@ -74,7 +74,7 @@ level c =
     let at = c.before.before.before.before.before.before in
     let a = at.before.before.before.args in
     let place = c.before.before.before.before.list_at in
-    c.get.ensures.0 ∙ read-two a.h.states a.work.now place.result _ place.ensures
+    c.get.ensures.0 ∙ read_two a.h.states a.work.now place.result _ place.ensures
 
 -- one place more is looked at
 more : (c : tie.Joined1 invariant-loop decreases-loop) → let at = c.before.before.before.before in let a = at.before.before.before.args in

@@ -10,7 +10,7 @@ use lib.ListN.{get_or}
 use Rattle.frontier.specs.Regions.{entry}
 use Rattle.follow.specs.Follow.{Starts}
 use Rattle.follow.proofs.FollowTests.{read_one}
-use Rattle.tested.proofs.ClosingTests.{read-two}
+use Rattle.tested.proofs.ClosingTests.{read_two}
 use Rattle.tested.proofs.closing.closes_start.Statement.{statement}
 use Rattle.tested.proofs.closing.closes_start.Tie as tie
 
@@ -42,7 +42,7 @@ two : (c : tie.After-get invariant-loop decreases-loop) → let at = c.before.be
 two c =
     let at = c.before.before.before in
     let a = at.before.before.args in
-    c.get.ensures.0 ∙ read-two a.h.states a.work.now c.before.list_at.result _ c.before.list_at.ensures
+    c.get.ensures.0 ∙ read_two a.h.states a.work.now c.before.list_at.result _ c.before.list_at.ensures
 
 -- what is read of the stems is the entry of region 1 for the state at the place
 one : (c : tie.After-get2 invariant-loop decreases-loop) → let at = c.before.before.before.before in let a = at.before.before.args in

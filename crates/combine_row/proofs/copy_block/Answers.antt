@@ -1,0 +1,70 @@
+use Prim.Native.Nat.{◌+◌, ◌*◌, ◌-◌, ◌≤◌, ◌<◌}
+use mathlib.Core.Path.{◌≡◌, ap, ◌∙◌}
+use native.Mathlib.Omega.{arith}
+use lib.ListN.{length}
+use Rattle.format.specs.Bytes.{word}
+use Rattle.text.proofs.WroteLaws.{wrote_length, wrote_none, wrote_as}
+use Rattle.writer.specs.File.{words16}
+use Rattle.combine_row.specs.Row.{copied}
+use Rattle.combine_row.proofs.CopyLaws.{word_before, copied_bytes, wrote_copied}
+use Rattle.combine_row.proofs.copy_block.Goals as goal
+use Rattle.combine_row.proofs.copy_block.Goals.{After-word-entry, In-loop-j}
+
+-- what a turn reads stood there at the start, is at least base, and fits with base replaced
+entry : (c : After-word-entry) →
+    let at_loop = c in
+    let a = at_loop.args in
+    let x = word a.out.now (a.from + 2 * at_loop.loop-j.j) in
+    (c.word-entry.result ≡ x) × (a.base ≤ x) × (a.other + (x - a.base) < 65536)
+entry c =
+    let at_loop = c in
+    let start = at_loop in
+    let i = start.args.from + 2 * at_loop.loop-j.j in
+    let fits = start.requires.block_fits at_loop.loop-j.j (omega arith) in
+    (c.word-entry.ensures.0 ∙ word_before i (omega arith) at_loop.loop-j.invariant.1, fits.0, fits.1)
+
+-- where all numbers have room, the next one has
+room : (c : In-loop-j) →
+    c.loop-j.next + 1 < length c.loop-j.out
+room c =
+    let a = c.args in
+    let w = c.loop-j.invariant.1 in
+    omega (arith, w.place, wrote_length w, copied_bytes a.out.now a.from a.base a.other c.loop-j.j)
+
+pub loop-j-init : goal.loop-j-init
+loop-j-init c = (omega arith, wrote_none c.args.out.now c.args.at (omega arith))
+
+pub word-entry-requires : goal.word-entry-requires
+word-entry-requires c = omega (arith, room c)
+
+pub overflow_sub-entry : goal.overflow_sub-entry
+overflow_sub-entry c = omega (arith, entry (goal.at.overflow_sub-entry c).After-word-entry)
+
+pub overflow_add-other : goal.overflow_add-other
+overflow_add-other c = omega (arith, entry (goal.at.overflow_add-other c).After-word-entry)
+
+pub write_word-next-requires : goal.write_word-next-requires
+write_word-next-requires c =
+    record {
+  at_in_bounds = room (goal.at.write_word-next-requires c).In-loop-j;
+  x_bound = omega (arith, entry (goal.at.write_word-next-requires c).After-word-entry);
+}
+
+pub loop-j-preserved : goal.loop-j-preserved
+loop-j-preserved c =
+    let done = c in
+    let read = (goal.at.loop-j-preserved done).After-word-entry in
+    let at_loop = read in
+    let a = at_loop.args in
+    let x = a.other + (read.word-entry.result - a.base) in
+    let e = ap (λ t. a.other + (t - a.base)) (entry read).0 in
+    (omega arith, wrote_copied a.out.now a.from a.base a.other at_loop.loop-j.j x e at_loop.loop-j.invariant.1 done.write_word-next.ensures)
+
+pub shape_of-out : goal.shape_of-out
+shape_of-out c = wrote_length c.loop-j.invariant.1
+
+pub returns : goal.returns
+returns c =
+    let a = c.args in
+    let all : c.loop-j.j ≡ a.count = omega (arith, c.loop-j-test.false, c.loop-j.invariant.0) in
+    wrote_as (ap (λ n. words16 (copied a.out.now a.from n a.base a.other)) all) c.loop-j.invariant.1
