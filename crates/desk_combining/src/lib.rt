@@ -129,14 +129,12 @@ fn has_argument<R: Env>(rt: &R, place: usize) -> bool {
 
 // How many arguments the program was started with, its own name among them.
 pub fn argument_count<R: Env>(rt: &R) -> usize {
-    let mut count = 0;
-    while count < usize::MAX {
+    for count in 0..usize::MAX {
         if !has_argument(rt, count) {
             return count;
         }
-        count += 1;
     }
-    count
+    usize::MAX
 }
 
 // Writes an argument to the front of a text, and answers its length: 0 if it is missing or longer than the text.
