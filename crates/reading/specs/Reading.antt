@@ -1,5 +1,6 @@
 -- What the answer to a read tells, and what counts as the input.
-use Rattle.std.specs.Prelude.{ℕ, ◌≡◌, Bool, true, false, List, [], take, Result, Ok, Err}
+use Rattle.std.specs.Prelude.{ℕ, ◌≡◌, ◌<◌, Bool, true, false, List, [], take, length, Option, Result, Ok, Err}
+use Rattle.std.specs.Io.KnownBytes.{Consumes, IsAtEnd}
 use Rattle.lists.specs.Lists.{pick}
 
 -- the read failed: the answer is an error
@@ -14,3 +15,9 @@ input_of failed read = pick failed [] read
 -- the part is the first bytes of an input, so many or all that there are
 pub record FirstBytes (most : ℕ) (input part : List ℕ) : Type 0 where
   pub are : part ≡ take most input
+
+-- What was read by a reader that had the bytes `before` left and then has the bytes `after`, where those are known: so many
+-- bytes of a buffer, which are the next ones. If no read failed, and the buffer has room for more, the input has ended.
+pub record ReadsOn (before after : Option (List ℕ)) (count : ℕ) (failed : Bool) (buffer : List ℕ) : Type 0 where
+  pub bytes : Consumes before after (take count buffer)
+  pub ended : failed ≡ false → count < length buffer → IsAtEnd after

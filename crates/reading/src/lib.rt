@@ -2,10 +2,11 @@
 // byte more than the longest input has, so that no longer one passes for it, and no more is read than decides.
 #![tactic(auto)]
 
-ghost use Rattle.std.specs.Prelude.{◌≡◌, length, take};
+ghost use Rattle.std.specs.Prelude.{◌≡◌, ◌<◌, false, length, take};
+ghost use Rattle.std.specs.Io.KnownBytes.{Consumes, IsAtEnd};
 ghost use Rattle.numbers.specs.Limits.{file_bytes, letters_bytes, property_bytes};
 ghost use Rattle.text.specs.Writing.{Within};
-ghost use Rattle.reading.specs.Reading.{failed_read, input_of, FirstBytes};
+ghost use Rattle.reading.specs.Reading.{failed_read, input_of, FirstBytes, ReadsOn};
 
 use std::io::Read;
 use std::rt::Files;
@@ -54,7 +55,10 @@ fn has_failed(got: &io::Result<usize>) -> bool
 
 // Reads once. No bytes are read at the end of the input, or if the read fails.
 fn read_once<R: Read>(from: &mut R, buffer: &mut [u8]) -> Reading
-    ensures { Within result.count buffer.new }
+    ensures within { Within result.count buffer.new }
+    ensures bytes { Consumes (R.remaining from.old) (R.remaining from.new) (take result.count buffer.new) }
+    ensures ended { result.failed ≡ false → result.count ≡ 0 → 0 < length buffer.new
+        → IsAtEnd (R.remaining from.new) }
 {
     let got = from.read(buffer);
     let failed = has_failed(&got);
@@ -67,7 +71,8 @@ fn read_once<R: Read>(from: &mut R, buffer: &mut [u8]) -> Reading
 
 // Reads until the buffer is full, the input ends or a read fails.
 fn read_input<R: Read>(from: &mut R, buffer: &mut [u8]) -> Reading
-    ensures { Within result.count buffer.new }
+    ensures within { Within result.count buffer.new }
+    ensures read { ReadsOn (R.remaining from.old) (R.remaining from.new) result.count result.failed buffer.new }
 {
     let mut count = 0;
     while count < buffer.len() {
@@ -90,7 +95,8 @@ fn read_input<R: Read>(from: &mut R, buffer: &mut [u8]) -> Reading
 // Reads a model file.
 pub fn read_model<R: Read>(from: &mut R, buffer: &mut [u8]) -> Reading
     requires { length buffer.old ≡ file_bytes }
-    ensures { Within result.count buffer.new }
+    ensures within { Within result.count buffer.new }
+    ensures read { ReadsOn (R.remaining from.old) (R.remaining from.new) result.count result.failed buffer.new }
 {
     read_input(from, buffer)
 }
@@ -98,7 +104,8 @@ pub fn read_model<R: Read>(from: &mut R, buffer: &mut [u8]) -> Reading
 // Reads the letters of a rule.
 pub fn read_letters<R: Read>(from: &mut R, buffer: &mut [u8]) -> Reading
     requires { length buffer.old ≡ letters_bytes }
-    ensures { Within result.count buffer.new }
+    ensures within { Within result.count buffer.new }
+    ensures read { ReadsOn (R.remaining from.old) (R.remaining from.new) result.count result.failed buffer.new }
 {
     read_input(from, buffer)
 }
@@ -106,7 +113,8 @@ pub fn read_letters<R: Read>(from: &mut R, buffer: &mut [u8]) -> Reading
 // Reads a property.
 pub fn read_property<R: Read>(from: &mut R, buffer: &mut [u8]) -> Reading
     requires { length buffer.old ≡ property_bytes }
-    ensures { Within result.count buffer.new }
+    ensures within { Within result.count buffer.new }
+    ensures read { ReadsOn (R.remaining from.old) (R.remaining from.new) result.count result.failed buffer.new }
 {
     read_input(from, buffer)
 }
