@@ -1,4 +1,6 @@
 // The answers of search and next as numbers, for callers that have no enums: a kind, and figures in a lent table.
+#![tactic(auto)]
+
 ghost use Rattle.std.specs.Prelude.{◌≡◌, ◌≤◌, length};
 ghost use Rattle.search.specs.Search.{search_outcome_of};
 ghost use Rattle.next.specs.Next.{next_outcome_of};

@@ -1,4 +1,6 @@
 // A next in C, but for its name there: the answer goes as numbers.
+#![tactic(auto)]
+
 ghost use Rattle.std.specs.Prelude.{◌≡◌};
 ghost use Rattle.figures.specs.Kinds.{figures_in};
 ghost use Rattle.figures.specs.Short.{work_after_call};

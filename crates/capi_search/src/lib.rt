@@ -1,4 +1,6 @@
 // A search in C, but for its name there: what is asked comes as numbers, and the answer goes as numbers.
+#![tactic(auto)]
+
 ghost use Rattle.std.specs.Prelude.{◌≡◌};
 ghost use Rattle.gate.specs.Gate.{asking};
 ghost use Rattle.figures.specs.Kinds.{figures_in};

@@ -16,7 +16,7 @@ use harness::{header_word, put_byte, text};
 use table::put;
 
 // An item: its sign, its numbers, and the place after it.
-#[derive(Drop)]
+#[derive(Clone, Copy)]
 struct Item {
     sign: u8,
     first: usize,
@@ -27,7 +27,7 @@ struct Item {
 }
 
 // The place after an item with a sign, given the places after each of the four numbers from its first one on.
-fn behind(sign: u8, one: usize, two: usize, three: usize, four: usize) -> usize
+fn behind(rt: &impl Print, sign: u8, one: usize, two: usize, three: usize, four: usize) -> usize
     requires { (one ≤ two) × (two ≤ three) × (three ≤ four) }
     ensures { result ≤ four }
 {
@@ -37,7 +37,7 @@ fn behind(sign: u8, one: usize, two: usize, three: usize, four: usize) -> usize
         b'@' => two,
         b' ' | b'b' | b'=' => one,
         _ => {
-            text(b" unknown sign");
+            text(rt, b" unknown sign");
             one
         }
     }
@@ -45,7 +45,7 @@ fn behind(sign: u8, one: usize, two: usize, three: usize, four: usize) -> usize
 
 // The item whose first number begins at a place. It has no more numbers than its sign says; those after them are not
 // looked at.
-fn item_at(words: &[u8], place: usize) -> Item
+fn item_at(rt: &impl Print, words: &[u8], place: usize) -> Item
     requires { place ≤ length words.now }
     ensures { (result.first < 100000) × (result.second < 100000) × (result.third < 100000) × (result.next ≤ length words.now) }
 {
@@ -64,7 +64,7 @@ fn item_at(words: &[u8], place: usize) -> Item
         second: second.value,
         third: third.value,
         fourth: fourth.value,
-        next: behind(sign, first.next, second.next, third.next, fourth.next),
+        next: behind(rt, sign, first.next, second.next, third.next, fourth.next),
     }
 }
 
@@ -188,20 +188,20 @@ fn put_item(file: &mut [u8], size: usize, i: Item) -> usize
 }
 
 // Makes the file that a text describes; answers its length.
-pub fn make(words: &[u8], file: &mut [u8]) -> usize
+pub fn make(rt: &impl Print, words: &[u8], file: &mut [u8]) -> usize
     ensures { result ≤ length file.old }
 {
     let mut size = 0;
     let mut p = skip(words, 0);
     while p < words.len() {
-        let i = item_at(words, p);
+        let i = item_at(rt, words, p);
         if i.next <= p {
-            return within(size, file.len());
+            return within(rt, size, file.len());
         }
-        size = within(put_item(file, size, i), 200000);
+        size = within(rt, put_item(file, size, i), 200000);
         p = skip(words, i.next);
     }
-    within(size, file.len())
+    within(rt, size, file.len())
 }
 
 // The 16-bit number whose low and high byte are given.
@@ -212,7 +212,7 @@ fn wide(low: u8, high: u8) -> usize
 }
 
 // Puts the 16-bit numbers in the first so many bytes of a file at the front of a table; answers how many there are.
-fn put_entries(file: &[u8], size: usize, table: &mut [u16]) -> usize
+fn put_entries(rt: &impl Print, file: &[u8], size: usize, table: &mut [u16]) -> usize
     requires { size ≤ length file.now }
     ensures { result ≤ length table.old }
 {
@@ -220,7 +220,7 @@ fn put_entries(file: &[u8], size: usize, table: &mut [u16]) -> usize
     let mut high = 1;
     while high < size {
         if table.len() <= i {
-            text(b" cut");
+            text(rt, b" cut");
             return i;
         }
         put(table, i, wide(file[high - 1], file[high]));
@@ -231,9 +231,9 @@ fn put_entries(file: &[u8], size: usize, table: &mut [u16]) -> usize
 }
 
 // Makes the table of 16-bit numbers that a text describes, by way of a buffer; answers how many there are.
-pub fn make_entries(words: &[u8], buffer: &mut [u8], table: &mut [u16]) -> usize
+pub fn make_entries(rt: &impl Print, words: &[u8], buffer: &mut [u8], table: &mut [u16]) -> usize
     ensures { result ≤ length table.old }
 {
-    let size = make(words, buffer);
-    put_entries(buffer, size, table)
+    let size = make(rt, words, buffer);
+    put_entries(rt, buffer, size, table)
 }

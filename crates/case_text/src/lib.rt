@@ -1,4 +1,6 @@
 // Test support: cases that are written as text. Lines, parts of a line, decimal numbers, files and tables of numbers.
+#![tactic(auto)]
+
 mod items;
 mod reading;
 

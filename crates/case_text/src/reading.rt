@@ -4,7 +4,7 @@ ghost use Rattle.std.specs.Prelude.{◌≤◌, ◌<◌, length};
 use harness::{part, text};
 
 // A number that was read, and the place after it.
-#[derive(Drop)]
+#[derive(Clone, Copy)]
 pub struct NumberRead {
     pub value: usize,
     pub next: usize,
@@ -121,12 +121,12 @@ pub fn next_number(words: &[u8], from: usize) -> NumberRead
 }
 
 // A number that is at most as large as there is room for; one that had to be cut shows in print.
-pub fn within(value: usize, most: usize) -> usize
+pub fn within(rt: &impl Print, value: usize, most: usize) -> usize
     ensures { result ≤ most }
 {
     if value <= most {
         return value;
     }
-    text(b" cut");
+    text(rt, b" cut");
     most
 }

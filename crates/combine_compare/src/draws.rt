@@ -13,7 +13,7 @@ const PROPERTIES: u64 = 132;
 // A rule with its letters and a property with its masks. Byte s of the letters is the letter of state s. The mask of the
 // edge from q to t is the 16-bit number at place 2 × q + t of the masks. The faults are a set of the places below. If the
 // rule has two mark tables, the second has the marks `second`; the result is the same without it.
-#[derive(Drop)]
+#[derive(Clone, Copy)]
 pub struct Combination {
     pub rule: Model,
     pub two_tables: bool,

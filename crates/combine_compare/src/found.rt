@@ -5,7 +5,7 @@ use exhaustive::{Model, Seen, digit};
 use harness::{entry, written};
 
 // What a search answered, and whether it must not answer that.
-#[derive(Drop)]
+#[derive(Clone, Copy)]
 pub struct Searched {
     pub code: u64,
     pub unlike: bool,

@@ -1,6 +1,8 @@
 // Compares combine with an independent combination, on all rules of up to three states, without implied steps and with
 // them, and all properties of up to two, with pseudo-random letters, masks and second mark tables of rules, and a search of
 // the result with an exhaustive one; every second call has faults.
+#![tactic(auto)]
+
 mod draws;
 mod files;
 mod found;
@@ -81,7 +83,7 @@ fn right(m: Model, tried: Tried, out: &File, file: &File, tally: &mut Tally) -> 
 }
 
 // Compares one combination.
-fn compare(number: u64, tally: &mut Tally) {
+fn compare(rt: &impl Print, number: u64, tally: &mut Tally) {
     let c = drawn_at(number);
     let m = model_of(c);
     let mut file = [0u8; 180];
@@ -93,17 +95,17 @@ fn compare(number: u64, tally: &mut Tally) {
         add_written(tally, c);
     }
     if tried.answer != expected || !right(m, tried, &out, &file, tally) {
-        differs(number, c, tried.answer, expected, tally);
+        differs(rt, number, c, tried.answer, expected, tally);
     }
 }
 
-fn main() {
+fn main(rt: HostRuntime) {
     let mut tally = [0u64; 13];
     let mut number = 0;
     while number < END {
         add(&mut tally, tally::COMBINATIONS, 1);
-        compare(number, &mut tally);
+        compare(&rt, number, &mut tally);
         number += 1;
     }
-    tally::print(&tally);
+    tally::print(&rt, &tally);
 }

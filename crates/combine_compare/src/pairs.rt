@@ -9,7 +9,7 @@ use exhaustive::Model;
 
 // The steps of the rule, implied ones included, and the edges of the property, the letters and the masks, each in one
 // number, and how many states the property has.
-#[derive(Drop)]
+#[derive(Clone, Copy)]
 struct Sets {
     rule: u64,
     property: u64,

@@ -70,8 +70,9 @@ pub fn place_of_refusal(number: usize) -> usize {
 }
 
 // Prints a rule or a property.
-fn show(m: Model) {
+fn show(rt: &impl Print, m: Model) {
     say(
+        rt,
         b"states #, initial state #, edges #, marks #, bytes 6 and 7 #\n",
         0,
         &[
@@ -85,15 +86,17 @@ fn show(m: Model) {
 }
 
 // Prints a combination, and what it answered and must answer.
-fn show_all(number: u64, c: Combination, answer: usize, expected: usize) {
+fn show_all(rt: &impl Print, number: u64, c: Combination, answer: usize, expected: usize) {
     say(
+        rt,
         b"combination #: answered #, expected #\n",
         0,
         &[number, answer as u64, expected as u64],
     );
-    show(c.rule);
-    show(c.property);
+    show(rt, c.rule);
+    show(rt, c.property);
     say(
+        rt,
         b"two mark tables #, marks of the second #, letters #, masks #, faults #\n",
         0,
         &[c.two_tables as u64, c.second, c.letters, c.masks, c.faults],
@@ -101,16 +104,24 @@ fn show_all(number: u64, c: Combination, answer: usize, expected: usize) {
 }
 
 // Counts a difference, and prints the first one.
-pub fn differs(number: u64, c: Combination, answer: usize, expected: usize, tally: &mut Tally) {
+pub fn differs(
+    rt: &impl Print,
+    number: u64,
+    c: Combination,
+    answer: usize,
+    expected: usize,
+    tally: &mut Tally,
+) {
     if tally[DIFFERENCES] == 0 {
-        show_all(number, c, answer, expected);
+        show_all(rt, number, c, answer, expected);
     }
     add(tally, DIFFERENCES, 1);
 }
 
 // Prints all counts.
-pub fn print(tally: &Tally) {
+pub fn print(rt: &impl Print, tally: &Tally) {
     say(
+        rt,
         b"combinations #\nwritten #\n  with an implied step of the rule: #\n  with an implied step of the property, not read: #\n  with two mark tables of the rule: #\nedges #\nfound #\nnone within #\nrefused 7: #\nrefused 15: #\nrefused 16: #\nrefused 17: #\ndifferences #\n",
         0,
         tally,

@@ -1,11 +1,13 @@
 // A combination on trial: its output is filled before the call and looked at after it, and the answer is one number.
+#![tactic(auto)]
+
 ghost use Rattle.std.specs.Prelude.{◌≤◌, length};
 
 use combine::CombineAnswer;
 
 // What a combination answered, as one number: that of the refusal, or of the bytes written, which are more than 24. Then
 // how many outputs are not as they must be: 0, or 1 if a byte was changed that is none of those written.
-#[derive(Drop)]
+#[derive(Clone, Copy)]
 pub struct Tried {
     pub answer: usize,
     pub wrong: usize,

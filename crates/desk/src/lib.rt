@@ -1,4 +1,6 @@
-// The desk sheet program, but for its `main`: an input is read from one descriptor, its sheet is printed to another.
+// The desk sheet program, but for its `main`: an input is read from a reader, its sheet is printed to a writer.
+#![tactic(auto)]
+
 ghost use Rattle.std.specs.Prelude.{◌≡◌, ◌≤◌, length};
 ghost use Rattle.numbers.specs.Limits.{answer_entries, work_entries, sheet_room};
 ghost use Rattle.text.specs.Writing.{Wrote};
@@ -7,6 +9,7 @@ ghost use Rattle.desk.specs.Desk.{input_text, desk_text};
 use numbers::limit;
 use reading::{input_bytes, read_model};
 use sheet::sheet;
+use std::io::{Read, Write};
 
 // The bytes of the buffer for an input: one more than the longest file has, so that no longer input passes for it.
 const INPUT_ROOM: usize = limit::FILE_BYTES;
@@ -35,13 +38,13 @@ pub fn desk_sheet(read: &[u8], failed: bool, text: &mut [u8; TEXT_ROOM]) -> usiz
     write_sheet(&read[..enough], &mut answer, &mut work, text)
 }
 
-// Reads an input from a descriptor, prints its sheet to another, and answers whether all of the sheet was printed.
-pub fn print_sheet(from: i32, to: i32) -> bool {
+// Reads an input from a reader, prints its sheet to a writer, and answers whether all of the sheet was printed.
+pub fn print_sheet<R: Read, W: Write>(from: &mut R, to: &mut W) -> bool {
     let mut input = [0u8; INPUT_ROOM];
     let reading = read_model(from, &mut input);
     let count = reading.count;
     let failed = reading.failed;
     let mut text = [0u8; TEXT_ROOM];
     let written = desk_sheet(&input[..count], failed, &mut text);
-    io::write_all(to, &text[..written])
+    to.write_all(&text[..written]).is_ok()
 }

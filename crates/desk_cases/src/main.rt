@@ -1,32 +1,37 @@
 // The desk sheet program's reading and printing, run on one file after another.
-fn main() {
-    print_case(b"d");
-    print_case(b"two");
-    print_case(b"two_spare");
-    print_case(b"cut");
-    print_case(b"none");
-    print_case(b"a_stays");
-    print_case(b"chain_stays");
-    print_case(b"fork_stays");
-    print_case(b"d_stays");
-    print_case(b"flag_two");
-    print_case(b"twenty");
-    print_case(b"more");
-    print_case(b"ring");
-    print_case(b"longest_one");
-    print_case(b"longest");
-    print_case(b"one_over");
-    print_case(b"far_over");
-    print_case(b".");
-    print_case(b"missing");
+#![tactic(auto)]
+
+use reading::open_named;
+use std::io;
+use std::rt::Files;
+
+fn main(rt: HostRuntime) {
+    print_case(&rt, b"d");
+    print_case(&rt, b"two");
+    print_case(&rt, b"two_spare");
+    print_case(&rt, b"cut");
+    print_case(&rt, b"none");
+    print_case(&rt, b"a_stays");
+    print_case(&rt, b"chain_stays");
+    print_case(&rt, b"fork_stays");
+    print_case(&rt, b"d_stays");
+    print_case(&rt, b"flag_two");
+    print_case(&rt, b"twenty");
+    print_case(&rt, b"more");
+    print_case(&rt, b"ring");
+    print_case(&rt, b"longest_one");
+    print_case(&rt, b"longest");
+    print_case(&rt, b"one_over");
+    print_case(&rt, b"far_over");
+    print_case(&rt, b".");
+    print_case(&rt, b"missing");
 }
 
 // Prints the name of a file, and the sheet of what is read from it. A file that cannot be opened cannot be read either.
-fn print_case(name: &[u8]) {
-    io::write_all(libc::STDOUT_FILENO, b"# ");
-    io::write_all(libc::STDOUT_FILENO, name);
-    io::write_all(libc::STDOUT_FILENO, b"\n");
-    let from = os::open_read(name);
-    desk::print_sheet(from, libc::STDOUT_FILENO);
-    libc::close(from);
+fn print_case<R: Files + Print>(rt: &R, name: &[u8]) {
+    let _ = rt.write_all(b"# ");
+    let _ = rt.write_all(name);
+    let _ = rt.write_all(b"\n");
+    let mut from = open_named(rt, name);
+    desk::print_sheet(&mut from, &mut io::writer(rt));
 }

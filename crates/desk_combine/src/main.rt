@@ -1,28 +1,24 @@
 // The combining program: reads a rule, its letters and a property from the files that its arguments name, and writes the
 // combined model file to standard output.
-use desk_combining::{open_argument, print_combination};
+#![tactic(auto)]
 
-fn main() {
-    if os::arg_count() != 4 {
-        io::write_all(
-            libc::STDERR_FILENO,
-            b"usage: desk_combine RULE LETTERS PROPERTY > MODEL\n",
-        );
+use desk_combining::{argument_count, open_argument, print_combination};
+
+fn main(rt: HostRuntime) {
+    if argument_count(&rt) != 4 {
+        let _ = eprintln!(rt; "usage: desk_combine RULE LETTERS PROPERTY > MODEL");
         return;
     }
-    let rule = open_argument(1);
-    let letters = open_argument(2);
-    let property = open_argument(3);
+    let mut rule = open_argument(&rt, 1);
+    let mut letters = open_argument(&rt, 2);
+    let mut property = open_argument(&rt, 3);
     if !print_combination(
-        rule,
-        letters,
-        property,
-        libc::STDOUT_FILENO,
-        libc::STDERR_FILENO,
+        &mut rule,
+        &mut letters,
+        &mut property,
+        &mut rt.stdout(),
+        &mut rt.stderr(),
     ) {
-        io::write_all(
-            libc::STDERR_FILENO,
-            b"desk_combine: the model could not be written\n",
-        );
+        let _ = eprintln!(rt; "desk_combine: the model could not be written");
     }
 }

@@ -1,41 +1,47 @@
 // The combining program's reading and writing, run on the files that the arguments name, three after another.
+#![tactic(auto)]
+
 ghost use Rattle.std.specs.Prelude.{◌+◌, ◌<◌};
 
-use desk_combining::{open_argument, print_combination};
-use libc::STDOUT_FILENO;
+use desk_combining::{ARGUMENT_ROOM, argument, argument_count, open_argument, print_combination};
+use std::io;
+use std::rt::{Env, Files};
 
-fn main() {
-    let mut left = os::arg_count();
+fn main(rt: HostRuntime) {
+    let mut left = argument_count(&rt);
     let mut place = 0;
     while 4 <= left {
-        print_case(place);
+        print_case(&rt, place);
         place += 3;
         left -= 3;
     }
 }
 
 // Prints the names of three files, those of the arguments after a place, and what is written for them.
-fn print_case(place: usize)
+fn print_case<R: Env + Files + Print>(rt: &R, place: usize)
     requires { place + 3 < 18446744073709551616 }
 {
-    io::write_all(STDOUT_FILENO, b"#");
-    print_argument(place + 1);
-    print_argument(place + 2);
-    print_argument(place + 3);
-    io::write_all(STDOUT_FILENO, b"\n");
-    let rule = open_argument(place + 1);
-    let letters = open_argument(place + 2);
-    let property = open_argument(place + 3);
-    print_combination(rule, letters, property, STDOUT_FILENO, STDOUT_FILENO);
-    libc::close(rule);
-    libc::close(letters);
-    libc::close(property);
+    let _ = rt.write_all(b"#");
+    print_argument(rt, place + 1);
+    print_argument(rt, place + 2);
+    print_argument(rt, place + 3);
+    let _ = rt.write_all(b"\n");
+    let mut rule = open_argument(rt, place + 1);
+    let mut letters = open_argument(rt, place + 2);
+    let mut property = open_argument(rt, place + 3);
+    print_combination(
+        &mut rule,
+        &mut letters,
+        &mut property,
+        &mut io::writer(rt),
+        &mut io::writer(rt),
+    );
 }
 
 // Prints an argument after a space.
-fn print_argument(place: usize) {
-    let mut name = io::buffer();
-    let length = os::arg(place, &mut name);
-    io::write_all(STDOUT_FILENO, b" ");
-    io::write_all(STDOUT_FILENO, &name[..length]);
+fn print_argument<R: Env + Print>(rt: &R, place: usize) {
+    let mut name = [0u8; ARGUMENT_ROOM];
+    let length = argument(rt, place, &mut name);
+    let _ = rt.write_all(b" ");
+    let _ = rt.write_all(&name[..length]);
 }

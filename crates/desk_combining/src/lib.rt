@@ -1,5 +1,7 @@
-// The combining program, but for its `main`: a rule, its letters and a property are read from three descriptors, and the
-// combined model file is written to another, or the line of a refusal to the last.
+// The combining program, but for its `main`: a rule, its letters and a property are read from three readers, and the
+// combined model file is written to a writer, or the line of a refusal to another.
+#![tactic(auto)]
+
 ghost use Rattle.std.specs.Prelude.{◌≡◌, ◌≤◌, length};
 ghost use Rattle.numbers.specs.Limits.{output_bytes};
 ghost use Rattle.text.specs.Writing.{Wrote};
@@ -9,8 +11,11 @@ ghost use Rattle.desk_combining.specs.Combining.{refusal_room, NumberFits, bytes
 
 use combine::{CombineAnswer, combine};
 use numbers::limit;
-use reading::{input_bytes, read_letters, read_model, read_property};
+use reading::{Opened, input_bytes, open_named, read_letters, read_model, read_property};
 use sheet_head::write_refusal;
+use std::env::FillError;
+use std::io::{Read, Write};
+use std::rt::{Env, Files};
 
 // The bytes of the buffers for a rule, a letter table and a property: one more than the longest of each has, so that no
 // longer input passes for it.
@@ -26,7 +31,7 @@ const OUTPUT_ROOM: usize = limit::OUTPUT_BYTES;
 const LINE_ROOM: usize = 16;
 
 // Whether a read of each input failed before the input's end.
-#[derive(Drop)]
+#[derive(Clone, Copy)]
 pub struct Failures {
     pub rule: bool,
     pub letters: bool,
@@ -34,7 +39,7 @@ pub struct Failures {
 }
 
 // What a combination tells: so many bytes for standard output, so many for standard error.
-#[derive(Drop)]
+#[derive(Clone, Copy)]
 pub struct Told {
     pub output: usize,
     pub errors: usize,
@@ -113,21 +118,47 @@ pub fn desk_combine(
     )
 }
 
-// Opens the file that an argument names, and answers its descriptor, or -1, from which nothing can be read.
-pub fn open_argument(place: usize) -> i32 {
-    let mut name = io::buffer();
-    let length = os::arg(place, &mut name);
-    os::open_read(&name[..length])
+// The bytes of the buffer for an argument: no name of a file is longer.
+pub const ARGUMENT_ROOM: usize = 4096;
+
+// Whether the program was started with an argument at a place, its own name being at 0.
+fn has_argument<R: Env>(rt: &R, place: usize) -> bool {
+    let mut name = [0u8; 1];
+    !matches!(rt.arg(place, &mut name), Err(FillError::NotPresent))
 }
 
-// Reads a rule, its letters and a property from three descriptors, writes the combined model file to another or the line
-// of a refusal to the last, and answers whether all of the file was written.
-pub fn print_combination(
-    rule_from: i32,
-    letters_from: i32,
-    property_from: i32,
-    to: i32,
-    errors_to: i32,
+// How many arguments the program was started with, its own name among them.
+pub fn argument_count<R: Env>(rt: &R) -> usize {
+    for count in 0..usize::MAX {
+        if !has_argument(rt, count) {
+            return count;
+        }
+    }
+    usize::MAX
+}
+
+// Writes an argument to the front of a text, and answers its length: 0 if it is missing or longer than the text.
+pub fn argument<R: Env>(rt: &R, place: usize, name: &mut [u8; ARGUMENT_ROOM]) -> usize
+    ensures { result ≤ length name.new }
+{
+    rt.arg(place, name).unwrap_or(0)
+}
+
+// Opens the file that an argument names. From one that cannot be opened nothing can be read.
+pub fn open_argument<R: Env + Files>(rt: &R, place: usize) -> Opened<R::File> {
+    let mut name = [0u8; ARGUMENT_ROOM];
+    let length = argument(rt, place, &mut name);
+    open_named(rt, &name[..length])
+}
+
+// Reads a rule, its letters and a property from three readers, writes the combined model file to a writer or the line of a
+// refusal to another, and answers whether all of the file was written.
+pub fn print_combination<R: Read, W: Write, E: Write>(
+    rule_from: &mut R,
+    letters_from: &mut R,
+    property_from: &mut R,
+    to: &mut W,
+    errors_to: &mut E,
 ) -> bool {
     let mut rule = [0u8; RULE_ROOM];
     let rule_read = read_model(rule_from, &mut rule);
@@ -155,6 +186,6 @@ pub fn print_combination(
     );
     let output = told.output;
     let errors = told.errors;
-    io::write_all(errors_to, &line[..errors]);
-    io::write_all(to, &out[..output])
+    let _ = errors_to.write_all(&line[..errors]);
+    to.write_all(&out[..output]).is_ok()
 }

@@ -10,7 +10,7 @@ use harness::{
 };
 
 // What a call answers, as one number, and the list that it writes, 0 if it writes none.
-#[derive(Drop)]
+#[derive(Clone, Copy)]
 pub struct Seen {
     pub code: u64,
     pub list: u64,

@@ -1,6 +1,8 @@
 // An independent search, which shares nothing with the finder but the bytes of the file: small models as sets in one
 // number, their files, all their accepting paths, found by following every path without repeated states, their
 // distances, found by sweeps over all edges, and what the calls must answer.
+#![tactic(auto)]
+
 mod digits;
 mod expected;
 mod files;

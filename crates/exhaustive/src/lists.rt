@@ -5,7 +5,7 @@ use crate::digits::{and, lower, with_digit};
 use crate::models::{Model, drawn};
 
 // A list with so many entries.
-#[derive(Drop)]
+#[derive(Clone, Copy)]
 pub struct Earlier {
     pub list: u64,
     pub entries: usize,

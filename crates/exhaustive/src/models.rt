@@ -5,7 +5,7 @@ use crate::digits::{below, bit, holds};
 
 // A model of up to seven states: an edge from s to t is the number 8 × s + t in the set of edges. If `stays` holds, a state
 // without edges has an implied step to itself.
-#[derive(Drop)]
+#[derive(Clone, Copy)]
 pub struct Model {
     pub states: usize,
     pub start: usize,

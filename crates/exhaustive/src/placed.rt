@@ -8,7 +8,7 @@ use harness::{put_byte, put16};
 
 // A model as calls see it that name a mark table of its file: the number of that table, whether the file has two, the
 // marks in the other one, and whether a bit of them was flipped.
-#[derive(Drop)]
+#[derive(Clone, Copy)]
 pub struct Placed {
     pub model: Model,
     pub named: u16,

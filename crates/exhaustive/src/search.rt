@@ -7,7 +7,7 @@ use crate::models::{Model, explicit, has_edge, successors};
 // What the search finds in a model among the accepting paths up to a ceiling: the least length of one (0 if there is
 // none), how many have it, the least length for each state that the loop may hold (one digit each, 0 if there is none);
 // and the candidates of the model.
-#[derive(Drop)]
+#[derive(Clone, Copy)]
 pub struct Truth {
     pub states: usize,
     pub least: usize,
@@ -17,7 +17,7 @@ pub struct Truth {
 }
 
 // A path on the way: its states as a list, how many they are, the set of them, and the state to go to next.
-#[derive(Drop)]
+#[derive(Clone, Copy)]
 struct Trail {
     list: u64,
     count: usize,

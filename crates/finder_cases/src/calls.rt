@@ -12,7 +12,7 @@ use table::put;
 // and next name, the ceiling, the best length that a step starts from, the search's allowance, the entries of the answer
 // table, which is also the output for the distances, and of the working table that are lent; and whether the answers are
 // printed.
-#[derive(Drop)]
+#[derive(Clone, Copy)]
 pub struct CaseNumbers {
     pub from: usize,
     pub size: usize,
@@ -26,7 +26,7 @@ pub struct CaseNumbers {
 }
 
 // The answers of the four calls.
-#[derive(Drop)]
+#[derive(Clone, Copy)]
 pub struct Answers {
     pub step: u64,
     pub search: u64,
@@ -51,8 +51,9 @@ fn eight(count: usize) -> usize {
 }
 
 // Prints an answer, and at most eight of the entries that it wrote to its table.
-fn show(code: u64, table: &[u16]) {
+fn show(rt: &impl Print, code: u64, table: &[u16]) {
     say(
+        rt,
         b" step advanced # #| step finished # #| step refused #||, search found # # # list|, search none within #|, search stopped # #|, search refused #||, next found # # list|, next no more|, next refused #||, distances written # last # list|, distances refused #",
         kind_of(code) as usize,
         &[
@@ -61,19 +62,19 @@ fn show(code: u64, table: &[u16]) {
             third_of(code),
         ],
     );
-    entries(table, 0, eight(written(code)));
+    entries(rt, table, 0, eight(written(code)));
 }
 
 // Prints an answer if that is asked for.
-fn told(code: u64, table: &[u16], shown: bool) -> u64 {
+fn told(rt: &impl Print, code: u64, table: &[u16], shown: bool) -> u64 {
     if shown {
-        show(code, table);
+        show(rt, code, table);
     }
     code
 }
 
 // A step from the record before the first round, with a best length.
-fn step(file: &[u8], f: CaseNumbers) -> u64
+fn step(rt: &impl Print, file: &[u8], f: CaseNumbers) -> u64
     requires { f.entries ≤ 24576 }
 {
     let mut work = [0u16; 24576];
@@ -86,11 +87,11 @@ fn step(file: &[u8], f: CaseNumbers) -> u64
         &mut work,
         f.entries,
     );
-    told(code, &work, f.shown)
+    told(rt, code, &work, f.shown)
 }
 
 // A search.
-fn search(file: &[u8], f: CaseNumbers) -> u64
+fn search(rt: &impl Print, file: &[u8], f: CaseNumbers) -> u64
     requires { (f.room ≤ 4097) × (f.entries ≤ 24576) }
 {
     let mut answer = [0u16; 4097];
@@ -105,11 +106,11 @@ fn search(file: &[u8], f: CaseNumbers) -> u64
         &mut work,
         f.entries,
     );
-    told(code, &answer, f.shown)
+    told(rt, code, &answer, f.shown)
 }
 
 // A call of next.
-fn next(file: &[u8], earlier: &[u16], f: CaseNumbers) -> u64
+fn next(rt: &impl Print, file: &[u8], earlier: &[u16], f: CaseNumbers) -> u64
     requires { (f.room ≤ 4097) × (f.entries ≤ 24576) }
 {
     let mut answer = [0u16; 4097];
@@ -123,31 +124,31 @@ fn next(file: &[u8], earlier: &[u16], f: CaseNumbers) -> u64
         &mut work,
         f.entries,
     );
-    told(code, &answer, f.shown)
+    told(rt, code, &answer, f.shown)
 }
 
 // The distances.
-fn distances(file: &[u8], f: CaseNumbers) -> u64
+fn distances(rt: &impl Print, file: &[u8], f: CaseNumbers) -> u64
     requires { (f.room ≤ 4097) × (f.entries ≤ 24576) }
 {
     let mut output = [0u16; 4097];
     let mut work = [0u16; 24576];
     let code = finder_trials::distances(file, f.ceiling, &mut output, f.room, &mut work, f.entries);
-    told(code, &output, f.shown)
+    told(rt, code, &output, f.shown)
 }
 
 // The four calls.
-pub fn try_all(file: &[u8], earlier: &[u16], f: CaseNumbers) -> Answers
+pub fn try_all(rt: &impl Print, file: &[u8], earlier: &[u16], f: CaseNumbers) -> Answers
     requires { (f.room ≤ 4097) × (f.entries ≤ 24576) }
 {
-    let first = step(file, f);
-    let second = search(file, f);
-    let third = next(file, earlier, f);
+    let first = step(rt, file, f);
+    let second = search(rt, file, f);
+    let third = next(rt, file, earlier, f);
     Answers {
         step: first,
         search: second,
         next: third,
-        distances: distances(file, f),
+        distances: distances(rt, file, f),
     }
 }
 

@@ -2,7 +2,7 @@
 use crate::calls::Answers;
 use harness::{sum, wrong_of};
 
-#[derive(Drop)]
+#[derive(Clone, Copy)]
 pub struct Judged {
     pub looked: u64,
     pub wrong: u64,

@@ -12,7 +12,14 @@ use case_text::{NumberRead, byte_at, digits, find, make_entries, next_number, sk
 use harness::{first, part, put16, say, text};
 
 // A case's size, allowance and entries, from four places of a line, and what it shares with others.
-fn figures_at(line: &[u8], from: usize, size: usize, shown: bool, shared: Setting) -> CaseNumbers
+fn figures_at(
+    rt: &impl Print,
+    line: &[u8],
+    from: usize,
+    size: usize,
+    shown: bool,
+    shared: Setting,
+) -> CaseNumbers
     requires { size ≤ length line.now }
     ensures { (result.size ≤ 25800) × (result.room ≤ 4097) × (result.entries ≤ 24576) }
 {
@@ -22,13 +29,13 @@ fn figures_at(line: &[u8], from: usize, size: usize, shown: bool, shared: Settin
     let entries = next_number(line, room.next);
     CaseNumbers {
         from: from,
-        size: within(bytes.value, 25800),
+        size: within(rt, bytes.value, 25800),
         mark_table: shared.mark_table,
         ceiling: shared.ceiling,
         best: shared.best,
         allowance: (allowance.value % 65536) as u16,
-        room: within(room.value, 4097),
-        entries: within(entries.value, 24576),
+        room: within(rt, room.value, 4097),
+        entries: within(rt, entries.value, 24576),
         shown: shown,
     }
 }
@@ -71,6 +78,7 @@ fn put_changes(pairs: &[u8], file: &mut File) {
 
 // Runs a case on the file and with the list that it lends: once, at every length, or with every byte changed.
 fn run_lent(
+    rt: &impl Print,
     mark: u8,
     file: &mut File,
     list: &[u16; 4097],
@@ -82,14 +90,21 @@ fn run_lent(
 {
     let earlier = first(list, count);
     match mark {
-        b'+' => lengths(file, earlier, f, before),
-        b'*' => changes(file, earlier, f, before),
-        _ => once(file, earlier, f, before),
+        b'+' => lengths(rt, file, earlier, f, before),
+        b'*' => changes(rt, file, earlier, f, before),
+        _ => once(rt, file, earlier, f, before),
     }
 }
 
 // Runs a case whose model, changes and list stand at places of its line.
-fn run_parts(line: &[u8], colon: usize, end: usize, f: CaseNumbers, before: Judged) -> Judged
+fn run_parts(
+    rt: &impl Print,
+    line: &[u8],
+    colon: usize,
+    end: usize,
+    f: CaseNumbers,
+    before: Judged,
+) -> Judged
     requires colon_in_bounds { (colon ≤ length line.now) × (end ≤ length line.now) }
     requires size_bound { (f.size ≤ 25800) × (f.room ≤ 4097) × (f.entries ≤ 24576) }
 {
@@ -97,10 +112,11 @@ fn run_parts(line: &[u8], colon: usize, end: usize, f: CaseNumbers, before: Judg
     let mut bytes = [0u8; 8194];
     let mut list = [0u16; 4097];
     let slash = find(line, end, b'/');
-    put_model(byte_behind(line, colon, 2), &mut file);
+    put_model(rt, byte_behind(line, colon, 2), &mut file);
     put_changes(part(line, end, slash), &mut file);
-    let count = make_entries(part(line, slash, line.len()), &mut bytes, &mut list);
+    let count = make_entries(rt, part(line, slash, line.len()), &mut bytes, &mut list);
     run_lent(
+        rt,
         byte_behind(line, colon, 1),
         &mut file,
         &list,
@@ -141,23 +157,23 @@ fn least_length(line: &[u8], colon: usize, mark: u8) -> NumberRead
 
 // Runs a case whose name ends at a place. After the colon a blank stands for one call each, `+` for every length from
 // one up to another, which has one number more, and `*` for every byte changed to every other value.
-fn run_case(line: &[u8], colon: usize, shared: Setting, before: Judged) -> Judged
+fn run_case(rt: &impl Print, line: &[u8], colon: usize, shared: Setting, before: Judged) -> Judged
     requires { colon ≤ length line.now }
 {
     let mark = byte_behind(line, colon, 1);
     let from = least_length(line, colon, mark);
-    text(part(line, 0, colon));
-    say(b":|\n", many(mark), &[]);
-    let f = figures_at(line, from.value, from.next, mark == b' ', shared);
-    run_parts(line, colon, behind(line, from.next, 4), f, before)
+    text(rt, part(line, 0, colon));
+    say(rt, b":|\n", many(mark), &[]);
+    let f = figures_at(rt, line, from.value, from.next, mark == b' ', shared);
+    run_parts(rt, line, colon, behind(line, from.next, 4), f, before)
 }
 
 // Runs a line. One that begins with `#`, or says what the cases after it share, is printed as it stands.
-pub fn run_line(line: &[u8], shared: Setting, before: Judged) -> Judged {
+pub fn run_line(rt: &impl Print, line: &[u8], shared: Setting, before: Judged) -> Judged {
     if byte_at(line, 0) == b'#' || is_setting(line) {
-        text(line);
-        text(b"\n");
+        text(rt, line);
+        text(rt, b"\n");
         return before;
     }
-    run_case(line, find(line, 0, b':'), shared, before)
+    run_case(rt, line, find(line, 0, b':'), shared, before)
 }

@@ -5,7 +5,7 @@ ghost use Rattle.std.specs.Prelude.{◌≤◌, length};
 use case_text::{byte_at, digits, next_number, skip};
 use harness::NO_LENGTH;
 
-#[derive(Drop)]
+#[derive(Clone, Copy)]
 pub struct Setting {
     pub mark_table: u16,
     pub ceiling: u16,

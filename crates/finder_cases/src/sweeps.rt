@@ -39,7 +39,7 @@ fn refused(refusal: usize) -> usize {
 }
 
 // Prints the counts of one number, if it occurs: the step's, the search's, those of next and of the distances.
-fn show_number(counts: &Counts, refusal: usize)
+fn show_number(rt: &impl Print, counts: &Counts, refusal: usize)
     requires { refusal < 23 }
 {
     let a = counts[refusal];
@@ -50,11 +50,13 @@ fn show_number(counts: &Counts, refusal: usize)
         return;
     }
     say(
+        rt,
         b"  not refused|  refused #",
         refused(refusal),
         &[refusal as u64],
     );
     say(
+        rt,
         b": step #, search #, next #, distances #\n",
         0,
         &[a, b, c, d],
@@ -62,42 +64,49 @@ fn show_number(counts: &Counts, refusal: usize)
 }
 
 // Prints a line for each number that occurs.
-fn show_counts(counts: &Counts) {
+fn show_counts(rt: &impl Print, counts: &Counts) {
     let mut refusal = 0;
     while refusal < 23 {
-        show_number(counts, refusal);
+        show_number(rt, counts, refusal);
         refusal += 1;
     }
 }
 
 // The four calls on the first bytes of a buffer, on a line.
-pub fn once(file: &File, earlier: &[u16], f: CaseNumbers, before: Judged) -> Judged
+pub fn once(rt: &impl Print, file: &File, earlier: &[u16], f: CaseNumbers, before: Judged) -> Judged
     requires { (f.size ≤ 25800) × (f.room ≤ 4097) × (f.entries ≤ 24576) }
 {
-    let answers = try_all(part(file, 0, f.size), earlier, f);
-    text(b"\n");
+    let answers = try_all(rt, part(file, 0, f.size), earlier, f);
+    text(rt, b"\n");
     and(before, answers)
 }
 
 // The first bytes of a buffer, at every length from the least up to the greatest.
-pub fn lengths(file: &File, earlier: &[u16], f: CaseNumbers, before: Judged) -> Judged
+pub fn lengths(
+    rt: &impl Print,
+    file: &File,
+    earlier: &[u16],
+    f: CaseNumbers,
+    before: Judged,
+) -> Judged
     requires { (f.size ≤ 25800) × (f.room ≤ 4097) × (f.entries ≤ 24576) }
 {
     let mut counts = [0u64; 92];
     let mut so_far = before;
     let mut size = f.from;
     while size <= f.size {
-        let answers = try_all(part(file, 0, size), earlier, f);
+        let answers = try_all(rt, part(file, 0, size), earlier, f);
         note(&mut counts, answers);
         so_far = and(so_far, answers);
         size += 1;
     }
-    show_counts(&counts);
+    show_counts(rt, &counts);
     so_far
 }
 
 // The four calls with the byte at a place changed to a value; the old one is put back afterwards.
 fn with_value(
+    rt: &impl Print,
     file: &mut File,
     at: usize,
     value: usize,
@@ -108,13 +117,19 @@ fn with_value(
     requires { (f.size ≤ 25800) × (f.room ≤ 4097) × (f.entries ≤ 24576) }
 {
     put_byte(file, at, value);
-    let answers = try_all(part(file, 0, f.size), earlier, f);
+    let answers = try_all(rt, part(file, 0, f.size), earlier, f);
     put_byte(file, at, old);
     answers
 }
 
 // Every one of the first bytes of a buffer changed to every other value.
-pub fn changes(file: &mut File, earlier: &[u16], f: CaseNumbers, before: Judged) -> Judged
+pub fn changes(
+    rt: &impl Print,
+    file: &mut File,
+    earlier: &[u16],
+    f: CaseNumbers,
+    before: Judged,
+) -> Judged
     requires { (f.size ≤ 25800) × (f.room ≤ 4097) × (f.entries ≤ 24576) }
 {
     let mut counts = [0u64; 92];
@@ -123,12 +138,12 @@ pub fn changes(file: &mut File, earlier: &[u16], f: CaseNumbers, before: Judged)
     while turn < 256 * f.size {
         let old = byte_at(file, turn / 256) as usize;
         if old != turn % 256 {
-            let answers = with_value(file, turn / 256, turn % 256, old, earlier, f);
+            let answers = with_value(rt, file, turn / 256, turn % 256, old, earlier, f);
             note(&mut counts, answers);
             so_far = and(so_far, answers);
         }
         turn += 1;
     }
-    show_counts(&counts);
+    show_counts(rt, &counts);
     so_far
 }

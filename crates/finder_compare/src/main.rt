@@ -2,6 +2,8 @@
 // all models of up to three states and on many pseudo-random ones of four to seven, each without implied steps and with
 // them, in files with one mark table and with two, either of them named, and prints how many answers of each kind were
 // compared.
+#![tactic(auto)]
+
 mod calls;
 mod checks;
 mod report;
@@ -130,8 +132,8 @@ fn compare_all(tally: &mut [u64]) {
     }
 }
 
-fn main() {
+fn main(rt: HostRuntime) {
     let mut tally = [0u64; 48];
     compare_all(&mut tally);
-    report::print(&tally);
+    report::print(&rt, &tally);
 }

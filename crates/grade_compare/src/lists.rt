@@ -5,7 +5,7 @@ use grade_independent::Claim;
 
 // A list with so many entries, and which k is claimed for it: 0 up to the number of entries, which is one more than the
 // transitions, and then 65,535. Or, if `back` holds, only the way back to that list from the longer ones that begin with it.
-#[derive(Drop)]
+#[derive(Clone, Copy)]
 pub struct Turn {
     pub list: u64,
     pub entries: usize,

@@ -2,6 +2,8 @@
 // on all models of one and two states, on models of three with every edge set, and on pseudo-random ones of four, without
 // implied steps and with them, in files with one mark table and with two, either of them named. Every list that a search
 // and next bring is graded too.
+#![tactic(auto)]
+
 mod calls;
 mod lists;
 mod models;
@@ -30,6 +32,7 @@ fn room(states: usize, more: usize) -> usize
 
 // Compares the grade of a turn's list, unless the turn only goes back.
 fn compare_turn(
+    rt: &impl Print,
     m: Model,
     least: usize,
     file: &[u8],
@@ -42,12 +45,26 @@ fn compare_turn(
     }
     let claim = claim_of(turn);
     let seen = calls::grade(file, mark_table, claim, room(m.states, turn.which));
-    with_grade(t, m, claim, seen, grade_independent::grade(m, least, claim))
+    with_grade(
+        rt,
+        t,
+        m,
+        claim,
+        seen,
+        grade_independent::grade(m, least, claim),
+    )
 }
 
 // Compares the grades of all lists with every k, on a model whose steps are all edges. There are far more turns than
 // needed; should they not be enough, that is a difference.
-fn compare_lists(m: Model, least: usize, file: &[u8], mark_table: u16, before: Tally) -> Tally {
+fn compare_lists(
+    rt: &impl Print,
+    m: Model,
+    least: usize,
+    file: &[u8],
+    mark_table: u16,
+    before: Tally,
+) -> Tally {
     let mut t = before;
     let mut turn = first_turn();
     let mut turns: usize = 0;
@@ -55,7 +72,7 @@ fn compare_lists(m: Model, least: usize, file: &[u8], mark_table: u16, before: T
         if turn.back && turn.entries == 0 {
             return t;
         }
-        t = compare_turn(m, least, file, mark_table, turn, t);
+        t = compare_turn(rt, m, least, file, mark_table, turn, t);
         turn = after(turn, m.states);
         turns += 1;
     }
@@ -86,7 +103,7 @@ fn compare_roll(states: usize, lists: usize, file: &[u8], mark_table: u16, befor
 }
 
 // All comparisons on a model in its file.
-fn compare_placed(p: Placed, states: usize, before: Tally) -> Tally
+fn compare_placed(rt: &impl Print, p: Placed, states: usize, before: Tally) -> Tally
     requires { states ≤ 7 }
 {
     let m = p.model;
@@ -97,6 +114,7 @@ fn compare_placed(p: Placed, states: usize, before: Tally) -> Tally
     let truth = exhaustive::explore(m, 4096, &mut roll);
     let lent = part(&file, 0, size);
     let t = compare_lists(
+        rt,
         exhaustive::explicit(m),
         truth.least,
         lent,
@@ -107,24 +125,29 @@ fn compare_placed(p: Placed, states: usize, before: Tally) -> Tally
 }
 
 // All comparisons on the model with a number, which has so many states, at a turn, if it has so many turns.
-fn compare_model(states: usize, number: u64, turn: usize, before: Tally) -> Tally
+fn compare_model(rt: &impl Print, states: usize, number: u64, turn: usize, before: Tally) -> Tally
     requires { (0 < states) × (states ≤ 7) }
 {
     if exhaustive::turns(states, number) <= turn {
         return before;
     }
-    compare_placed(exhaustive::placed_at(states, number, turn), states, before)
+    compare_placed(
+        rt,
+        exhaustive::placed_at(states, number, turn),
+        states,
+        before,
+    )
 }
 
-fn main() {
+fn main(rt: HostRuntime) {
     let mut t = tally::nothing();
     let mut place = 0;
     while place < TURNS * models::END {
         let number = place / TURNS;
         let turn = (place % TURNS) as usize;
         let states = models::states_at(number);
-        t = compare_model(states, models::among_its_states(number), turn, t);
+        t = compare_model(&rt, states, models::among_its_states(number), turn, t);
         place += 1;
     }
-    tally::print(t);
+    tally::print(&rt, t);
 }

@@ -7,7 +7,7 @@ use harness::say;
 // The counts: files, those with an implied step, with two mark tables, with table 1 named, with a bit of the other marks
 // flipped; lists, those with a place where they break, the sum of the places, grades,
 // those of them with each verdict, lists brought by a search and next, differences.
-#[derive(Drop)]
+#[derive(Clone, Copy)]
 pub struct Tally {
     files: u64,
     implied: u64,
@@ -129,8 +129,9 @@ fn is_right(seen: Tried, right: Graded, entries: usize) -> bool {
 }
 
 // Prints a grade that is not as it must be.
-fn show(m: Model, c: Claim, seen: Tried, right: Graded) {
+fn show(rt: &impl Print, m: Model, c: Claim, seen: Tried, right: Graded) {
     say(
+        rt,
         b"states #, initial state #, edges #, marks #, list # of # entries, k #: said #, place #, tables wrong #; must be #, #\n",
         0,
         &[
@@ -151,10 +152,17 @@ fn show(m: Model, c: Claim, seen: Tried, right: Graded) {
 }
 
 // With one grade more, and a difference if it is not as it must be; the first difference is printed.
-pub fn with_grade(t: Tally, m: Model, c: Claim, seen: Tried, right: Graded) -> Tally {
+pub fn with_grade(
+    rt: &impl Print,
+    t: Tally,
+    m: Model,
+    c: Claim,
+    seen: Tried,
+    right: Graded,
+) -> Tally {
     let differs = !is_right(seen, right, c.entries);
     if differs && t.differences == 0 {
-        show(m, c, seen, right);
+        show(rt, m, c, seen, right);
     }
     let first = c.k == 0;
     let said = seen.said;
@@ -181,8 +189,9 @@ pub fn with_grade(t: Tally, m: Model, c: Claim, seen: Tried, right: Graded) -> T
 }
 
 // Prints all counts.
-pub fn print(t: Tally) {
+pub fn print(rt: &impl Print, t: Tally) {
     say(
+        rt,
         b"all models of 1 and 2 states, every fifth of 3 states, 432 random ones of 4 states\nfiles: #\n  with an implied step: #\n  with two mark tables: #\n  with table 1 named: #\n  with one bit of the other marks flipped: #\nlists: #\n  with a place: #\n  sum of the places: #\ngrades: #\n  false: #\n  accepting: #\n  shortest: #\nlists brought by a search and next, graded shortest: #\ndifferences #\n",
         0,
         &[

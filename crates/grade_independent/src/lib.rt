@@ -1,12 +1,14 @@
 // The independent grade of a list, from the words of the definition. It shares nothing with the grader: the model is a
 // set of pairs in one number, the list a number with one digit for each entry, and the least length is that of the search
 // that follows every path.
+#![tactic(auto)]
+
 ghost use Rattle.std.specs.Prelude.{◌<◌};
 
 use exhaustive::{Model, digit};
 
 // A list of so many entries, and the k that is claimed for it.
-#[derive(Drop)]
+#[derive(Clone, Copy)]
 pub struct Claim {
     pub list: u64,
     pub entries: usize,
@@ -15,7 +17,7 @@ pub struct Claim {
 
 // Whether the list with that k is an accepting path, whether it is one of least length, and the first place where the
 // list breaks, or the number of its entries if there is none.
-#[derive(Drop)]
+#[derive(Clone, Copy)]
 pub struct Graded {
     pub accepting: bool,
     pub shortest: bool,

@@ -1,4 +1,6 @@
 // A grade on trial: the working table is filled before the call and looked at after it, and the answer is a few numbers.
+#![tactic(auto)]
+
 ghost use Rattle.std.specs.Prelude.{◌≤◌, length};
 
 use grade::{GradeAnswer, Verdict};
@@ -16,7 +18,7 @@ pub const SHORTEST: usize = 3;
 
 // What a grade answered: what is said of the list, the number of the refusal (0 if there is none), whether there is a
 // place where the list breaks, and that place (0 if there is none). Then how many working tables are not as they must be.
-#[derive(Drop)]
+#[derive(Clone, Copy)]
 pub struct Tried {
     pub said: usize,
     pub refusal: usize,

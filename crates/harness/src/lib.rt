@@ -1,8 +1,11 @@
 // Test support: answers as one number, texts with numbers in print, tables that are filled and looked at, bytes of model
-// files.
+// files, and a text read to its end.
+#![tactic(auto)]
+
 mod answer;
 mod files;
 mod print;
+mod read;
 mod tables;
 
 pub use answer::{
@@ -13,4 +16,5 @@ pub use answer::{
 };
 pub use files::{header_word, part, put_byte, put16};
 pub use print::{NONE, entries, say, text};
+pub use read::read_text;
 pub use tables::{NINES, VARIED, ZEROS, entry, fill, first, holds, unlike, wrong_work};

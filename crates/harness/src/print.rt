@@ -1,21 +1,20 @@
-// Prints texts with numbers in them, and entries of tables.
+// Prints texts with numbers in them, and entries of tables. What cannot be written is left out.
 use crate::tables::entry;
-use libc::STDOUT_FILENO;
 
 // The number that is printed as `none`.
 pub const NONE: u64 = 0xffffffffffffffff;
 
 // Prints some text as it stands.
-pub fn text(words: &[u8]) {
-    io::write_all(STDOUT_FILENO, words);
+pub fn text(rt: &impl Print, words: &[u8]) {
+    let _ = rt.write_all(words);
 }
 
 // Prints a number.
-fn number(value: u64) {
+fn number(rt: &impl Print, value: u64) {
     if value == NONE {
-        text(b"none");
+        text(rt, b"none");
     } else {
-        io::print_decimal(STDOUT_FILENO, value);
+        let _ = print!(rt; "{value}");
     }
 }
 
@@ -36,12 +35,12 @@ fn after(place: usize) -> usize {
 }
 
 // Prints a byte, or for `#` the number at a place; answers the place of the next number.
-fn byte(value: u8, place: usize, numbers: &[u64]) -> usize {
+fn byte(rt: &impl Print, value: u8, place: usize, numbers: &[u64]) -> usize {
     if value == b'#' {
-        number(number_at(numbers, place));
+        number(rt, number_at(numbers, place));
         return after(place);
     }
-    text(&[value]);
+    text(rt, &[value]);
     place
 }
 
@@ -62,24 +61,24 @@ fn start_of(words: &[u8], which: usize) -> usize {
 }
 
 // Prints one of several texts with `|` between them, the first being 0. In it each `#` stands for the next of the numbers.
-pub fn say(words: &[u8], which: usize, numbers: &[u64]) {
+pub fn say(rt: &impl Print, words: &[u8], which: usize, numbers: &[u64]) {
     let mut place = 0;
     let mut i = start_of(words, which);
     while i < words.len() {
         if words[i] == b'|' {
             return;
         }
-        place = byte(words[i], place, numbers);
+        place = byte(rt, words[i], place, numbers);
         i += 1;
     }
 }
 
 // Prints the entries of a table from one place up to another, with a space before each.
-pub fn entries(table: &[u16], from: usize, to: usize) {
+pub fn entries(rt: &impl Print, table: &[u16], from: usize, to: usize) {
     let mut i = from;
     while i < to {
-        text(b" ");
-        number(entry(table, i) as u64);
+        text(rt, b" ");
+        number(rt, entry(table, i) as u64);
         i += 1;
     }
 }

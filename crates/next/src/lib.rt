@@ -1,5 +1,7 @@
 // Next: the shortest accepting path that follows an earlier one, by the marks of the table that it names. It applies the
 // reasons 22 and 1 to 15 in order, and leaves the working table untouched after 1 to 12 and all zero otherwise.
+#![tactic(auto)]
+
 ghost use Rattle.std.specs.Prelude.{◌≡◌, ◌*◌, ◌≤◌, length};
 ghost use Rattle.std.proofs.Math.Option.{some};
 ghost use Rattle.std.proofs.Math.ListN;

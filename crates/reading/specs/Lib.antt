@@ -1,2 +1,2 @@
--- What C's answer to a read tells, and what counts as the input.
+-- What the answer to a read tells, and what counts as the input.
 pub mod Reading

@@ -1,11 +1,12 @@
--- What C's answer to a read tells, and what counts as the input.
-use Rattle.std.specs.Prelude.{ℕ, ◌≡◌, Bool, true, false, List, [], take, ℤ, pos, negsuc}
+-- What the answer to a read tells, and what counts as the input.
+use Rattle.std.specs.Prelude.{ℕ, ◌≡◌, ◌<◌, Bool, true, false, List, [], take, length, Option, Result, Ok, Err}
+use Rattle.std.specs.Io.KnownBytes.{Consumes, IsAtEnd}
 use Rattle.lists.specs.Lists.{pick}
 
--- the read failed: the answer is negative
-abbrev pub failed_read : ℤ → Bool
-failed_read (pos k) = false
-failed_read (negsuc k) = true
+-- the read failed: the answer is an error
+abbrev pub failed_read : {E : Type 0} → Result ℕ E → Bool
+failed_read (Ok count) = false
+failed_read (Err e) = true
 
 -- what counts as the input: an input that could not be read to its end, since a read failed, counts as empty
 abbrev pub input_of : (failed : Bool) (read : List ℕ) → List ℕ
@@ -14,3 +15,9 @@ input_of failed read = pick failed [] read
 -- the part is the first bytes of an input, so many or all that there are
 pub record FirstBytes (most : ℕ) (input part : List ℕ) : Type 0 where
   pub are : part ≡ take most input
+
+-- What was read by a reader that had the bytes `before` left and then has the bytes `after`, where those are known: so many
+-- bytes of a buffer, which are the next ones. If no read failed, and the buffer has room for more, the input has ended.
+pub record ReadsOn (before after : Option (List ℕ)) (count : ℕ) (failed : Bool) (buffer : List ℕ) : Type 0 where
+  pub bytes : Consumes before after (take count buffer)
+  pub ended : failed ≡ false → count < length buffer → IsAtEnd after

@@ -1,39 +1,78 @@
-// Reading an input from a descriptor. An error is not the end of the input. Each kind of input has a buffer of one size: one
+// Reading an input from a reader. An error is not the end of the input. Each kind of input has a buffer of one size: one
 // byte more than the longest input has, so that no longer one passes for it, and no more is read than decides.
-ghost use Rattle.std.specs.Prelude.{◌≡◌, length, take};
+#![tactic(auto)]
+
+ghost use Rattle.std.specs.Prelude.{◌≡◌, ◌<◌, false, length, take};
+ghost use Rattle.std.specs.Io.KnownBytes.{Consumes, IsAtEnd};
 ghost use Rattle.numbers.specs.Limits.{file_bytes, letters_bytes, property_bytes};
 ghost use Rattle.text.specs.Writing.{Within};
-ghost use Rattle.reading.specs.Reading.{failed_read, input_of, FirstBytes};
+ghost use Rattle.reading.specs.Reading.{failed_read, input_of, FirstBytes, ReadsOn};
+
+use std::io::Read;
+use std::rt::Files;
+use std::{fs, io, str};
 
 // What was read: so many bytes at the front of the buffer, and whether a read failed before the end of the input.
-#[derive(Drop)]
+#[derive(Clone, Copy)]
 pub struct Reading {
     pub count: usize,
     pub failed: bool,
 }
 
-// The read failed: C's answer is negative.
-fn has_failed(got: isize) -> bool
-    ensures { result ≡ failed_read got }
+// A file that was opened, or none, from which nothing can be read, where it could not be opened.
+#[derive(Drop)]
+pub struct Opened<F> {
+    file: Option<F>,
+}
+
+impl<F: Read> Read for Opened<F> {
+    fn read(&mut self, buf: &mut [u8]) -> io::Result<usize> {
+        match &mut self.file {
+            Some(file) => file.read(buf),
+            None => Err(io::Error::from(io::ErrorKind::NotFound)),
+        }
+    }
+}
+
+// Opens the file of a name. A name that is no text names no file.
+pub fn open_named<R: Files>(rt: &R, name: &[u8]) -> Opened<R::File> {
+    let file = match str::from_utf8(name) {
+        Ok(path) => fs::open(rt, path).ok(),
+        Err(_) => None,
+    };
+    Opened { file: file }
+}
+
+// The read failed: its answer is an error.
+fn has_failed(got: &io::Result<usize>) -> bool
+    ensures { result ≡ failed_read got.now }
 {
-    got < 0
+    match got {
+        Ok(_) => false,
+        Err(_) => true,
+    }
 }
 
 // Reads once. No bytes are read at the end of the input, or if the read fails.
-fn read_once(from: i32, buffer: &mut [u8]) -> Reading
-    ensures { Within result.count buffer.new }
+fn read_once<R: Read>(from: &mut R, buffer: &mut [u8]) -> Reading
+    ensures within { Within result.count buffer.new }
+    ensures bytes { Consumes (R.remaining from.old) (R.remaining from.new) (take result.count buffer.new) }
+    ensures ended { result.failed ≡ false → result.count ≡ 0 → 0 < length buffer.new
+        → IsAtEnd (R.remaining from.new) }
 {
-    let got = libc::read(from, buffer);
-    let count = io::count(got, buffer);
+    let got = from.read(buffer);
+    let failed = has_failed(&got);
+    let count = got.unwrap_or(0);
     Reading {
         count: count,
-        failed: has_failed(got),
+        failed: failed,
     }
 }
 
 // Reads until the buffer is full, the input ends or a read fails.
-fn read_input(from: i32, buffer: &mut [u8]) -> Reading
-    ensures { Within result.count buffer.new }
+fn read_input<R: Read>(from: &mut R, buffer: &mut [u8]) -> Reading
+    ensures within { Within result.count buffer.new }
+    ensures read { ReadsOn (R.remaining from.old) (R.remaining from.new) result.count result.failed buffer.new }
 {
     let mut count = 0;
     while count < buffer.len() {
@@ -54,25 +93,28 @@ fn read_input(from: i32, buffer: &mut [u8]) -> Reading
 }
 
 // Reads a model file.
-pub fn read_model(from: i32, buffer: &mut [u8]) -> Reading
+pub fn read_model<R: Read>(from: &mut R, buffer: &mut [u8]) -> Reading
     requires { length buffer.old ≡ file_bytes }
-    ensures { Within result.count buffer.new }
+    ensures within { Within result.count buffer.new }
+    ensures read { ReadsOn (R.remaining from.old) (R.remaining from.new) result.count result.failed buffer.new }
 {
     read_input(from, buffer)
 }
 
 // Reads the letters of a rule.
-pub fn read_letters(from: i32, buffer: &mut [u8]) -> Reading
+pub fn read_letters<R: Read>(from: &mut R, buffer: &mut [u8]) -> Reading
     requires { length buffer.old ≡ letters_bytes }
-    ensures { Within result.count buffer.new }
+    ensures within { Within result.count buffer.new }
+    ensures read { ReadsOn (R.remaining from.old) (R.remaining from.new) result.count result.failed buffer.new }
 {
     read_input(from, buffer)
 }
 
 // Reads a property.
-pub fn read_property(from: i32, buffer: &mut [u8]) -> Reading
+pub fn read_property<R: Read>(from: &mut R, buffer: &mut [u8]) -> Reading
     requires { length buffer.old ≡ property_bytes }
-    ensures { Within result.count buffer.new }
+    ensures within { Within result.count buffer.new }
+    ensures read { ReadsOn (R.remaining from.old) (R.remaining from.new) result.count result.failed buffer.new }
 {
     read_input(from, buffer)
 }

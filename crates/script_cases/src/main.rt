@@ -2,17 +2,18 @@
 // a script: the entries of the answer table and of the log that are lent, the file, and the numbers of the script, the last
 // two as items (crates/case_text/src/items.rt). One that begins with `#` says what follows. Any other line is printed as
 // it stands.
+#![tactic(auto)]
+
 mod report;
 
 use case_text::{
     byte_at, end_behind, line_after, line_at, make, make_entries, next_number, within,
 };
-use harness::{first, part, text};
-use libc::STDIN_FILENO;
+use harness::{first, part, read_text, text};
 use report::show;
 
 // Plays the script of a line.
-fn run_script(line: &[u8]) {
+fn run_script(rt: &impl Print, line: &[u8]) {
     let mut file = [0u8; 100];
     let mut numbers = [0u8; 200];
     let mut script = [0u16; 64];
@@ -20,39 +21,40 @@ fn run_script(line: &[u8]) {
     let end = end_behind(line, sizes);
     let room = next_number(line, 0);
     let entries = next_number(line, room.next);
-    let size = make(part(line, sizes, end), &mut file);
-    let count = make_entries(part(line, end, line.len()), &mut numbers, &mut script);
+    let size = make(rt, part(line, sizes, end), &mut file);
+    let count = make_entries(rt, part(line, end, line.len()), &mut numbers, &mut script);
     show(
+        rt,
         part(&file, 0, size),
         first(&script, count),
-        within(room.value, 6),
-        within(entries.value, 64),
+        within(rt, room.value, 6),
+        within(rt, entries.value, 64),
     );
 }
 
 // Runs a line.
-fn run_line(line: &[u8]) {
+fn run_line(rt: &impl Print, line: &[u8]) {
     match byte_at(line, 0) {
-        b'/' => run_script(line),
+        b'/' => run_script(rt, line),
         b'#' => {}
         _ => {
-            text(line);
-            text(b"\n");
+            text(rt, line);
+            text(rt, b"\n");
         }
     }
 }
 
 // Runs all lines of a text.
-fn run(lines: &[u8]) {
+fn run(rt: &impl Print, lines: &[u8]) {
     let mut at = 0;
     while at < lines.len() {
-        run_line(line_at(lines, at));
+        run_line(rt, line_at(lines, at));
         at = line_after(lines, at);
     }
 }
 
-fn main() {
+fn main(rt: HostRuntime) {
     let mut input = [0u8; 10000];
-    let got = io::read_full(STDIN_FILENO, &mut input);
-    run(&input[..got]);
+    let got = read_text(&mut rt.stdin(), &mut input);
+    run(&rt, &input[..got]);
 }

@@ -30,11 +30,12 @@ fn size_at(script: &[u16], at: usize) -> usize
 }
 
 // Prints what the command at a place of a script, with so many numbers, asks for.
-fn show_command(script: &[u16], at: usize, size: usize)
+fn show_command(rt: &impl Print, script: &[u16], at: usize, size: usize)
     requires { at + size ≤ length script.now }
 {
     let action = entry(script, at);
     say(
+        rt,
         b"search by table # with ceiling # and allowance #|next by table # with the copy|next by table # with",
         action,
         &[
@@ -44,7 +45,7 @@ fn show_command(script: &[u16], at: usize, size: usize)
         ],
     );
     if 1 < action {
-        entries(script, at + 3, at + size);
+        entries(rt, script, at + 3, at + size);
     }
 }
 
@@ -81,7 +82,13 @@ fn second_figure(kind: usize, figure: usize, third: usize) -> u64 {
 }
 
 // Prints the answer whose four numbers stand at a place of the log, with the list in the answer table.
-fn show_answer(log: &[u16; LOG], place: usize, action: usize, answer: &[u16; ANSWER])
+fn show_answer(
+    rt: &impl Print,
+    log: &[u16; LOG],
+    place: usize,
+    action: usize,
+    answer: &[u16; ANSWER],
+)
     requires { place ≤ 60 }
 {
     let kind = entry(log, place);
@@ -89,6 +96,7 @@ fn show_answer(log: &[u16; LOG], place: usize, action: usize, answer: &[u16; ANS
     let second = entry(log, place + 2);
     let third = entry(log, place + 3);
     say(
+        rt,
         b": refused #|: stopped # #|: found # # #, list|: found # #, list|: none within #|: no more",
         text_of(kind, action),
         &[
@@ -98,38 +106,40 @@ fn show_answer(log: &[u16; LOG], place: usize, action: usize, answer: &[u16; ANS
         ],
     );
     if kind == FOUND {
-        entries(answer, 0, figure + 1);
+        entries(rt, answer, 0, figure + 1);
     }
-    text(b"\n");
+    text(rt, b"\n");
 }
 
 // Prints what the calls of a script leave in the tables, of which so many entries were lent. A log with entries after the
 // last four that a call can have is printed too.
 fn show_tables(
+    rt: &impl Print,
     answer: &[u16; ANSWER],
     room: usize,
     work: &[u16; WORK],
     log: &[u16; LOG],
     end: usize,
 ) {
-    text(b"in all: answer table");
-    entries(answer, 0, room);
+    text(rt, b"in all: answer table");
+    entries(rt, answer, 0, room);
     let clear = holds(work, 0, ZEROS);
     say(
+        rt,
         b", working table all zero\n|, working table not all zero\n",
         if clear { 0 } else { 1 },
         &[],
     );
     if end % 4 != 0 {
-        text(b"the log:");
-        entries(log, 0, end);
-        text(b"\n");
+        text(rt, b"the log:");
+        entries(rt, log, 0, end);
+        text(rt, b"\n");
     }
 }
 
 // Plays a script in tables full of nines, lent so many entries of the answer table and of the log. Prints the answer to the
 // last call that the log has room for, whose action is given; or, for an action above 2, what all calls leave.
-fn show_played(file: &[u8], script: &[u16], room: usize, end: usize, action: usize)
+fn show_played(rt: &impl Print, file: &[u8], script: &[u16], room: usize, end: usize, action: usize)
     requires { (room ≤ 6) × (end ≤ 64) }
 {
     let mut answer = [9u16; ANSWER];
@@ -143,14 +153,14 @@ fn show_played(file: &[u8], script: &[u16], room: usize, end: usize, action: usi
         &mut log[..end],
     );
     if action <= 2 && 4 <= end {
-        return show_answer(&log, end - 4, action, &answer);
+        return show_answer(rt, &log, end - 4, action, &answer);
     }
-    show_tables(&answer, room, &work, &log, end);
+    show_tables(rt, &answer, room, &work, &log, end);
 }
 
 // Prints the calls of a script. It is played anew up to each call, so that the answer table holds the list that the call
 // brings.
-fn show_calls(file: &[u8], script: &[u16], room: usize, end: usize)
+fn show_calls(rt: &impl Print, file: &[u8], script: &[u16], room: usize, end: usize)
     requires { (room ≤ 6) × (end ≤ 64) }
 {
     let mut at = 0;
@@ -160,8 +170,8 @@ fn show_calls(file: &[u8], script: &[u16], room: usize, end: usize)
         if size == 0 {
             return;
         }
-        show_command(script, at, size);
-        show_played(file, script, room, place, entry(script, at));
+        show_command(rt, script, at, size);
+        show_played(rt, file, script, room, place, entry(script, at));
         at += size;
         place += 4;
     }
@@ -169,9 +179,9 @@ fn show_calls(file: &[u8], script: &[u16], room: usize, end: usize)
 
 // Prints the calls of a script, lent so many entries of the answer table and of the log, and what all of them leave in the
 // tables.
-pub fn show(file: &[u8], script: &[u16], room: usize, end: usize)
+pub fn show(rt: &impl Print, file: &[u8], script: &[u16], room: usize, end: usize)
     requires { (room ≤ 6) × (end ≤ 64) }
 {
-    show_calls(file, script, room, end);
-    show_played(file, script, room, end, 3);
+    show_calls(rt, file, script, room, end);
+    show_played(rt, file, script, room, end, 3);
 }

@@ -1,4 +1,6 @@
 // The commands of a script of numbers: its numbers, and how many each command has.
+#![tactic(auto)]
+
 ghost use Rattle.std.specs.Prelude.{◌≡◌, get_or};
 ghost use Rattle.script_commands.specs.Commands.{behind, size_of};
 

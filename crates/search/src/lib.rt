@@ -1,6 +1,8 @@
 // A search: the first of the shortest accepting paths, if they are not longer than the ceiling, by the marks of the table
 // that it names. It applies the reasons 22, 1 to 12, 21, 14 and 15 in order, and leaves the working table untouched after 1
 // to 12 and all zero otherwise.
+#![tactic(auto)]
+
 ghost use Rattle.std.specs.Prelude.{◌≡◌, ◌*◌, ◌≤◌, length};
 ghost use Rattle.std.proofs.Math.Option.{some};
 ghost use Rattle.std.proofs.Math.ListN;

@@ -3,7 +3,7 @@
 use Prim.Native.Nat.{ℕ, suc, ◌≤◌, ◌<◌}
 use native.Mathlib.Omega.{arith}
 use native.Mathlib.Nat.{eq-or-lt_of_le}
-use borrow.Author.Tests.{eq-eqb, ne_eqb, le-leb, lt-leb}
+use borrow.Author.Tests.{eq-eqb, ne_eqb}
 use mathlib.Core.Path.{◌≡◌, sym, ◌∙◌, ap, subst}
 use mathlib.Core.Logic.{inl, inr}
 use mathlib.Core.Bool.{Bool, true, false}
@@ -31,11 +31,11 @@ less_eqb a b l = ne_eqb a b (λ e. omega arith)
 
 -- before the number of lists a list is left
 one_left : (rs : List (List ℕ)) (h : ℕ) → h < length rs → nothing_left rs h ≡ false
-one_left rs h less = search (less_eqb, lt-leb)
+one_left rs h less = search less_eqb
 
 -- there none is
 none_left : (rs : List (List ℕ)) (h : ℕ) → h ≡ length rs → nothing_left rs h ≡ true
-none_left rs h e = let le : length rs ≤ h = omega arith in search (eq-eqb, le-leb)
+none_left rs h e = let le : length rs ≤ h = omega arith in search eq-eqb
 
 -- up to the end of a list, the book's list at a place is what the place holds
 pub list_at_get_elem : (rs : List (List ℕ)) (h : ℕ) → h ≤ length rs → list_at rs h ≡ get_elem? rs h

@@ -266,7 +266,7 @@ sequence_comes_to f t {copy} {lists} {h} s (c ∷ cs) (call, proper) =
     let on = proper_on_page f t s c call in
     let after : After (roll (graph_of f t)) copy lists c (received (finder_at f c)) (page f h c).after
     = subst (λ (r : Result). After (roll (graph_of f t)) copy lists c (received r) (page f h c).after) (sym on.same) on.after in
-    let rest = sequence_comes_to f t after cs proper in
+    let rest = sequence_comes_to f t {copy = last_received (received (finder_at f c)) copy} after cs proper in
     record {
       results = ap (λ (r : Result). r ∷ map (finder_at f) cs) on.same ∙ ap (λ (rs : List Result). (page f h c).result ∷ rs) rest.results;
       at_lists = rest.at_lists;

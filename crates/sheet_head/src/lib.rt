@@ -1,4 +1,6 @@
 // The lines of the desk sheet that tell numbers alone: the one line of a refused file, and the lines before the lists.
+#![tactic(auto)]
+
 ghost use Rattle.std.specs.Prelude.{◌≤◌, length};
 ghost use Rattle.text.specs.Figure.{figure};
 ghost use Rattle.text.specs.Writing.{Wrote};

@@ -1,8 +1,8 @@
 -- The room that the line of a list takes.
-use Prim.Native.Nat.{ℕ, ◌+◌, ◌*◌, ◌-◌, ◌≤◌, ◌<◌}
+use Prim.Native.Nat.{ℕ, ◌+◌, ◌*◌, ◌≤◌, ◌<◌}
 use mathlib.Core.List.{List, [], ◌∷◌, ◌++◌}
 use native.Mathlib.Omega.{arith}
-use lib.ListN.{length, take, drop, length-append, length-take, length-drop}
+use lib.ListN.{length, take, length-append, length-take, length-drop}
 use Rattle.lists.proofs.Sorted.{all_take, all_drop, all_weaker, All}
 use Rattle.lasso.specs.Graph.{stem, loop, edges, loop_start}
 use Rattle.text.specs.Characters.{space}

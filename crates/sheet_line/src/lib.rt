@@ -1,4 +1,6 @@
 // The writer of the line of a list.
+#![tactic(auto)]
+
 ghost use Rattle.std.specs.Prelude.{◌+◌, ◌-◌, ◌≤◌, length, take, drop};
 ghost use Rattle.text.specs.Writing.{Wrote};
 ghost use Rattle.sheet_line.specs.Line.{space_after, space_before, stem_loop};

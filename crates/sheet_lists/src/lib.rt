@@ -1,4 +1,6 @@
 // The lists of a roll as text: one after the other in the working table, each written to the answer table and as a line.
+#![tactic(auto)]
+
 ghost use Rattle.std.specs.Prelude.{◌≡◌, ◌++◌, ◌+◌, ◌≤◌, ◌<◌, length, drop};
 ghost use Rattle.std.proofs.Math.Option.{some};
 ghost use Rattle.numbers.specs.Limits.{lists_room};
