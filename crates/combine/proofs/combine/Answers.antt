@@ -33,24 +33,24 @@ returns-then-letters_broken c =
     let known = (goal.at.returns-then-letters_broken c).In-Accept in
     let a = known.args in
     let is = refused_16 a.rule.now a.letters.now a.property.now a.output.now (valid known).accepted (sym (letters_told (goal.at.returns-then-letters_broken c).After-letters_broken) ∙ c.if-letters_broken.true) in record {
-  outcome = is.0;
-  output = is.1;
-}
+      outcome = is.0;
+      output = is.1;
+    }
 
 pub with_property-requires : goal.with_property-requires
 with_property-requires c =
     let left = c in record {
-  valid = valid (goal.at.with_property-requires left).In-Accept;
-  letters_value = sym (letters_told (goal.at.with_property-requires left).After-letters_broken) ∙ left.if-letters_broken.false;
-}
+      valid = valid (goal.at.with_property-requires left).In-Accept;
+      letters_value = sym (letters_told (goal.at.with_property-requires left).After-letters_broken) ∙ left.if-letters_broken.false;
+    }
 
 pub returns-in-Refused : goal.returns-in-Refused
 returns-in-Refused c =
     let known = c in
     let answer = known in
     let a = answer.args in
-    refused_rule a.rule.now a.letters.now a.property.now a.output.now _
-    (check_refused a.rule.now _ (sym known.in-Refused.is ∙ answer.check-checked.ensures))
+    let is = refused_rule a.rule.now a.letters.now a.property.now a.output.now _
+    (check_refused a.rule.now _ (sym known.in-Refused.is ∙ answer.check-checked.ensures)) in record { outcome = is.0; output = is.1 }
 
 pub returns-else-letters_broken : goal.returns-else-letters_broken
 returns-else-letters_broken c = c.with_property.ensures

@@ -22,27 +22,27 @@ returns-then-has_zero_mask c =
     let known = (goal.at.returns-then-has_zero_mask c).In-Accept in
     let s = (goal.at.In-Accept known).Start in
     let a = s.args in
-    refused_17 a.rule.now a.letters.now a.property.now a.output.now s.requires.valid.accepted s.requires.letters_value
-    (valid_bad (valid known) ∙ sym c.has_zero_mask.ensures ∙ c.if-has_zero_mask.true)
+    let is = refused_17 a.rule.now a.letters.now a.property.now a.output.now s.requires.valid.accepted s.requires.letters_value
+    (valid_bad (valid known) ∙ sym c.has_zero_mask.ensures ∙ c.if-has_zero_mask.true) in record { outcome = is.0; output = is.1 }
 
 pub within_limits-requires : goal.within_limits-requires
 within_limits-requires c =
     let left = c in
     let known = (goal.at.within_limits-requires left).In-Accept in
     let s = (goal.at.In-Accept known).Start in record {
-  valid = s.requires.valid;
-  letters_value = s.requires.letters_value;
-  valid_property = valid known;
-  property_value = valid_bad (valid known) ∙ sym left.has_zero_mask.ensures ∙ left.if-has_zero_mask.false;
-}
+      valid = s.requires.valid;
+      letters_value = s.requires.letters_value;
+      valid_property = valid known;
+      property_value = valid_bad (valid known) ∙ sym left.has_zero_mask.ensures ∙ left.if-has_zero_mask.false;
+    }
 
 pub returns-in-Refused : goal.returns-in-Refused
 returns-in-Refused c =
     let answer = c in
     let s = (goal.at.In-Refused answer).Start in
     let a = s.args in
-    refused_17 a.rule.now a.letters.now a.property.now a.output.now s.requires.valid.accepted s.requires.letters_value
-    (refused_bad a.property.now _ (sym c.in-Refused.is ∙ answer.check_property-checked.ensures))
+    let is = refused_17 a.rule.now a.letters.now a.property.now a.output.now s.requires.valid.accepted s.requires.letters_value
+    (refused_bad a.property.now _ (sym c.in-Refused.is ∙ answer.check_property-checked.ensures)) in record { outcome = is.0; output = is.1 }
 
 pub returns-else-has_zero_mask : goal.returns-else-has_zero_mask
 returns-else-has_zero_mask c = c.within_limits.ensures

@@ -64,8 +64,8 @@ pub returns-then-states-gt-MOST_STATES : goal.returns-then-states-gt-MOST_STATES
 returns-then-states-gt-MOST_STATES c =
     let s = (goal.at.returns-then-states-gt-MOST_STATES c).Start in
     let a = s.args in
-    refused_18 a.rule.now a.letters.now a.property.now a.output.now s.requires.valid.accepted s.requires.letters_value s.requires.property_value
-    (large_states a.rule.now a.letters.now a.property.now _ (size_told (goal.at.returns-then-states-gt-MOST_STATES c).After-struct_known-2-1) (omega (arith, c.if-states-gt-MOST_STATES.true)))
+    let is = refused_18 a.rule.now a.letters.now a.property.now a.output.now s.requires.valid.accepted s.requires.letters_value s.requires.property_value
+    (large_states a.rule.now a.letters.now a.property.now _ (size_told (goal.at.returns-then-states-gt-MOST_STATES c).After-struct_known-2-1) (omega (arith, c.if-states-gt-MOST_STATES.true))) in record { outcome = is.0; output = is.1 }
 
 pub count_edges-edges-requires : goal.count_edges-edges-requires
 count_edges-edges-requires c = ready c
@@ -75,16 +75,16 @@ returns-then-edges-gt-MOST_EDGES c =
     let few = c in
     let s = (goal.at.Then-edges-gt-MOST_EDGES few).Start in
     let a = s.args in
-    refused_18 a.rule.now a.letters.now a.property.now a.output.now s.requires.valid.accepted s.requires.letters_value s.requires.property_value
-    (large_edges a.rule.now a.letters.now a.property.now _ _ (size_told (goal.at.returns-then-edges-gt-MOST_EDGES few).After-struct_known-2-1) (omega (arith, few.if-states-gt-MOST_STATES.false)) c.count_edges-edges.ensures (omega (arith, c.if-edges-gt-MOST_EDGES.true)))
+    let is = refused_18 a.rule.now a.letters.now a.property.now a.output.now s.requires.valid.accepted s.requires.letters_value s.requires.property_value
+    (large_edges a.rule.now a.letters.now a.property.now _ _ (size_told (goal.at.returns-then-edges-gt-MOST_EDGES few).After-struct_known-2-1) (omega (arith, few.if-states-gt-MOST_STATES.false)) c.count_edges-edges.ensures (omega (arith, c.if-edges-gt-MOST_EDGES.true))) in record { outcome = is.0; output = is.1 }
 
 pub returns-then-output-total : goal.returns-then-output-total
 returns-then-output-total c =
     let total = (goal.at.returns-then-output-total c).After-total_of-total in
     let s = (goal.at.After-total_of-total total).Start in
     let a = s.args in
-    refused_15 a.rule.now a.letters.now a.property.now a.output.now s.requires.valid.accepted s.requires.letters_value s.requires.property_value (not_large (goal.at.After-total_of-total total).Else-edges-gt-MOST_EDGES)
-    (omega (arith, c.if-output-total.true, total_told total))
+    let is = refused_15 a.rule.now a.letters.now a.property.now a.output.now s.requires.valid.accepted s.requires.letters_value s.requires.property_value (not_large (goal.at.After-total_of-total total).Else-edges-gt-MOST_EDGES)
+    (omega (arith, c.if-output-total.true, total_told total)) in record { outcome = is.0; output = is.1 }
 
 pub write_product-written-requires : goal.write_product-written-requires
 write_product-written-requires c =
@@ -92,12 +92,13 @@ write_product-written-requires c =
     let total = fits in
     let fewer = total in
     let counted = fewer in record {
-  combinable = ready (goal.at.write_product-written-requires counted).Else-states-gt-MOST_STATES;
-  edges_value = (counted.count_edges-edges.ensures, omega (arith, fewer.if-edges-gt-MOST_EDGES.false));
-  edges_in_bounds = omega (arith, total.total_of-total.ensures, fits.if-output-total.false);
-}
+      combinable = ready (goal.at.write_product-written-requires counted).Else-states-gt-MOST_STATES;
+      edges_value = (counted.count_edges-edges.ensures, omega (arith, fewer.if-edges-gt-MOST_EDGES.false));
+      edges_in_bounds = omega (arith, total.total_of-total.ensures, fits.if-output-total.false);
+    }
 
 pub returns : goal.returns
+unfolding combined_file
 returns c =
     let wrote = c in
     let fits = wrote in
@@ -106,9 +107,9 @@ returns c =
     let a = s.args in
     let is = written_is a.rule.now a.letters.now a.property.now a.output.now s.requires.valid.accepted s.requires.letters_value s.requires.property_value (not_large (goal.at.After-total_of-total total).Else-edges-gt-MOST_EDGES)
     (omega (arith, fits.if-output-total.false, total_told total)) wrote.write_product-written.ensures in record {
-  outcome = is.0;
-  output = is.1;
-}
+      outcome = is.0;
+      output = is.1;
+    }
 
 pub shape_of-output : goal.shape_of-output
 shape_of-output c = wrote_length c.write_product-written.ensures
