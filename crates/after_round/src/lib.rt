@@ -1,4 +1,6 @@
 // The record after one more round, whose candidate is given.
+#![tactic(auto)]
+
 ghost use Rattle.std.specs.Prelude.{◌≡◌, ◌*◌, ◌<◌, length, get_or};
 ghost use Rattle.lasso.specs.Rounds.{candidates, after_round};
 ghost use Rattle.lasso.specs.Values.{record_of};

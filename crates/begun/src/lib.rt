@@ -1,4 +1,6 @@
 // The rounds of a search under a ceiling, and what they come to. Search, next, the sheet and the grader all begin with them.
+#![tactic(auto)]
+
 ghost use Rattle.std.specs.Prelude.{◌≡◌, ◌*◌, ◌≤◌, length};
 ghost use Rattle.std.proofs.Math.ListN;
 ghost use Rattle.model.specs.Values.{Valid};

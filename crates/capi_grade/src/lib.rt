@@ -1,4 +1,6 @@
 // A grade in C, but for its name there: the answer goes as numbers, the place where the list breaks to a table of its own.
+#![tactic(auto)]
+
 ghost use Rattle.std.specs.Prelude.{◌≡◌, ◌||◌};
 ghost use Rattle.figures.specs.Kinds.{figures_in};
 ghost use Rattle.figures.specs.Short.{too_few};

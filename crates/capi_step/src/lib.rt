@@ -1,4 +1,6 @@
 // A step in C, but for its name there: the record comes and goes as numbers, and so does the answer.
+#![tactic(auto)]
+
 ghost use Rattle.std.specs.Prelude.{◌≡◌, ◌≤◌, length};
 ghost use Rattle.lasso.specs.Values.{record_of};
 ghost use Rattle.step.specs.Step.{step_outcome_of};

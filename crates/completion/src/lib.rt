@@ -1,4 +1,6 @@
 // Completes a list with the least state that may stand at each of its places, and so makes the first list.
+#![tactic(auto)]
+
 ghost use Rattle.std.specs.Prelude.{◌≤◌, ◌<◌};
 ghost use Rattle.lasso.specs.Extends.{Extends};
 ghost use Rattle.model.specs.Model.{graph_in};

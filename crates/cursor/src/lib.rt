@@ -1,5 +1,7 @@
 // The way through the roll on one working table, once all rounds are done: the first list or a given one, then list after
 // list. Search, next and the sheet all go this way.
+#![tactic(auto)]
+
 ghost use Rattle.std.specs.Prelude.{◌≡◌, ◌≤◌, length, drop};
 ghost use mathlib.Core.List.{Memᴰ, ◌++◌};
 ghost use Rattle.std.proofs.Math.Option.{some};

@@ -1,5 +1,7 @@
 // A public operation: the distances from the initial state, up to a ceiling. It applies the reasons 1 to 12, then 21,
 // then 15, and leaves the working table untouched after 1 to 12 and all zero otherwise.
+#![tactic(auto)]
+
 ghost use Rattle.std.specs.Prelude.{◌≡◌, suc, ◌*◌, ◌≤◌, length};
 ghost use Rattle.lists.specs.Limit.{under};
 ghost use Rattle.frontier.specs.Regions.{value_of};

@@ -1,5 +1,7 @@
 // Flags in region 4 the ends of the ways after a loop start: the states of one level with a step to a goal, and the marked
 // states whose entries in two regions are the same.
+#![tactic(auto)]
+
 ghost use Rattle.std.specs.Prelude.{◌*◌, ◌≤◌, ◌<◌, length};
 ghost use Rattle.model.specs.Values.{Valid};
 ghost use Rattle.model.specs.Model.{graph_in};

@@ -1,5 +1,7 @@
 // The least state that may stand at the next place of the list, of all or from a bound on: of the successors of its last
 // state the first that may.
+#![tactic(auto)]
+
 ghost use Rattle.std.specs.Prelude.{[], ◌∷◌, ◌++◌, ◌<◌, T};
 ghost use Rattle.lasso.specs.Graph.{pathb};
 ghost use Rattle.lasso.specs.Extends.{Extends};

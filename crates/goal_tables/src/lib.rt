@@ -1,4 +1,6 @@
 // Makes the two tables after a loop start: which state may stand at which place after it.
+#![tactic(auto)]
+
 ghost use Rattle.std.specs.Prelude.{◌*◌, ◌≤◌, ◌<◌, length};
 ghost use Rattle.model.specs.Values.{Valid};
 ghost use Rattle.model.specs.Model.{graph_in};

@@ -96,15 +96,15 @@ module _ {g : Graph} {l : ℕ} {p : ℕ → ℕ} {b : ℕ} (o : Base g l p b) wh
 
   -- a step is a way
   pub step_way : (m s k : ℕ) → k ≡ 1 → StepTo g l p m s → WayTo g l p m s k
-  step_way m s k one (y, at, edge) = (y, at, of_walk (walk_length (sym one) (walk_edge edge)))
+  step_way m s k one (y, at, edge) = (y, at, of_walk (walk_length (sym one) (walk_edge {g = g} edge)))
 
   -- an edge before a way
   pub cons_to : (m s t k : ℕ) → T (edgeb g s t) → WayTo g l p m t k → WayTo g l p m s (suc k)
-  cons_to m s t k edge (y, at, way) = (y, at, of_walk (walk_cons edge (to_walk k way)))
+  cons_to m s t k edge (y, at, way) = (y, at, of_walk (walk_cons {g = g} edge (to_walk k way)))
 
   pub cons_through : (m s t k : ℕ) → T (edgeb g s t) → WayThrough g l p m t k → WayThrough g l p m s (suc k)
   cons_through m s t k edge (z, y, a, e, marked, to_mark, on, at, total) =
-      (z, y, suc a, e, marked, of_walk (walk_cons edge (to_walk a to_mark)), on, at, omega arith)
+      (z, y, suc a, e, marked, of_walk (walk_cons {g = g} edge (to_walk a to_mark)), on, at, omega arith)
 
   -- a way is a step, or starts with an edge
   pub peel_to : (m s k : ℕ) → WayTo g l p m s (suc k) → ((suc k ≡ 1) × StepTo g l p m s) ⊎ ((t : ℕ) × (j : ℕ) × (k ≡ suc j) × T (edgeb g s t) × WayTo g l p m t (suc j))

@@ -1,5 +1,7 @@
 // A public operation: the grade of a list with a claimed k, by the marks of the table that it names. It applies the reasons
 // 22 and 1 to 12, and leaves the working table untouched after 1 to 12 and all zero otherwise.
+#![tactic(auto)]
+
 ghost use Rattle.std.specs.Prelude.{◌≡◌, ◌*◌, ◌≤◌, length};
 ghost use Rattle.std.proofs.Math.Option.{none};
 ghost use Rattle.model.specs.Model.{graph_in};

@@ -1,4 +1,6 @@
 // Whether a list has the least length of an accepting path.
+#![tactic(auto)]
+
 ghost use Rattle.std.specs.Prelude.{◌≡◌, ◌*◌, ◌≤◌, length};
 ghost use Rattle.lasso.specs.Graph.{edges};
 ghost use Rattle.lasso.specs.Roll.{least_length};

@@ -1,4 +1,6 @@
 // The report of a grade: a kind and one figure, and the place where the list breaks in a table of its own.
+#![tactic(auto)]
+
 ghost use Rattle.std.specs.Prelude.{◌≡◌, ◌≤◌, length};
 ghost use Rattle.grade.specs.Grade.{verdict_of, grade_outcome_of};
 ghost use Rattle.figures.specs.Kinds.{figures_in};

@@ -1,5 +1,7 @@
 // The list of all shortest accepting paths, place by place, once their length is known: the first one, which completion
 // makes, and the one after a given one.
+#![tactic(auto)]
+
 ghost use mathlib.Core.List.{Memᴰ};
 ghost use Rattle.lasso.specs.Roll.{roll};
 ghost use Rattle.model.specs.Model.{graph_in};

@@ -1,5 +1,7 @@
 // Looks after the last loop start of a list: whether a state is a goal, so that the list can close there; at a place before
 // the last whether a table has the state there; and whether a step leads from a state of a level to a goal.
+#![tactic(auto)]
+
 ghost use Rattle.std.specs.Prelude.{◌*◌, ◌≤◌, ◌<◌, length};
 ghost use Rattle.numbers.specs.Limits.{most_states};
 ghost use Rattle.lists.specs.Decides.{Decides};

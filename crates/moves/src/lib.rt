@@ -1,5 +1,7 @@
 // The list as it grows by a state and shrinks by places, and what is known of it then: its last loop start, its last mark,
 // and whether the tables after that loop start are there.
+#![tactic(auto)]
+
 ghost use Rattle.std.specs.Prelude.{◌+◌, ◌*◌, ◌≤◌, ◌<◌, length};
 ghost use Rattle.numbers.specs.Limits.{most_states};
 ghost use Rattle.lists.specs.Decides.{Decides};

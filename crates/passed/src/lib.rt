@@ -1,5 +1,7 @@
 // What is known of a list up to a place: its last loop start, its last mark, and whether the tables after that loop start
 // are there.
+#![tactic(auto)]
+
 ghost use Rattle.std.specs.Prelude.{false, ◌≡◌, ◌+◌, ◌≤◌, ◌<◌};
 ghost use Rattle.numbers.specs.Limits.{most_states};
 ghost use Rattle.passed.specs.Passed.{Moved};

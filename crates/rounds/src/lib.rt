@@ -1,4 +1,6 @@
 // The rounds of a search. Region 0 of the working table holds the distances from the start throughout.
+#![tactic(auto)]
+
 ghost use Rattle.std.specs.Prelude.{◌≡◌, ◌*◌, ◌<◌, length};
 ghost use Rattle.lasso.specs.Rounds.{candidates, after_round, after_allowed};
 ghost use Rattle.lasso.specs.Values.{record_of};

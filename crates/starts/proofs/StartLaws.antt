@@ -28,9 +28,9 @@ walk_unsnoc : {g : Graph} {s t : ℕ} (m : ℕ) → Walk g s t (suc m) → (u : 
 walk_unsnoc {g} {s} zero w =
     let (u, edge, rest) = walk_uncons w in
     (s, walk_here s, subst (λ (x : ℕ). T (edgeb g s x)) (walk_zero rest) edge)
-walk_unsnoc (suc m) w =
+walk_unsnoc {g} {s} {t} (suc m) w =
     let (v, edge, rest) = walk_uncons w in
-    let (u, front, last) = walk_unsnoc m rest in
+    let (u, front, last) = walk_unsnoc {g = g} {s = (walk_uncons w).0} {t = t} m rest in
     (u, walk_cons edge front, last)
 
 -- a closed walk through a mark may start at the state before its end

@@ -1,6 +1,7 @@
 // Which states can start the loop of a shortest lasso, and the length of that loop. Region 1 of the working table holds
 // it for each such state.
 #![tactic(auto)]
+
 ghost use Rattle.std.specs.Prelude.{◌≡◌, ◌*◌, ◌≤◌, ◌<◌, length};
 ghost use Rattle.std.proofs.Math.Option.{some};
 ghost use Rattle.lasso.specs.Roll.{least_length};

@@ -1,5 +1,7 @@
 // Which states stand on the stem of a shortest lasso. Region 1 of the working table holds twice the distance plus 2 for
 // each of them, and 1 more for a state that can start the loop.
+#![tactic(auto)]
+
 ghost use Rattle.std.specs.Prelude.{◌≡◌, ◌*◌, ◌≤◌, length};
 ghost use Rattle.std.proofs.Math.Option.{some};
 ghost use Rattle.numbers.specs.Limits.{most_states};

@@ -1,5 +1,7 @@
 // One step: the record after one more round under a ceiling, by the marks of the table that it names. It applies the
 // reasons 22, 1 to 12 and 21 in order, and leaves the working table untouched after 1 to 12 and all zero otherwise.
+#![tactic(auto)]
+
 ghost use Rattle.std.specs.Prelude.{◌≡◌, ◌*◌, ◌≤◌, length};
 ghost use Rattle.lasso.specs.Values.{record_of};
 ghost use Rattle.model.specs.Values.{Valid};

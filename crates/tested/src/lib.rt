@@ -1,5 +1,7 @@
 // Whether a state may stand at the next place of the list: by a look at region 1, at a goal or at one of two tables, or by
 // a search.
+#![tactic(auto)]
+
 mod closing;
 
 ghost use Rattle.std.specs.Prelude.{[], ◌∷◌, ◌++◌, true, ◌≡◌, ◌*◌, ◌<◌, T};

@@ -1,15 +1,13 @@
-use Prim.Native.Nat.{◌+◌, ◌-◌, ◌<◌}
+use Prim.Native.Nat.{◌+◌, ◌<◌}
 use mathlib.Core.Path.{◌≡◌, sym, ◌∙◌}
-use mathlib.Core.Logic.{inl, inr}
 use lib.ListN.{get_or, set}
 use native.Mathlib.Omega.{arith}
-use borrow.Author.Tests.{leb-false}
 use Rattle.model.specs.Model.{graph_in, steps_of}
 use Rattle.starts.specs.Flags.{Flagging}
 use Rattle.model.proofs.Laws.{row_state}
 use Rattle.starts.proofs.StartsFlags.{LowBefore, flagging_none, low_put, low_pass, row_flagged}
 use Rattle.starts.proofs.flag_row.Goals as goal
-use Rattle.starts.proofs.flag_row.Goals.{After-successor-t, At-loop-k, Joined-get-distance, Start}
+use Rattle.starts.proofs.flag_row.Goals.{then-get-distance, else-get-distance, After-successor-t, At-loop-k, Joined-get-distance, Start}
 
 abbrev start : At-loop-k → Start
 start c = (goal.at.At-loop-k c).Start
@@ -30,12 +28,12 @@ successor_passed c =
     let at : get_or (steps_of (start l).args.h (start l).args.u l.row_part-part.result.now) l.loop-k.k 0 ≡ t = sym c.successor-t.ensures in
     let state : t < (start l).args.h.states = successor_state (goal.at.Joined-get-distance c).After-successor-t in
     elim c.if-get-distance.branch [
-      | inl w ↦
-          let e : c.if-get-distance.work ≡ set l.loop-k.work ((start l).args.h.states + t) 1 = w.5 ∙ w.2.ensures in
+      | then-get-distance w ↦
+          let e : c.if-get-distance.work ≡ set l.loop-k.work ((start l).args.h.states + t) 1 = w.work-is ∙ w.put.ensures in
           rw e (low_put t at state (start l).requires.states_in_bounds l.loop-k.invariant.1)
-      | inr w ↦
-          let e : c.if-get-distance.work ≡ l.loop-k.work = w.1 in
-          rw e (low_pass t at state (omega (arith, leb-false, w.0.left, c.get.ensures.value)) l.loop-k.invariant.1)
+      | else-get-distance w ↦
+          let e : c.if-get-distance.work ≡ l.loop-k.work = w.work-is in
+          rw e (low_pass t at state (omega (arith, w.if-get-distance.false, c.get.ensures.value)) l.loop-k.invariant.1)
     ]
 
 pub loop-k-init : goal.loop-k-init

@@ -1,15 +1,13 @@
-use Prim.Native.Nat.{◌+◌, ◌*◌, ◌-◌}
+use Prim.Native.Nat.{◌+◌, ◌*◌}
 use mathlib.Core.Path.{◌≡◌, ◌∙◌, refl}
-use mathlib.Core.Logic.{inl, inr}
 use native.Mathlib.Omega.{arith}
-use borrow.Author.Tests.{eqb-true}
 use Rattle.model.specs.Model.{graph_in}
 use Rattle.model.proofs.Laws.{valid_well_formed}
 use Rattle.table.specs.Changes.{Cleared}
 use Rattle.starts.specs.Flags.{Flagging, FlagsRow}
 use Rattle.starts.proofs.StartsFlags.{EnteredBefore, flagging_none, entered_row, entered_pass, all_flagged}
 use Rattle.starts.proofs.flag_starts.Goals as goal
-use Rattle.starts.proofs.flag_starts.Goals.{At-loop-u, Joined-get-ne0, Start}
+use Rattle.starts.proofs.flag_starts.Goals.{then-get-ne0, else-get-ne0, At-loop-u, Joined-get-ne0, Start}
 
 abbrev start : At-loop-u → Start
 start c = (goal.at.At-loop-u c).Start
@@ -27,14 +25,14 @@ state_passed c =
     let l = (goal.at.Joined-get-ne0 c).At-loop-u in
     let s = start l in
     elim c.if-get-ne0.branch [
-      | inl w ↦
-          let e = w.5 in
+      | then-get-ne0 w ↦
+          let e = w.work-is in
           let row : FlagsRow (graph_in s.args.file.now s.args.h) s.args.h.states l.loop-u.u l.loop-u.work c.if-get-ne0.work =
-          rw e w.2.ensures in
+          rw e w.flag_row.ensures in
           entered_row (valid_well_formed s.requires.valid) refl l.loop-u.invariant.1 row
-      | inr w ↦
-          let e : c.if-get-ne0.work ≡ l.loop-u.work = w.1 in
-          rw e (entered_pass (omega arith) (omega (arith, eqb-true, w.0.left, c.get.ensures.value)) l.loop-u.invariant.1)
+      | else-get-ne0 w ↦
+          let e : c.if-get-ne0.work ≡ l.loop-u.work = w.work-is in
+          rw e (entered_pass (omega arith) (omega (arith, w.if-get-ne0.false, c.get.ensures.value)) l.loop-u.invariant.1)
     ]
 
 pub loop-u-init : goal.loop-u-init
@@ -43,10 +41,10 @@ loop-u-init c = (omega arith, flagging_none _ _ (λ t l. omega (arith, l.before)
 pub flag_row-requires : goal.flag_row-requires
 flag_row-requires c =
     record {
-  valid = c.requires.valid;
-  states_in_bounds = omega arith;
-  u_lt_states = omega arith;
-}
+      valid = c.requires.valid;
+      states_in_bounds = omega arith;
+      u_lt_states = omega arith;
+    }
 
 pub loop-u-preserved : goal.loop-u-preserved
 loop-u-preserved c = (omega arith, state_passed c)

@@ -1,8 +1,6 @@
-use Prim.Native.Nat.{◌+◌, ◌*◌, ◌-◌, ◌≤◌}
+use Prim.Native.Nat.{◌+◌, ◌*◌, ◌≤◌}
 use mathlib.Core.Path.{◌≡◌, ◌∙◌, refl}
-use mathlib.Core.Logic.{inl, inr}
 use native.Mathlib.Omega.{arith}
-use borrow.Author.Tests.{eqb-true}
 use Rattle.lasso.proofs.RollLaws.{least_length_range}
 use Rattle.model.specs.Model.{graph_in}
 use Rattle.model.proofs.Laws.{valid_sizes, valid_well_formed}
@@ -11,7 +9,7 @@ use Rattle.table.proofs.Laws.{same_outside_widen, same_outside_trans}
 use Rattle.candidates.specs.Promises.{RoundsReady}
 use Rattle.starts.proofs.StartsFilling.{Filling, flags_start, filling_put, filling_pass, filling_done, ready_same}
 use Rattle.starts.proofs.prepare_starts.Goals as goal
-use Rattle.starts.proofs.prepare_starts.Goals.{At-loop-s, Joined-get-ne0, Start}
+use Rattle.starts.proofs.prepare_starts.Goals.{then-get-ne0, else-get-ne0, At-loop-s, Joined-get-ne0, Start}
 
 abbrev start : At-loop-s → Start
 start c = (goal.at.At-loop-s c).Start
@@ -37,25 +35,25 @@ length_le c =
 state_passed : (c : Joined-get-ne0) →
     let l = (goal.at.Joined-get-ne0 c).At-loop-s in
     let s = (start l).args in
-    Filling (graph_in s.file.now s.h) s.transitions.0 (l.loop-s.s + 1) s.h.states l.flag_starts.new.work.0 c.if-get-ne0.work
+    Filling (graph_in s.file.now s.h) s.transitions.0 (l.loop-s.s + 1) s.h.states l.flag_starts.new.work c.if-get-ne0.work
 state_passed c =
     let l = (goal.at.Joined-get-ne0 c).At-loop-s in
     elim c.if-get-ne0.branch [
-      | inl w ↦
-          let e = w.9 ∙ w.6.ensures in
-          let loop = w.2.ensures in
-          rw e (filling_put (omega arith) (omega (arith, (ready l).room, loop.1.same_length)) loop.1 loop.0.0 l.loop-s.invariant.1)
-      | inr w ↦
-          let e : c.if-get-ne0.work ≡ l.loop-s.work = w.1 in
-          rw e (filling_pass (omega arith) (omega (arith, eqb-true, w.0.left, c.get.ensures.value)) l.loop-s.invariant.1)
+      | then-get-ne0 w ↦
+          let e = w.work-is ∙ w.put.ensures in
+          let loop = w.start_loop-value.ensures in
+          rw e (filling_put (omega arith) (omega (arith, (ready l).room, loop.same.same_length)) loop.same loop.value.0 l.loop-s.invariant.1)
+      | else-get-ne0 w ↦
+          let e : c.if-get-ne0.work ≡ l.loop-s.work = w.work-is in
+          rw e (filling_pass (omega arith) (omega (arith, w.if-get-ne0.false, c.get.ensures.value)) l.loop-s.invariant.1)
     ]
 
 pub flag_starts-requires : goal.flag_starts-requires
 flag_starts-requires c =
     let ready = c.requires.rounds_ready in record {
-  valid = ready.valid;
-  states_in_bounds = omega (arith, ready.room);
-}
+      valid = ready.valid;
+      states_in_bounds = omega (arith, ready.room);
+    }
 
 pub loop-s-init : goal.loop-s-init
 loop-s-init c =
@@ -71,10 +69,10 @@ get-requires c = omega (arith, (ready (goal.at.get-requires c).At-loop-s).room)
 pub start_loop-value-requires : goal.start_loop-value-requires
 start_loop-value-requires c =
     let l = (goal.at.start_loop-value-requires c).At-loop-s in record {
-  rounds_ready = ready l;
-  transitions_le_states = length_le l;
-  s_lt_states = omega arith;
-}
+      rounds_ready = ready l;
+      transitions_le_states = length_le l;
+      s_lt_states = omega arith;
+    }
 
 pub overflow_add-n-then-get-ne0 : goal.overflow_add-n-then-get-ne0
 overflow_add-n-then-get-ne0 c = omega (arith, (ready (goal.at.overflow_add-n-then-get-ne0 c).At-loop-s).room)
@@ -83,9 +81,9 @@ pub put-requires : goal.put-requires
 put-requires c =
     let l = (goal.at.put-requires c).At-loop-s in
     let e = c.start_loop-value.ensures in record {
-  at_in_bounds = omega (arith, (ready l).room, e.same.same_length);
-  value_bound = e.value.1;
-}
+      at_in_bounds = omega (arith, (ready l).room, e.same.same_length);
+      value_bound = e.value.1;
+    }
 
 pub loop-s-preserved : goal.loop-s-preserved
 loop-s-preserved c = (omega arith, state_passed c)
@@ -96,6 +94,6 @@ shape_of-work c = (changed (goal.at.shape_of-work c).At-loop-s).same_length
 pub returns : goal.returns
 returns c =
     record {
-  start_loops = filling_done refl (omega arith) c.loop-s.invariant.1;
-  same = changed (goal.at.returns c).At-loop-s;
-}
+      start_loops = filling_done refl (omega arith) c.loop-s.invariant.1;
+      same = changed (goal.at.returns c).At-loop-s;
+    }

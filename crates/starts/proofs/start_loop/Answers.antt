@@ -57,27 +57,27 @@ loop_found c =
 pub returns-then-reached-eq0 : goal.returns-then-reached-eq0
 returns-then-reached-eq0 c =
     record {
-  value = (start_loop_unreached (graph (goal.at.returns-then-reached-eq0 c).After-get-reached) c.args.transitions.0 c.args.s (omega (arith, eqb-true, the_distance_entry (goal.at.returns-then-reached-eq0 c).After-get-reached)), omega arith);
-  same = same_outside_refl _ _ _;
-}
+      value = (start_loop_unreached (graph (goal.at.returns-then-reached-eq0 c).After-get-reached) c.args.transitions.0 c.args.s (omega (arith, eqb-true, the_distance_entry (goal.at.returns-then-reached-eq0 c).After-get-reached)), omega arith);
+      same = same_outside_refl _ _ _;
+    }
 
 pub returns-then-most-reached : goal.returns-then-most-reached
 returns-then-most-reached c =
     let at = (goal.at.returns-then-most-reached c).After-get-reached in record {
-  value = (start_loop_far (valid_well_formed at.requires.rounds_ready.valid) _ _ (the_distance_entry at) (omega (arith, ltb-true, c.number-most.ensures)), omega arith);
-  same = same_outside_refl _ _ _;
-}
+      value = (start_loop_far (valid_well_formed at.requires.rounds_ready.valid) _ _ (the_distance_entry at) (omega (arith, ltb-true, c.number-most.ensures)), omega arith);
+      same = same_outside_refl _ _ _;
+    }
 
 pub loop_length-answer-requires : goal.loop_length-answer-requires
 loop_length-answer-requires c =
     let s = (goal.at.loop_length-answer-requires c).Start in
     let number = c.number-most.ensures in record {
-  valid = s.requires.rounds_ready.valid;
-  x_lt_states = omega arith;
-  le_limit = omega arith;
-  limit_le_states = omega arith;
-  states_in_bounds = s.requires.rounds_ready.room;
-}
+      valid = s.requires.rounds_ready.valid;
+      x_lt_states = omega arith;
+      le_limit = omega arith;
+      limit_le_states = omega arith;
+      states_in_bounds = s.requires.rounds_ready.room;
+    }
 
 pub overflow_add-result : goal.overflow_add-result
 overflow_add-result c = omega (arith, loop_found c)
@@ -85,14 +85,14 @@ overflow_add-result c = omega (arith, loop_found c)
 pub returns-in-Length : goal.returns-in-Length
 returns-in-Length c =
     let (within, low) = loop_found c in record {
-  value = (omega (arith, ap entry_of within), omega arith);
-  same = c.loop_length-answer.ensures.same;
-}
+      value = (omega (arith, ap entry_of within), omega arith);
+      same = c.loop_length-answer.ensures.same;
+    }
 
 pub returns-in-Nothing : goal.returns-in-Nothing
 returns-in-Nothing c =
     let e = c in
     let nothing = rw c.in-Nothing.is at e.loop_length-answer.ensures.answer in record {
-  value = (omega (arith, ap entry_of (loop_within_lem (goal.at.returns-in-Nothing e).Else-most-reached ∙ nothing)), omega arith);
-  same = e.loop_length-answer.ensures.same;
-}
+      value = (omega (arith, ap entry_of (loop_within_lem (goal.at.returns-in-Nothing e).Else-most-reached ∙ nothing)), omega arith);
+      same = e.loop_length-answer.ensures.same;
+    }
