@@ -1,5 +1,6 @@
 // The check of a file by the numbered rules: 1 to 5, which concern its header, then 6 to 11 by the kind of file.
 #![tactic(auto)]
+
 ghost use Rattle.std.specs.Prelude.{◌≡◌, ◌≤◌};
 ghost use Rattle.format.specs.Layout.{total_of};
 ghost use Rattle.model.specs.Values.{head_of, check_with, check_of};

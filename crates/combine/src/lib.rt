@@ -1,4 +1,6 @@
 // A public operation: the combination of a rule with a property, written as a model file.
+#![tactic(auto)]
+
 ghost use Rattle.std.specs.Prelude.{◌≡◌, false, length};
 ghost use Rattle.format.specs.Layout.{states};
 ghost use Rattle.model.specs.Values.{Valid};

@@ -2,6 +2,7 @@
 // header k. c is the number of a combined state (s, q): s is c / size and q is c % size, where the property has `size`
 // states.
 #![tactic(auto)]
+
 ghost use Rattle.std.specs.Prelude.{◌≡◌, ◌+◌, ◌*◌, ◌≤◌, ◌<◌, length};
 ghost use Rattle.text.specs.Writing.{Wrote};
 ghost use Rattle.writer.specs.File.{words16};

@@ -2,6 +2,7 @@
 // the other. The rule has the header h, the property the header k. c is the number of a combined state (s, q): s is
 // c / size and q is c % size, where the property has `size` states.
 #![tactic(auto)]
+
 ghost use Rattle.std.specs.Prelude.{◌≡◌, ◌+◌, ◌*◌, ◌≤◌, ◌<◌, length};
 ghost use Rattle.numbers.specs.Limits.{most_edges};
 ghost use Rattle.format.specs.Layout.{total_of};

@@ -1,5 +1,6 @@
 // The letter table of a combination: reason 16.
 #![tactic(auto)]
+
 ghost use Rattle.std.specs.Prelude.{◌≡◌};
 ghost use Rattle.combine_letters.specs.Letters.{bad_letters};
 

@@ -1,5 +1,6 @@
 // The marks of the model file of a combination. The property has the header k.
 #![tactic(auto)]
+
 ghost use Rattle.std.specs.Prelude.{◌≡◌, map, ◌+◌, ◌*◌, ◌≤◌, ◌<◌, length};
 ghost use Rattle.numbers.specs.Limits.{most_states};
 ghost use Rattle.lists.specs.Lists.{below};

@@ -54,10 +54,12 @@ written_model f letters p out e =
 
 -- bytes 6–7 of the file that a combination writes are zero
 zero_written : (f letters p : List ℕ) → stays_word (combined_file f letters p) ≡ 0
+unfolding combined_file
 zero_written f letters p = file_stays (combined f letters p)
 
 -- a combination that is not refused has written the file of the combined model
 pub combination_holds : CombinationHolds
+unfolding combined_file
 combination_holds f letters p out e =
     let model = written_model f letters p (length out) e in
     let back = files_hold (combined f letters p) model.0 in
@@ -91,6 +93,7 @@ same_combined {f} {f'} same letters p =
 
 -- the rule's own marks are not used
 pub rule_marks_unused : RuleMarksUnused
+unfolding combined_file
 rule_marks_unused f f' letters p out a a' same =
     let broken : ℕ → Graph → Option ℕ =
     λ n g. first_behind (bad_letters n letters) (bad_property p) (too_large g) (ltb (length out) (length (file_of g))) in
@@ -110,6 +113,7 @@ rule_marks_unused f f' letters p out a a' same =
 
 -- the worked examples
 pub examples_of_combining : ExamplesOfCombining
+unfolding combined_file
 examples_of_combining =
     record {
       bytes = refl;

@@ -16,7 +16,7 @@ use Rattle.property.specs.Property.{SameButStays}
 use Rattle.property.proofs.StaysLaws.{same_property}
 use Rattle.combine_graph.specs.Combined.{letter_of, combined}
 use Rattle.combine_letters.specs.Letters.{bad_letters}
-use Rattle.combine_outcome.specs.Combination.{too_large, combine_reasons, combine_outcome, combine_output}
+use Rattle.combine_outcome.specs.Combination.{too_large, combined_file, combine_reasons, combine_outcome, combine_output}
 use Rattle.combine_outcome.specs.Claim.{PropertyStaysUnused}
 
 module _ (f letters : List ℕ) {p p' : List ℕ} (same : SameButStays p p') (five : bad_stays p ≡ bad_stays p') where
@@ -26,6 +26,7 @@ module _ (f letters : List ℕ) {p p' : List ℕ} (same : SameButStays p p') (fi
 
   -- each reason holds with both or with neither
   same_reasons : (room : ℕ) → combine_reasons f letters p room ≡ combine_reasons f letters p' room
+  unfolding combined_file
   same_reasons room = λ i.
       rules f ++
       record { number = 16; holds = bad_letters (states f) letters } ∷
@@ -35,10 +36,12 @@ module _ (f letters : List ℕ) {p p' : List ℕ} (same : SameButStays p p') (fi
 
   -- the answer is the same
   same_outcome : (room : ℕ) → combine_outcome f letters p room ≡ combine_outcome f letters p' room
+  unfolding combined_file
   same_outcome room = λ i. outcome (first_broken (same_reasons room i)) (length (file_of (same_model i)))
 
   -- the output afterwards is the same
   same_output : (output : List ℕ) → combine_output f letters p output ≡ combine_output f letters p' output
+  unfolding combined_file
   same_output output = λ i.
       written (unless_refused (first_broken (same_reasons (length output) i)) (some (file_of (same_model i)))) output
 

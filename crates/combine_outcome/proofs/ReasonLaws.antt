@@ -42,6 +42,7 @@ within_both f letters p n m e few em fewer =
 -- the length of the file that is to be written
 pub combined-length : (f letters p : List ℕ) (n m : ℕ) → (combined f letters p).size ≡ n → m ≡ edge_total (combined f letters p)
     → length (combined_file f letters p) ≡ total_of n m
+unfolding combined_file
 combined-length f letters p n m e em =
     file_length_is (combined f letters p) ∙ ap (λ (i : ℕ). total_of i (edge_total (combined f letters p))) e ∙ ap (total_of n) (sym em)
 

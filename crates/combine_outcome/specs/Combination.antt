@@ -18,7 +18,7 @@ abbrev pub too_large : Graph → Bool
 too_large g = ltb most_states g.size || ltb most_edges (edge_total g)
 
 -- the file that a combination writes
-abbrev pub combined_file : (f letters p : List ℕ) → List ℕ
+unfoldable pub combined_file : (f letters p : List ℕ) → List ℕ
 combined_file f letters p = file_of (combined f letters p)
 
 -- the reasons to refuse a combination, in checking order: the rule's 1 to 11, 16, 17, 18, and 15 if the output, which has

@@ -2,6 +2,7 @@
 // of s, a block with (s', q') for each q' whose mask holds the letter. The masks are looked at once, for the first
 // block; each further block is made from the first one in the output.
 #![tactic(auto)]
+
 ghost use Rattle.std.specs.Prelude.{◌≡◌, ◌+◌, ◌*◌, ◌≤◌, length};
 ghost use Rattle.numbers.specs.Limits.{highest_letter};
 ghost use Rattle.format.specs.Bytes.{words};

@@ -1,5 +1,6 @@
 // The bytes of a model file: its numbers, where its tables stand, and the part of a row.
 #![tactic(auto)]
+
 mod bytes;
 mod layout;
 

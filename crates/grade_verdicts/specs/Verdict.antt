@@ -1,6 +1,5 @@
 -- The verdicts: what is said of a list with a claimed k in a graph.
 use Rattle.std.specs.Prelude.{ℕ, Bool, ◌&&◌, List, length, get_or, take, eqb, leb, ltb}
-use Rattle.std.proofs.Math.Bool as Bool
 use Rattle.std.proofs.Math.Option.{Option, some, none}
 use Rattle.lists.specs.Lists.{pick, differentb}
 use Rattle.lasso.specs.Graph.{Graph, edges, pathb, loopsb}

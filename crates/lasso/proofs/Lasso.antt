@@ -10,7 +10,7 @@ use lib.ListN.{length, get_or, take, length-append}
 use lib.Seq.{get_or-take, length-take-le}
 use lib.Dec.{T, eqb, leb, eqb→eq, le→leb}
 use Rattle.lists.proofs.Places.{place_of_first}
-use Rattle.lists.specs.Lists.{anyb, differentb, place_of, up_from, below}
+use Rattle.lists.specs.Lists.{anyb, differentb, up_from, below}
 use Rattle.lasso.specs.Graph.{Graph, WellFormed, pathb, edges, loopsb, lassob, acceptingb, loop_start}
 use Rattle.lists.proofs.Tests.{parts, join, eq→eqb, eq_or_apart, anyb_some, some_anyb, up_from_range, range_up_from, below_lt, lt_below, different_places}
 use Rattle.lists.proofs.Different.{length_different_places}

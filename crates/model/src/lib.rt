@@ -1,6 +1,7 @@
 // The model file: its header, the answer of its check, and the leaves by which the layers above read it.
 // The leaves speak of the graph that the file holds; those that are given the part of a row alone, of its numbers.
 #![tactic(auto)]
+
 ghost use Rattle.std.specs.Prelude.{◌≡◌, ◌<◌, length, get_or};
 ghost use Rattle.format.specs.Bytes.{words};
 ghost use Rattle.model.specs.Model.{graph_in, steps_of};

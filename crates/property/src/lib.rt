@@ -1,5 +1,6 @@
 // The property file: its check, and the leaves that read its targets, masks and marks by rows.
 #![tactic(auto)]
+
 ghost use Rattle.std.specs.Prelude.{◌≡◌, ◌≤◌, ◌<◌, length};
 ghost use Rattle.numbers.specs.Limits.{highest_letter};
 ghost use Rattle.lists.specs.Lists.{keep};

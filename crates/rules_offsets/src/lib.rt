@@ -1,5 +1,6 @@
 // Rule 6, as one test of a file whose numbers of states and edges were read: its offsets and its total length.
 #![tactic(auto)]
+
 ghost use Rattle.std.specs.Prelude.{◌≡◌, false, ◌≤◌, length};
 ghost use Rattle.numbers.specs.Limits.{most_states, most_edges};
 ghost use Rattle.format.specs.Layout.{states, edge_count};

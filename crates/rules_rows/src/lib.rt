@@ -1,5 +1,6 @@
 // The rules 8 to 10, each as one test of a file whose numbers of states and edges were read: its rows and targets.
 #![tactic(auto)]
+
 ghost use Rattle.std.specs.Prelude.{◌≡◌, false};
 ghost use Rattle.lists.specs.Lists.{ascendingb};
 ghost use Rattle.format.specs.Bytes.{words};

@@ -1,5 +1,6 @@
 // Rule 11, as one test of a file whose numbers of states and edges were read: the spare bits of its mark tables.
 #![tactic(auto)]
+
 ghost use Rattle.std.specs.Prelude.{◌≡◌, false, ◌≤◌};
 ghost use Rattle.format.specs.Layout.{HasTables};
 ghost use Rattle.format.specs.Rules.{spare_set, bad_spare};

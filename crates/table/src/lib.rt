@@ -1,5 +1,6 @@
 // The lent tables of 16-bit entries: reading, writing, clearing and copying.
 #![tactic(auto)]
+
 ghost use Rattle.std.specs.Prelude.{◌≡◌, ◌⊎◌, ◌+◌, ◌≤◌, ◌<◌, length, get_or, set};
 ghost use Rattle.table.specs.Changes.{Cleared, Copied};
 

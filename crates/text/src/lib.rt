@@ -1,5 +1,6 @@
 // Writers of bytes, words and numbers: each puts its bytes into the text from a place on, and answers the next place.
 #![tactic(auto)]
+
 ghost use Rattle.std.specs.Prelude.{[], ◌∷◌, ◌+◌, ◌≤◌, ◌<◌, length};
 ghost use Rattle.text.specs.Decimal.{decimal};
 ghost use Rattle.text.specs.Figure.{figure};

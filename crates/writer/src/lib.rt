@@ -1,5 +1,6 @@
 // Writers of the bytes of a model file: each puts its bytes into a lent output from a place on, and answers the next place.
 #![tactic(auto)]
+
 ghost use Rattle.std.specs.Prelude.{◌+◌, ◌≤◌, ◌<◌, length};
 ghost use Rattle.numbers.specs.Limits.{most_states, most_edges};
 ghost use Rattle.text.specs.Writing.{Wrote};

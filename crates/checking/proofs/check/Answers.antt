@@ -3,7 +3,6 @@
 use Prim.Native.Nat.{ℕ}
 use mathlib.Core.Path.{sym, ap, ap₂, ◌∙◌}
 use native.Mathlib.Omega.{arith}
-use borrow.Author.Rules.{rules}
 use Rattle.format.specs.Layout.{states, edge_count, total_of}
 use Rattle.model.specs.Values.{check_with}
 use Rattle.checking.proofs.HeadLaws.{HeadKept, head_kept, head_refuses}
@@ -25,9 +24,9 @@ pub check_tables-requires : goal.check_tables-requires
 check_tables-requires c =
     let known = (goal.at.check_tables-requires c).In-Accept in
     let h = head known in record {
-  file_value = sym known.check_head-head.ensures ∙ known.in-Accept.is;
-  edges_bound = omega (arith, c.total_of-total.ensures, header_numbers known.args.file.now h.header);
-}
+      file_value = sym known.check_head-head.ensures ∙ known.in-Accept.is;
+      edges_bound = omega (arith, c.total_of-total.ensures, header_numbers known.args.file.now h.header);
+    }
 
 pub returns-in-Refused : goal.returns-in-Refused
 returns-in-Refused c =

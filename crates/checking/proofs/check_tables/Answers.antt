@@ -152,9 +152,9 @@ returns-then-targets_broken c =
 pub order_broken-requires : goal.order_broken-requires
 order_broken-requires c =
     record {
-  has_tables = sized (goal.at.order_broken-requires c).Else-file-long;
-  file_value = rows_kept (goal.at.order_broken-requires c).Else-rows_broken;
-}
+      has_tables = sized (goal.at.order_broken-requires c).Else-file-long;
+      file_value = rows_kept (goal.at.order_broken-requires c).Else-rows_broken;
+    }
 
 pub returns-then-order_broken : goal.returns-then-order_broken
 returns-then-order_broken c =
@@ -165,9 +165,9 @@ returns-then-order_broken c =
 pub spare_set-requires : goal.spare_set-requires
 spare_set-requires c =
     record {
-  has_tables = sized (goal.at.spare_set-requires c).Else-file-long;
-  tables_bound = omega (arith, (from10 c).requires.edges_bound);
-}
+      has_tables = sized (goal.at.spare_set-requires c).Else-file-long;
+      tables_bound = omega (arith, (from10 c).requires.edges_bound);
+    }
 
 pub returns-then-spare_set : goal.returns-then-spare_set
 returns-then-spare_set c =

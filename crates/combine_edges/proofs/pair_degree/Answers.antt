@@ -43,16 +43,16 @@ overflow_cast-letter c =
 pub row_part-requires : goal.row_part-requires
 row_part-requires c =
     let s = (goal.at.row_part-requires c).Start in record {
-  valid = s.requires.combinable.rule_valid;
-  s_lt_states = state_below s.requires.combinable s.args.c s.requires.c_bound;
-}
+      valid = s.requires.combinable.rule_valid;
+      s_lt_states = state_below s.requires.combinable s.args.c s.requires.c_bound;
+    }
 
 pub mask_part-requires : goal.mask_part-requires
 mask_part-requires c =
     let s = (goal.at.mask_part-requires c).Start in record {
-  valid_property = s.requires.combinable.property_valid;
-  q_lt_states = property_below s.requires.combinable s.args.c s.requires.c_bound;
-}
+      valid_property = s.requires.combinable.property_valid;
+      q_lt_states = property_below s.requires.combinable s.args.c s.requires.c_bound;
+    }
 
 pub count_holding-requires : goal.count_holding-requires
 count_holding-requires c =

@@ -53,23 +53,23 @@ overflow_cast-letter c =
 pub row_part-part-requires : goal.row_part-part-requires
 row_part-part-requires c =
     let s = (goal.at.row_part-part-requires c).Start in record {
-  valid = s.requires.combinable.rule_valid;
-  s_lt_states = omega (arith, state_below s.requires.combinable s.args.c s.requires.c_bound);
-}
+      valid = s.requires.combinable.rule_valid;
+      s_lt_states = omega (arith, state_below s.requires.combinable s.args.c s.requires.c_bound);
+    }
 
 pub target_part-targets-requires : goal.target_part-targets-requires
 target_part-targets-requires c =
     let s = (goal.at.target_part-targets-requires c).Start in record {
-  valid_property = s.requires.combinable.property_valid;
-  q_lt_states = omega (arith, property_below s.requires.combinable s.args.c s.requires.c_bound);
-}
+      valid_property = s.requires.combinable.property_valid;
+      q_lt_states = omega (arith, property_below s.requires.combinable s.args.c s.requires.c_bound);
+    }
 
 pub mask_part-masks-requires : goal.mask_part-masks-requires
 mask_part-masks-requires c =
     let s = (goal.at.mask_part-masks-requires c).Start in record {
-  valid_property = s.requires.combinable.property_valid;
-  q_lt_states = omega (arith, property_below s.requires.combinable s.args.c s.requires.c_bound);
-}
+      valid_property = s.requires.combinable.property_valid;
+      q_lt_states = omega (arith, property_below s.requires.combinable s.args.c s.requires.c_bound);
+    }
 
 pub write_row-requires : goal.write_row-requires
 write_row-requires c =
@@ -79,12 +79,12 @@ write_row-requires c =
     let C = s.requires.combinable in
     let less = s.requires.c_bound in
     let within = property_below C a.c less in record {
-  letter_le_highest_letter = C.letters_range (a.c / a.k.states);
-  masks_len = rw (at.mask_part-masks.ensures, at.target_part-targets.ensures)
-            (row_masks-length (property_facts C.property_valid) (a.c % a.k.states) (omega (arith, within, (property_header C).0))).0;
-  row_fits = rw (at.row_part-part.ensures, at.target_part-targets.ensures) (row_fits C a.c less);
-  targets_in_bounds = omega (arith, ap length (row_told at), s.requires.c_in_bounds);
-}
+      letter_le_highest_letter = C.letters_range (a.c / a.k.states);
+      masks_len = rw (at.mask_part-masks.ensures, at.target_part-targets.ensures)
+          (row_masks-length (property_facts C.property_valid) (a.c % a.k.states) (omega (arith, within, (property_header C).0))).0;
+      row_fits = rw (at.row_part-part.ensures, at.target_part-targets.ensures) (row_fits C a.c less);
+      targets_in_bounds = omega (arith, ap length (row_told at), s.requires.c_in_bounds);
+    }
 
 pub shape_of-out : goal.shape_of-out
 shape_of-out c = wrote_length c.write_row.ensures

@@ -1,4 +1,4 @@
-use Prim.Native.Nat.{ℕ, ◌-◌}
+use Prim.Native.Nat.{ℕ}
 use mathlib.Core.Path.{◌≡◌, refl, ap, ◌∙◌}
 use native.Mathlib.Omega.{arith}
 use lib.ListN.{length, length-append}
@@ -17,9 +17,9 @@ loop-c-init c = (omega arith, refl, omega arith)
 pub pair_degree-edges-requires : goal.pair_degree-edges-requires
 pair_degree-edges-requires c =
     record {
-  combinable = c.requires;
-  c_bound = omega (arith, c.loop-c-test.true);
-}
+      combinable = c.requires;
+      c_bound = omega (arith, c.loop-c-test.true);
+    }
 
 pub overflow_add-edges : goal.overflow_add-edges
 overflow_add-edges c =

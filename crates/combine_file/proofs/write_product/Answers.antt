@@ -1,5 +1,5 @@
 -- `write_product` meets its contract: the header, the two tables and the marks are written one after the other.
-use Prim.Native.Nat.{ℕ, ◌+◌}
+use Prim.Native.Nat.{ℕ}
 use mathlib.Core.Path.{sym, ap, ap₂, subst, ◌∙◌}
 use mathlib.Core.List.{List, ◌++◌, map, append_assoc}
 use native.Mathlib.Omega.{arith}
@@ -65,9 +65,9 @@ write_header-requires c =
 pub write_tables-at-requires : goal.write_tables-at-requires
 write_tables-at-requires c =
     let header = (goal.at.write_tables-at-requires c).After-write_header in record {
-  combinable = header.requires.combinable;
-  tables_fit = tables_fit header;
-}
+      combinable = header.requires.combinable;
+      tables_fit = tables_fit header;
+    }
 
 pub write_marks-requires : goal.write_marks-requires
 write_marks-requires c =
@@ -75,12 +75,12 @@ write_marks-requires c =
     let header = tables in
     let s = (goal.at.After-write_marks-arg-1 header).Start in
     let w = tables.write_tables-at.ensures in record {
-  valid_property = s.requires.combinable.property_valid;
-  states_le_most_states = (
+      valid_property = s.requires.combinable.property_valid;
+      states_le_most_states = (
         s.requires.combinable.pairs_limit,
         omega (arith, w.place, wrote_length w, wrote_length header.write_header.ensures, table_bytes-length (graph s), pairs_are s.requires.combinable, s.requires.edges_value, s.requires.edges_in_bounds),
       );
-}
+    }
 
 pub returns : goal.returns
 returns c =

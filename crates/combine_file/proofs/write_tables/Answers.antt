@@ -83,9 +83,9 @@ overflow_sub-at c = edges-behind (goal.at.overflow_sub-at c).At-loop-c
 pub write_word-requires : goal.write_word-requires
 write_word-requires c =
     record {
-  at_in_bounds = omega (arith, entry_room (goal.at.write_word-requires c).At-loop-c);
-  x_bound = omega (arith, entry_small (goal.at.write_word-requires c).At-loop-c);
-}
+      at_in_bounds = omega (arith, entry_room (goal.at.write_word-requires c).At-loop-c);
+      x_bound = omega (arith, entry_small (goal.at.write_word-requires c).At-loop-c);
+    }
 
 pub write_edges-at-requires : goal.write_edges-at-requires
 write_edges-at-requires c =
@@ -93,10 +93,10 @@ write_edges-at-requires c =
     let in-loop = (goal.at.After-write_word word).In-loop-c in
     let at = in-loop in
     let s = (goal.at.In-loop-c at).Start in record {
-  combinable = s.requires.combinable;
-  c_bound = in-loop.loop-c-test.true;
-  c_in_bounds = edges_fit s.requires.tables_fit at.loop-c.invariant (turn_below in-loop) (entered word);
-}
+      combinable = s.requires.combinable;
+      c_bound = in-loop.loop-c-test.true;
+      c_in_bounds = edges_fit s.requires.tables_fit at.loop-c.invariant (turn_below in-loop) (entered word);
+    }
 
 pub overflow_add-c-in-loop-c : goal.overflow_add-c-in-loop-c
 overflow_add-c-in-loop-c c = let at = c in omega (arith, at.loop-c.invariant.within, pairs_are at.requires.combinable, at.requires.combinable.pairs_limit)
@@ -124,9 +124,9 @@ overflow_add-c-2 c = omega (arith, c.loop-c.invariant.within, pairs_are c.requir
 pub write_word-requires-2 : goal.write_word-requires-2
 write_word-requires-2 c =
     record {
-  at_in_bounds = omega (arith, entry_room (goal.at.write_word-requires-2 c).At-loop-c);
-  x_bound = omega (arith, entry_small (goal.at.write_word-requires-2 c).At-loop-c);
-}
+      at_in_bounds = omega (arith, entry_room (goal.at.write_word-requires-2 c).At-loop-c);
+      x_bound = omega (arith, entry_small (goal.at.write_word-requires-2 c).At-loop-c);
+    }
 
 pub shape_of-out : goal.shape_of-out
 shape_of-out c =

@@ -1,14 +1,12 @@
-use Prim.Native.Nat.{ℕ, ◌+◌, ◌*◌, ◌-◌, ◌^◌, ◌≤◌, ◌<◌}
+use Prim.Native.Nat.{ℕ, ◌+◌, ◌*◌, ◌^◌, ◌≤◌, ◌<◌}
 use mathlib.Core.Path.{◌≡◌, refl, sym, ap, ap₂, ◌∙◌}
 use mathlib.Core.Bool.{Bool}
-use mathlib.Core.Logic.{⊎_elim}
 use native.Mathlib.Omega.{arith}
 use native.Mathlib.Numerals.{add-one}
 use native.Mathlib.Nat.{pow-suc, pow-le-pow_right}
 use Rattle.lists.specs.Lists.{pick}
 use Rattle.writer.specs.File.{worth}
 use Rattle.writer.proofs.FileLaws.{worth-below}
-use Rattle.combine_graph.specs.Combined.{pair_mark}
 use Rattle.combine_marks.proofs.mark_byte.Invariants.{set_at}
 use Rattle.combine_marks.proofs.mark_byte.Goals as goal
 use Rattle.combine_marks.proofs.mark_byte.Goals.{then-pair_mark, else-pair_mark, At-loop-j}

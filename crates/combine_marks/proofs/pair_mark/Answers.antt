@@ -15,9 +15,9 @@ pub property_marked-requires : goal.property_marked-requires
 property_marked-requires c =
     let start = c in
     let v = start.requires in record {
-  valid_property = v;
-  q_lt_states = mod_below start.args.k.states start.args.c (omega (arith, (property_numbers v).0, (property_facts v).states_range));
-}
+      valid_property = v;
+      q_lt_states = mod_below start.args.k.states start.args.c (omega (arith, (property_numbers v).0, (property_facts v).states_range));
+    }
 
 pub returns : goal.returns
 returns c =

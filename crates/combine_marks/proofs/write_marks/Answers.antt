@@ -1,4 +1,4 @@
-use Prim.Native.Nat.{ℕ, ◌-◌}
+use Prim.Native.Nat.{ℕ}
 use mathlib.Core.Path.{◌≡◌, sym, ap, ◌∙◌}
 use mathlib.Core.List.{[], ◌∷◌, map}
 use native.Mathlib.Omega.{arith}
@@ -20,9 +20,9 @@ pub mark_byte-byte-requires : goal.mark_byte-byte-requires
 mark_byte-byte-requires c =
     let told = c in
     let start = told in record {
-  valid_property = start.requires.valid_property;
-  b_bound = omega (arith, c.loop-b-test.true, told.mark_bytes-count.ensures, start.requires.states_le_most_states.0);
-}
+      valid_property = start.requires.valid_property;
+      b_bound = omega (arith, c.loop-b-test.true, told.mark_bytes-count.ensures, start.requires.states_le_most_states.0);
+    }
 
 pub overflow_cast-byte : goal.overflow_cast-byte
 overflow_cast-byte c = omega (arith, c.mark_byte-byte.ensures.1)

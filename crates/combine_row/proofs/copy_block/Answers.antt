@@ -46,9 +46,9 @@ overflow_add-other c = omega (arith, entry (goal.at.overflow_add-other c).After-
 pub write_word-next-requires : goal.write_word-next-requires
 write_word-next-requires c =
     record {
-  at_in_bounds = room (goal.at.write_word-next-requires c).In-loop-j;
-  x_bound = omega (arith, entry (goal.at.write_word-next-requires c).After-word-entry);
-}
+      at_in_bounds = room (goal.at.write_word-next-requires c).In-loop-j;
+      x_bound = omega (arith, entry (goal.at.write_word-next-requires c).After-word-entry);
+    }
 
 pub loop-j-preserved : goal.loop-j-preserved
 loop-j-preserved c =

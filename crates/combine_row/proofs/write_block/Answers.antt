@@ -1,6 +1,5 @@
-use Prim.Native.Nat.{ℕ, ◌+◌, ◌*◌, ◌-◌, ◌<◌}
+use Prim.Native.Nat.{ℕ, ◌+◌, ◌*◌, ◌<◌}
 use mathlib.Core.Path.{◌≡◌, sym, ap, subst, ◌∙◌}
-use mathlib.Core.Logic.{⊎_elim}
 use native.Mathlib.Omega.{arith}
 use lib.ListN.{length, get_or}
 use Rattle.format.specs.Bytes.{word, words, bitb}
@@ -67,9 +66,9 @@ write_word-next-requires c =
     let a = start.args in
     let inside = within (goal.at.write_word-next-requires c).In-loop-k in
     let held = turn (goal.at.write_word-next-requires c).After-mask_holds ∙ c.if-mask_holds.true in record {
-  at_in_bounds = held_room a.letter a.base (words a.masks.now) (words a.targets.now) at_loop.loop-k.k inside.0 inside.1 held start.requires.targets_in_bounds at_loop.loop-k.invariant.1;
-  x_bound = omega (arith, number (goal.at.write_word-next-requires c).After-mask_holds c.word-then-mask_holds.result c.word-then-mask_holds.ensures.0);
-}
+      at_in_bounds = held_room a.letter a.base (words a.masks.now) (words a.targets.now) at_loop.loop-k.k inside.0 inside.1 held start.requires.targets_in_bounds at_loop.loop-k.invariant.1;
+      x_bound = omega (arith, number (goal.at.write_word-next-requires c).After-mask_holds c.word-then-mask_holds.result c.word-then-mask_holds.ensures.0);
+    }
 
 pub loop-k-preserved : goal.loop-k-preserved
 loop-k-preserved c =

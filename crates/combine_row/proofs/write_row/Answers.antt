@@ -126,11 +126,11 @@ write_block-next-requires c =
     let f = (goal.at.write_block-next-requires c).After-successor-first in
     let a = (start f).args in
     let free = block_room a.size (found f) (picked (start f)) 0 (omega arith) (room f) (wrote_none a.out.now a.at (omega arith)) in record {
-  letter_le_highest_letter = (start f).requires.letter_le_highest_letter;
-  masks_len = (start f).requires.masks_len;
-  targets_fit = (λ k less. omega (arith, first_fits f, (fits f).targets_fit k less));
-  targets_in_bounds = free;
-}
+      letter_le_highest_letter = (start f).requires.letter_le_highest_letter;
+      masks_len = (start f).requires.masks_len;
+      targets_fit = (λ k less. omega (arith, first_fits f, (fits f).targets_fit k less));
+      targets_in_bounds = free;
+    }
 
 pub overflow_sub-count : goal.overflow_sub-count
 overflow_sub-count c = (counted (goal.at.overflow_sub-count c).After-write_block-next).0
@@ -164,12 +164,12 @@ copy_block-next-requires c =
     let more = further (goal.at.copy_block-next-requires c).After-edge_target in
     let small = chosen-below a.letter a.size (words a.masks.now) (words a.targets.now) (fits f).targets_fit in
     let w = so_far at_loop in record {
-  count_bound = (
+      count_bound = (
         omega (arith, n, first_before a.size (found f) (picked (start f)) k at_loop.loop-k.invariant.0 (omega arith) w),
         omega (arith, n, block_room a.size (found f) (picked (start f)) k more.2 (room f) w),
       );
-  block_fits = copy_fits a.size (found f) (picked (start f)) k _ _ _ at_loop.loop-k.invariant.0 more.2 n refl more.0 w small more.1;
-}
+      block_fits = copy_fits a.size (found f) (picked (start f)) k _ _ _ at_loop.loop-k.invariant.0 more.2 n refl more.0 w small more.1;
+    }
 
 pub loop-k-preserved : goal.loop-k-preserved
 loop-k-preserved c =

@@ -2,7 +2,6 @@
 use Prim.Native.Nat.{ℕ, ◌+◌, ◌*◌}
 use mathlib.Core.Path.{◌≡◌, sym, ap, ap₂, ◌∙◌}
 use native.Mathlib.Omega.{arith}
-use borrow.Author.Rules.{rules}
 use Rattle.format.specs.Layout.{states, edge_count, total_of}
 use Rattle.model.specs.Values.{check_with}
 use Rattle.checking.proofs.HeadLaws.{HeadKept, head_kept, head_refuses}
@@ -32,9 +31,9 @@ check_tables-requires c =
     let known = (goal.at.check_tables-requires c).In-Accept in
     let h = head known in
     let numbers = header_numbers known.args.file.now h.header in record {
-  file_value = sym known.check_head-head.ensures ∙ known.in-Accept.is;
-  edges_bound = omega (arith, c.total_of.ensures, numbers);
-}
+      file_value = sym known.check_head-head.ensures ∙ known.in-Accept.is;
+      edges_bound = omega (arith, c.total_of.ensures, numbers);
+    }
 
 pub returns-in-Refused : goal.returns-in-Refused
 returns-in-Refused c =

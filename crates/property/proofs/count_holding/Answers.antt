@@ -1,12 +1,11 @@
 use native.Mathlib.Omega.{arith}
-use Prim.Native.Nat.{ℕ, ◌+◌, ◌-◌, ◌≤◌, ◌<◌}
+use Prim.Native.Nat.{ℕ, ◌+◌, ◌≤◌, ◌<◌}
 use mathlib.Core.Path.{◌≡◌, sym, ap, ◌∙◌}
 use mathlib.Core.Bool.{Bool}
-use mathlib.Core.Logic.{⊎_elim}
 use mathlib.Core.List.{List}
 use lib.ListN.{length, get_or, drop_of_length-le}
 use Rattle.lists.specs.Lists.{keep, pick}
-use Rattle.format.specs.Bytes.{word, words, bitb}
+use Rattle.format.specs.Bytes.{words, bitb}
 use Rattle.format.proofs.Words.{words-length, words_at}
 use Rattle.lists.proofs.KeepLaws.{keep_from}
 use Rattle.property.proofs.count_holding.Invariants.{holding_from}

@@ -1,6 +1,5 @@
 use borrow.Author.Rules.{rules}
 use native.Mathlib.Omega.{arith}
-use Prim.Native.Nat.{◌-◌}
 use mathlib.Core.Path.{refl, sym, ◌∙◌}
 use Rattle.format.specs.Bytes.{words}
 use Rattle.format.proofs.Words.{words-length, ascending_end, part_rises, part_falls}

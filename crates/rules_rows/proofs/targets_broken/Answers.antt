@@ -1,5 +1,4 @@
 use native.Mathlib.Omega.{arith}
-use Prim.Native.Nat.{◌-◌}
 use mathlib.Core.Path.{◌≡◌, sym}
 use borrow.Author.Tests.{lt-ltb, le-ltb}
 use Rattle.format.specs.Layout.{states, target}

@@ -1,6 +1,5 @@
 use borrow.Author.Rules.{rules}
 use native.Mathlib.Omega.{arith}
-use Prim.Native.Nat.{◌-◌}
 use mathlib.Core.Path.{sym, ◌∙◌}
 use Rattle.format.specs.Rules.{spare_set}
 use Rattle.lists.proofs.Range.{left_below, left_found, left_next, left_none}
@@ -12,9 +11,9 @@ loop-t-init c = let a = c.args in left_below (spare_set a.file.now) a.tables
 pub spare_of_table-requires : goal.spare_of_table-requires
 spare_of_table-requires c =
     let start = c in record {
-  has_tables = start.requires.has_tables;
-  t_bound = omega arith;
-}
+      has_tables = start.requires.has_tables;
+      t_bound = omega arith;
+    }
 
 pub returns-then-spare_of_table : goal.returns-then-spare_of_table
 returns-then-spare_of_table c =

@@ -1,5 +1,5 @@
 -- `write_number` meets its contract: the digits of the tenth, if there are any, and then the last one.
-use Rattle.std.proofs.Common.{sym, ◌∙◌, ap, arith, length}
+use Rattle.std.proofs.Common.{sym, ap, arith, length}
 use Rattle.text.proofs.WroteLaws.{wrote_length, wrote_then, wrote_as}
 use Rattle.text.proofs.DecimalLaws.{decimal_small, decimal_large, decimal-length}
 use Rattle.text.proofs.+write_number.Goals as goal
