@@ -1,4 +1,4 @@
-use Prim.Native.Nat.{◌-◌, ◌/◌}
+use Prim.Native.Nat.{◌/◌}
 use mathlib.Core.Path.{refl, sym}
 use native.Mathlib.Omega.{arith}
 use lib.ListN.{length}
@@ -35,12 +35,12 @@ shape_of-log-then-size-eq0 c = c.loop-calls.invariant.log_length
 pub returns-then-size-eq0 : goal.returns-then-size-eq0
 returns-then-size-eq0 c =
     let r = playing_over c.loop-calls.invariant c.command_size-size.ensures c.if-size-eq0.true in record {
-  calls = r.0;
-  log = r.1.0;
-  answer = r.1.1.0;
-  work = r.1.1.1.0;
-  book = r.1.1.1.1;
-}
+      calls = r.0;
+      log = r.1.0;
+      answer = r.1.1.0;
+      work = r.1.1.1.0;
+      book = r.1.1.1.1;
+    }
 
 pub offset_bounds-script-at-in-loop-calls : goal.offset_bounds-script-at-in-loop-calls
 offset_bounds-script-at-in-loop-calls c = omega (arith, c.loop-calls.invariant.at_in)
@@ -70,12 +70,10 @@ overflow_mul-calls c =
 
 pub play_one-got-requires : goal.play_one-got-requires
 play_one-got-requires c =
-    let else = c in
-    let sized = else in
-    let (there, room) = call_asks sized.loop-calls.invariant sized.command_size-size.ensures else.if-size-eq0.false sized.loop-calls-test.true in record {
-  script_value = there;
-  place_in_bounds = omega arith;
-}
+    let (there, room) = call_asks c.loop-calls.invariant c.command_size-size.ensures c.if-size-eq0.false c.loop-calls-test.true in record {
+      script_value = there;
+      place_in_bounds = omega arith;
+    }
 
 pub slice_bounds-receive-end : goal.slice_bounds-receive-end
 slice_bounds-receive-end c = sym c.loop-calls.invariant.copy_length
@@ -84,10 +82,10 @@ pub receive-held-requires : goal.receive-held-requires
 receive-held-requires c =
     let p = c.loop-calls.invariant in
     let m = c.play_one-got.ensures in record {
-  got_in_bounds = omega (arith, m.in_answer);
-  got_in_bounds_2 = omega (arith, p.copy_length, m.in_copy);
-  held_in_bounds = omega (arith, p.copy_length, p.held_in);
-}
+      got_in_bounds = omega (arith, m.in_answer);
+      got_in_bounds_2 = omega (arith, p.copy_length, m.in_copy);
+      held_in_bounds = omega (arith, p.copy_length, p.held_in);
+    }
 
 pub overflow_add-at : goal.overflow_add-at
 overflow_add-at c =
@@ -118,9 +116,9 @@ shape_of-log c = c.loop-calls.invariant.log_length
 pub returns : goal.returns
 returns c =
     let r = playing_full c.loop-calls.invariant c.loop-calls-test.false in record {
-  calls = r.0;
-  log = r.1.0;
-  answer = r.1.1.0;
-  work = r.1.1.1.0;
-  book = r.1.1.1.1;
-}
+      calls = r.0;
+      log = r.1.0;
+      answer = r.1.1.0;
+      work = r.1.1.1.0;
+      book = r.1.1.1.1;
+    }
