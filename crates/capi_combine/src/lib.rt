@@ -1,4 +1,6 @@
 // A combination in C, but for its name there: the answer goes as numbers.
+#![tactic(auto)]
+
 ghost use Rattle.std.specs.Prelude.{◌≡◌, ◌≤◌, length};
 ghost use Rattle.combine.specs.Combine.{combine_outcome_of};
 ghost use Rattle.figures.specs.Kinds.{written_report, figures_in};
