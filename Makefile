@@ -9,7 +9,7 @@ RT ?= rt
 
 # The shared library is named by the interface of the header: another one is another library.
 INTERFACE := $(shell sed -n 's/^.define FAHKELO_INTERFACE //p' include/fahkelo.h)
-SOURCES := crates.txt $(shell find crates -type f -not -path '*/must-fail/*')
+SOURCES := crates.txt $(shell find crates -type f -not -path '*/must-fail/*' -not -path '*/out/*')
 ARCHIVE = target/staticlib/libcapi.a
 SHARED = target/lib/libfahkelo.so.$(INTERFACE)
 PROGRAMS = target/bin/desk_sheet target/bin/desk_combine
@@ -20,6 +20,10 @@ MODULES = bindings/python/fahkelo.py $(addprefix tools/,fahkelo_card.py fahkelo_
 PAGES = $(wildcard docs/man/*.1) $(wildcard docs/man/*.3)
 TREE = $(DESTDIR)$(PREFIX)
 
+# What each program is run on: rt builds a program by running it.
+EXAMPLE_desk_sheet = < stdin
+EXAMPLE_desk_combine = -- data/rule data/letters data/property
+
 # The redirection makes every version of make ask a shell.
 need = $(if $(shell command -v $(firstword $($1)) 2>/dev/null),,$(error $($1) is not on the path: $2))
 need_cc = $(call need,CC,a C compiler is needed to link the shared library)
@@ -29,18 +33,20 @@ all: $(SHARED) $(PROGRAMS)
 $(ARCHIVE): $(SOURCES)
 	$(call need,RT,the Rattle kit is needed to prove and build the library)
 	$(need_cc)
-	$(RT) staticlib capi
-	touch $@
+	cd crates/capi && $(RT) lib
+	mkdir -p $(@D)
+	cp crates/capi/out/libcapi.a $@
 
 $(SHARED): $(ARCHIVE)
 	$(need_cc)
-	mkdir -p target/lib
+	mkdir -p $(@D)
 	$(CC) -shared -Wl,-soname,$(@F) -o $@ -Wl,--whole-archive $(ARCHIVE) -Wl,--no-whole-archive
 
 $(PROGRAMS): target/bin/%: $(SOURCES)
 	$(call need,RT,the Rattle kit is needed to prove and build the programs)
-	$(RT) check $*
-	touch $@
+	cd crates/$* && $(RT) run $(EXAMPLE_$*) > /dev/null
+	mkdir -p $(@D)
+	cp crates/$*/out/$* $@
 
 install: all
 	mkdir -p $(addprefix "$(TREE)"/,bin include lib/pkgconfig share/fahkelo/classroom share/man/man1 share/man/man3)

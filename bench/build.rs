@@ -1,4 +1,4 @@
-//! Links the static library that `rt staticlib capi` writes to target/staticlib of the repository.
+//! Links the static library that `make` writes to target/staticlib of the repository.
 //! Another folder can be named by the environment variable FAHKELO_LIB.
 
 use std::path::PathBuf;
@@ -12,7 +12,7 @@ fn main() {
     };
     let archive = folder.join("libcapi.a");
     if !archive.exists() {
-        panic!("no {}: run `rt staticlib capi` first", archive.display());
+        panic!("no {}: run `make target/staticlib/libcapi.a` in the repository first", archive.display());
     }
     println!("cargo:rerun-if-changed={}", archive.display());
     println!("cargo:rustc-link-search=native={}", folder.display());

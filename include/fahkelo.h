@@ -2,7 +2,7 @@
  * Fahkelo for C and C++: the shortest runs of a finite model. A run is an accepting path: it starts at the initial state
  * and repeats, from some place on, a loop with a marked state.
  *
- * Build the library with `rt staticlib capi`, link target/staticlib/libcapi.a (x86-64 Linux).
+ * Build the library with `make target/staticlib/libcapi.a` and link that file (x86-64 Linux).
  *
  * Tables. Each table is given as a pointer and a number of entries. Any lengths and any contents are allowed, and any
  * bytes as the file: what does not fit is refused with a number. A pointer whose length is 0 may be NULL; nothing is read

@@ -19,7 +19,7 @@ def storeys():
     found, known, comment = [], set(), ""
     with open(os.path.join(ROOT, "crates.txt"), encoding="utf-8") as text:
         for line in map(str.strip, text):
-            heading, row = re.match(r"# == (.*) ==$", line), re.match(r"([a-z_0-9]+):(.*)$", line)
+            heading, row = re.match(r"# == (.*) ==$", line), re.match(r"([a-z_0-9]+)(?: staticlib)?:(.*)$", line)
             if heading:
                 found.append(Storey(heading[1], "", []))
             elif row:

@@ -403,11 +403,11 @@ def test_page_wrong_sheets(desk):
 def test_page_failures(desk):
     """No program, bad words, files that cannot be read or written; an old page stays as it is."""
     desk.write("model", D_BYTES)
-    desk.fails([], 1, "is not built: rt check desk_sheet builds it")
+    desk.fails([], 1, "is not built: make target/bin/desk_sheet builds it")
     desk.lay(D_BYTES, D_SHEET, code=3)
     desk.fails([], 1, "exit code 3")
     os.chmod(desk.program, 0o644)
-    desk.fails([], 1, "cannot run", "rt check desk_sheet builds it")
+    desk.fails([], 1, "cannot run", "make target/bin/desk_sheet builds it")
     desk.lay(D_BYTES, D_SHEET)
     desk.fails(["--title", " "], 2, "the title is empty")
     desk.fails(["-o", desk.path("nowhere/page.html")], 1, "cannot write", "nowhere/page.html:")
@@ -482,7 +482,7 @@ def test_svg(desk):
 def test_program(desk):
     """The desk sheet program, where it is built, prints the sheets used here, and its pages are the same."""
     if not os.path.exists(PROGRAM):
-        print("skipped: target/bin/desk_sheet is not built (rt check desk_sheet builds it); a stand-in was drawn from")
+        print("skipped: target/bin/desk_sheet is not built (make builds it); a stand-in was drawn from")
         return
     for case, (data, sheet) in SHEETS.items():
         done = subprocess.run([PROGRAM], input=data, capture_output=True, timeout=60)

@@ -52,11 +52,11 @@ class Wrong(Exception):
 def desk_sheet(data):
     """What the desk sheet program prints for a file."""
     if not os.path.exists(PROGRAM):
-        fail(f"the desk sheet program, {PROGRAM}, is not built: rt check desk_sheet builds it", 1)
+        fail(f"the desk sheet program, {PROGRAM}, is not built: make target/bin/desk_sheet builds it", 1)
     try:
         done = subprocess.run([PROGRAM], input=data[: MAX_BYTES + 1], capture_output=True)
     except OSError as error:
-        fail(f"cannot run {PROGRAM}: {error.strerror} (rt check desk_sheet builds it)", 1)
+        fail(f"cannot run {PROGRAM}: {error.strerror} (make target/bin/desk_sheet builds it)", 1)
     if done.returncode != 0:
         fail(f"{PROGRAM} ended with exit code {done.returncode}", 1)
     return done.stdout.decode("utf-8", "replace")

@@ -1,10 +1,11 @@
 // The desk sheet program, but for its `main`: an input is read from a reader, its sheet is printed to a writer.
 #![tactic(auto)]
 
-ghost use Rattle.std.specs.Prelude.{◌≡◌, ◌≤◌, length};
+ghost use Rattle.std.specs.Prelude.{◌≡◌, ◌≤◌, true, length};
 ghost use Rattle.numbers.specs.Limits.{answer_entries, work_entries, sheet_room};
 ghost use Rattle.text.specs.Writing.{Wrote};
 ghost use Rattle.desk.specs.Desk.{input_text, desk_text};
+ghost use Rattle.desk.specs.Printed.{SheetPrinted};
 
 use numbers::limit;
 use reading::{input_bytes, read_model};
@@ -39,7 +40,10 @@ pub fn desk_sheet(read: &[u8], failed: bool, text: &mut [u8; TEXT_ROOM]) -> usiz
 }
 
 // Reads an input from a reader, prints its sheet to a writer, and answers whether all of the sheet was printed.
-pub fn print_sheet<R: Read, W: Write>(from: &mut R, to: &mut W) -> bool {
+pub fn print_sheet<R: Read, W: Write>(from: &mut R, to: &mut W) -> bool
+    ensures { result ≡ true → SheetPrinted (R.remaining from.old) (R.remaining from.new)
+        (W.contents to.old) (W.contents to.new) }
+{
     let mut input = [0u8; INPUT_ROOM];
     let reading = read_model(from, &mut input);
     let count = reading.count;

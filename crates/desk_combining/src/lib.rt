@@ -2,12 +2,13 @@
 // combined model file is written to a writer, or the line of a refusal to another.
 #![tactic(auto)]
 
-ghost use Rattle.std.specs.Prelude.{◌≡◌, ◌≤◌, length};
+ghost use Rattle.std.specs.Prelude.{◌≡◌, ◌≤◌, true, length};
 ghost use Rattle.numbers.specs.Limits.{output_bytes};
 ghost use Rattle.text.specs.Writing.{Wrote};
 ghost use Rattle.reading.specs.Reading.{input_of};
 ghost use Rattle.combine.specs.Combine.{combine_outcome_of};
 ghost use Rattle.desk_combining.specs.Combining.{refusal_room, NumberFits, bytes_told, line_told, output_text, error_text};
+ghost use Rattle.desk_combining.specs.Printed.{CombinationPrinted};
 
 use combine::{CombineAnswer, combine};
 use numbers::limit;
@@ -159,7 +160,12 @@ pub fn print_combination<R: Read, W: Write, E: Write>(
     property_from: &mut R,
     to: &mut W,
     errors_to: &mut E,
-) -> bool {
+) -> bool
+    ensures { result ≡ true → CombinationPrinted
+        record { rule = R.remaining rule_from.old; letters = R.remaining letters_from.old; property = R.remaining property_from.old }
+        record { rule = R.remaining rule_from.new; letters = R.remaining letters_from.new; property = R.remaining property_from.new }
+        (W.contents to.old) (W.contents to.new) }
+{
     let mut rule = [0u8; RULE_ROOM];
     let rule_read = read_model(rule_from, &mut rule);
     let rule_count = rule_read.count;

@@ -1,5 +1,5 @@
 -- What the answer to a read tells, and what counts as the input.
-use Rattle.std.specs.Prelude.{ℕ, ◌≡◌, ◌<◌, Bool, true, false, List, [], take, length, Option, Result, Ok, Err}
+use Rattle.std.specs.Prelude.{ℕ, ◌≡◌, ◌<◌, ◌≤◌, Bool, true, false, List, [], take, length, Option, Result, Ok, Err}
 use Rattle.std.specs.Io.KnownBytes.{Consumes, IsAtEnd}
 use Rattle.lists.specs.Lists.{pick}
 
@@ -16,8 +16,10 @@ input_of failed read = pick failed [] read
 pub record FirstBytes (most : ℕ) (input part : List ℕ) : Type 0 where
   pub are : part ≡ take most input
 
--- What was read by a reader that had the bytes `before` left and then has the bytes `after`, where those are known: so many
--- bytes of a buffer, which are the next ones. If no read failed, and the buffer has room for more, the input has ended.
-pub record ReadsOn (before after : Option (List ℕ)) (count : ℕ) (failed : Bool) (buffer : List ℕ) : Type 0 where
-  pub bytes : Consumes before after (take count buffer)
-  pub ended : failed ≡ false → count < length buffer → IsAtEnd after
+-- What was read of an input, of which so many bytes decide, by a reader that had the bytes `before` left and then has the
+-- bytes `after`, where those are known: they are its next bytes, no more than decide. If no read failed and they are fewer,
+-- the input has ended.
+pub record InputRead (enough : ℕ) (before after : Option (List ℕ)) (failed : Bool) (read : List ℕ) : Type 0 where
+  pub bytes : Consumes before after read
+  pub most : length read ≤ enough
+  pub ended : failed ≡ false → length read < enough → IsAtEnd after

@@ -6,7 +6,7 @@ ghost use Rattle.std.specs.Prelude.{◌≡◌, ◌<◌, false, length, take};
 ghost use Rattle.std.specs.Io.KnownBytes.{Consumes, IsAtEnd};
 ghost use Rattle.numbers.specs.Limits.{file_bytes, letters_bytes, property_bytes};
 ghost use Rattle.text.specs.Writing.{Within};
-ghost use Rattle.reading.specs.Reading.{failed_read, input_of, FirstBytes, ReadsOn};
+ghost use Rattle.reading.specs.Reading.{failed_read, input_of, FirstBytes, InputRead};
 
 use std::io::Read;
 use std::rt::Files;
@@ -72,7 +72,8 @@ fn read_once<R: Read>(from: &mut R, buffer: &mut [u8]) -> Reading
 // Reads until the buffer is full, the input ends or a read fails.
 fn read_input<R: Read>(from: &mut R, buffer: &mut [u8]) -> Reading
     ensures within { Within result.count buffer.new }
-    ensures read { ReadsOn (R.remaining from.old) (R.remaining from.new) result.count result.failed buffer.new }
+    ensures read { InputRead (length buffer.new) (R.remaining from.old) (R.remaining from.new)
+        result.failed (take result.count buffer.new) }
 {
     let mut count = 0;
     while count < buffer.len() {
@@ -96,7 +97,8 @@ fn read_input<R: Read>(from: &mut R, buffer: &mut [u8]) -> Reading
 pub fn read_model<R: Read>(from: &mut R, buffer: &mut [u8]) -> Reading
     requires { length buffer.old ≡ file_bytes }
     ensures within { Within result.count buffer.new }
-    ensures read { ReadsOn (R.remaining from.old) (R.remaining from.new) result.count result.failed buffer.new }
+    ensures read { InputRead (length buffer.new) (R.remaining from.old) (R.remaining from.new)
+        result.failed (take result.count buffer.new) }
 {
     read_input(from, buffer)
 }
@@ -105,7 +107,8 @@ pub fn read_model<R: Read>(from: &mut R, buffer: &mut [u8]) -> Reading
 pub fn read_letters<R: Read>(from: &mut R, buffer: &mut [u8]) -> Reading
     requires { length buffer.old ≡ letters_bytes }
     ensures within { Within result.count buffer.new }
-    ensures read { ReadsOn (R.remaining from.old) (R.remaining from.new) result.count result.failed buffer.new }
+    ensures read { InputRead (length buffer.new) (R.remaining from.old) (R.remaining from.new)
+        result.failed (take result.count buffer.new) }
 {
     read_input(from, buffer)
 }
@@ -114,7 +117,8 @@ pub fn read_letters<R: Read>(from: &mut R, buffer: &mut [u8]) -> Reading
 pub fn read_property<R: Read>(from: &mut R, buffer: &mut [u8]) -> Reading
     requires { length buffer.old ≡ property_bytes }
     ensures within { Within result.count buffer.new }
-    ensures read { ReadsOn (R.remaining from.old) (R.remaining from.new) result.count result.failed buffer.new }
+    ensures read { InputRead (length buffer.new) (R.remaining from.old) (R.remaining from.new)
+        result.failed (take result.count buffer.new) }
 {
     read_input(from, buffer)
 }

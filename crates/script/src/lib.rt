@@ -1,4 +1,6 @@
 // The call that a command of a script asks for, made and logged.
+#![tactic(auto)]
+
 ghost use Rattle.std.specs.Prelude.{◌≡◌, false, ◌+◌, ◌≤◌, length};
 ghost use Rattle.script_call.specs.Log.{Made};
 ghost use Rattle.script_commands.specs.Commands.{overb};

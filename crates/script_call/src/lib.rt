@@ -1,4 +1,6 @@
 // One call, made and logged: its answer goes to the log as four numbers, and the entries received are counted.
+#![tactic(auto)]
+
 ghost use Rattle.std.specs.Prelude.{◌≡◌, ◌∷◌, ◌++◌, ◌+◌, ◌≤◌, length, take, drop};
 ghost use Rattle.search.specs.Search.{search_outcome_of};
 ghost use Rattle.next.specs.Next.{next_outcome_of};

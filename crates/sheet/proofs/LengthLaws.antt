@@ -25,7 +25,7 @@ use Rattle.text.proofs.FigureLaws.{figure_room}
 use Rattle.sheet_line.specs.Line.{line}
 use Rattle.sheet_head.specs.Words.{refused_word, none_line, shortest_word}
 use Rattle.sheet_lists.specs.RollText.{closing, lists_text}
-use Rattle.sheet_text.specs.SheetText.{roll_text, text_of, sheet_ask, sheet_refusal, sheet_text}
+use Rattle.sheet_text.specs.SheetText.{roll_text, text_of, sheet_ask, sheet_refusal}
 use Rattle.sheet_lists.proofs.RoomLaws.{roll_room, lines_room, closing_room}
 use Rattle.sheet_head.proofs.HeadLaws.{head_room}
 use Rattle.sheet_text.proofs.SheetLaws.{head_lines, roll_text_some}

@@ -1,4 +1,6 @@
 // The whole text of the desk sheet: a model file goes in, its sheet comes out in a lent text.
+#![tactic(auto)]
+
 ghost use Rattle.std.specs.Prelude.{◌≡◌};
 ghost use Rattle.text.specs.Writing.{Wrote};
 ghost use Rattle.sheet.specs.Sheet.{sheet_written, sheet_answered, sheet_worked};
