@@ -18,6 +18,6 @@ returns c =
     let property : List ℕ = input_of a.failed.property a.property.now in
     let same =
     cut_told {f = rule} {letters = letters} {p = property} first.input_bytes-rule_bytes.ensures.input second.input_bytes-letter_bytes.ensures.input third.input_bytes-property_bytes.ensures.input (omega arith) (omega arith) (omega arith) in record {
-  output = wrote_as same.0 c.write_combination.ensures.output;
-  errors = wrote_as same.1 c.write_combination.ensures.errors;
-}
+      output = wrote_as same.0 c.write_combination.ensures.output;
+      errors = wrote_as same.1 c.write_combination.ensures.errors;
+    }

@@ -30,15 +30,15 @@ pub returns-in-Refused : goal.returns-in-Refused
 returns-in-Refused c =
     let wrote = c in
     let told = wrote.in-Refused.is in record {
-  output = sym (ap (λ (r : CombineAnswer). bytes_told (combine_outcome_of r)) told);
-  errors = wrote_as (sym (ap (λ (r : CombineAnswer). line_told (combine_outcome_of r)) told)) (line_of _ wrote.in-Refused.number wrote.write_refusal-errors.ensures (omega arith));
-}
+      output = sym (ap (λ (r : CombineAnswer). bytes_told (combine_outcome_of r)) told);
+      errors = wrote_as (sym (ap (λ (r : CombineAnswer). line_told (combine_outcome_of r)) told)) (line_of _ wrote.in-Refused.number wrote.write_refusal-errors.ensures (omega arith));
+    }
 
 pub returns-in-Written : goal.returns-in-Written
 returns-in-Written c =
     let known = c in
     let a = known.args in
     let told = known.in-Written.is in record {
-  output = sym (ap (λ (r : CombineAnswer). bytes_told (combine_outcome_of r)) told);
-  errors = wrote_as (sym (ap (λ (r : CombineAnswer). line_told (combine_outcome_of r)) told)) (wrote_none a.line.now 0 (omega arith));
-}
+      output = sym (ap (λ (r : CombineAnswer). bytes_told (combine_outcome_of r)) told);
+      errors = wrote_as (sym (ap (λ (r : CombineAnswer). line_told (combine_outcome_of r)) told)) (wrote_none a.line.now 0 (omega arith));
+    }

@@ -15,9 +15,9 @@ tell-requires c =
     let done = c in
     let s = (goal.at.After-tell-arg-1 done).Start in
     let a = s.args in record {
-  number_fits = number_fits a.rule.now a.letters.now a.property.now a.out.now (combine_outcome_of done.combine-answer.result) s.requires.out_len done.combine-answer.ensures.outcome;
-  refusal_room_in_bounds = s.requires.refusal_room_in_bounds;
-}
+      number_fits = number_fits a.rule.now a.letters.now a.property.now a.out.now (combine_outcome_of done.combine-answer.result) s.requires.out_len done.combine-answer.ensures.outcome;
+      refusal_room_in_bounds = s.requires.refusal_room_in_bounds;
+    }
 
 pub returns : goal.returns
 returns c =
@@ -25,6 +25,6 @@ returns c =
     let done = told in
     let s = (goal.at.After-slice_known-4-1 done).Start in
     let a = s.args in record {
-  output = output_told a.rule.now a.letters.now a.property.now a.out.now s.requires.out_len done.combine-answer.ensures.outcome done.combine-answer.ensures.output told.tell.ensures.output;
-  errors = wrote_as (line_told_lem a.rule.now a.letters.now a.property.now a.out.now s.requires.out_len done.combine-answer.ensures.outcome) told.tell.ensures.errors;
-}
+      output = output_told a.rule.now a.letters.now a.property.now a.out.now s.requires.out_len done.combine-answer.ensures.outcome done.combine-answer.ensures.output told.tell.ensures.output;
+      errors = wrote_as (line_told_lem a.rule.now a.letters.now a.property.now a.out.now s.requires.out_len done.combine-answer.ensures.outcome) told.tell.ensures.errors;
+    }
