@@ -1,4 +1,6 @@
 // Plays a sequence of searches and next calls from a script of numbers, and logs each call's answer as four numbers.
+#![tactic(auto)]
+
 ghost use Rattle.std.specs.Prelude.{◌≡◌, length};
 ghost use Rattle.script_player.specs.Played.{played, results};
 ghost use Rattle.script_player.specs.Log.{log_after_all, answer_after_all, work_after_all, BookPlayed};

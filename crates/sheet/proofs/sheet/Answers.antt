@@ -17,12 +17,9 @@ use Rattle.sheet_head.specs.Words.{refused_word}
 use Rattle.sheet_text.specs.SheetText.{sheet_text, sheet_answer}
 use Rattle.sheet.proofs.LeaveLaws.{leaves_short, leaves_sheet, leaves_refused}
 use Rattle.sheet.proofs.sheet.Goals as goal
-use Rattle.sheet.proofs.sheet.Goals.{After-enter-checked, After-slice_known-4-1, Else-text-lt-SHEET_ROOM, In-Accept, In-Refused, Start}
+use Rattle.sheet.proofs.sheet.Goals.{After-enter-checked, Else-text-lt-SHEET_ROOM, In-Accept, In-Refused, Start}
 
--- the gate, that the text has room before it, and the function's start
-abbrev gate : After-slice_known-4-1 → After-enter-checked
-gate c = (goal.at.After-slice_known-4-1 c).After-enter-checked
-
+-- that the text has room, from the gate behind it, and the function's start
 abbrev roomy : After-enter-checked → Else-text-lt-SHEET_ROOM
 roomy c = (goal.at.After-enter-checked c).Else-text-lt-SHEET_ROOM
 
@@ -31,18 +28,18 @@ start c = (goal.at.Else-text-lt-SHEET_ROOM (roomy c)).Start
 
 -- the gate's refusal
 broken : (c : In-Refused)
-    → let a = (start (gate (goal.at.In-Refused c).After-slice_known-4-1)).args in
+    → let a = (start ((goal.at.In-Refused c).After-enter-checked)).args in
     first_broken (named_rules a.input.now 0 (length a.work.now)) ≡ some c.in-Refused.number
 broken c =
-    let entered = gate (goal.at.In-Refused c).After-slice_known-4-1 in
+    let entered = (goal.at.In-Refused c).After-enter-checked in
     let a = (start entered).args in
     gate_refused a.input.now 0 (length a.work.now) entered.enter-checked.ensures.answer c.in-Refused.is
 
 -- the file has passed the gate, with its header
 passed : (c : In-Accept)
-    → let a = (start (gate (goal.at.In-Accept c).After-slice_known-4-1)).args in GatePassed a.input.now 0 (length a.work.now) c.in-Accept.h
+    → let a = (start ((goal.at.In-Accept c).After-enter-checked)).args in GatePassed a.input.now 0 (length a.work.now) c.in-Accept.h
 passed c =
-    let entered = gate (goal.at.In-Accept c).After-slice_known-4-1 in
+    let entered = (goal.at.In-Accept c).After-enter-checked in
     let a = (start entered).args in
     gate_passed a.input.now 0 (length a.work.now) entered.enter-checked.ensures.answer c.in-Accept.is
 

@@ -17,14 +17,11 @@ use Rattle.sheet_head.specs.Words.{none_line}
 use Rattle.sheet_text.specs.SheetText.{sheet_text, sheet_answer}
 use Rattle.sheet_text.proofs.SheetLaws.{head_is, head_fits, sheet_answer_lem, sheet_none}
 use Rattle.sheet_text.proofs.sheet_model.Goals as goal
-use Rattle.sheet_text.proofs.sheet_model.Goals.{After-all_rounds-completed, After-slice_known-4-1, In-None, Start}
+use Rattle.sheet_text.proofs.sheet_model.Goals.{After-all_rounds-completed, In-None, Start}
 
--- the function's start, and what the rounds came to
+-- the function's start, from what the rounds came to
 abbrev start : After-all_rounds-completed → Start
 start c = (goal.at.After-all_rounds-completed c).Start
-
-abbrev done : After-slice_known-4-1 → After-all_rounds-completed
-done c = (goal.at.After-slice_known-4-1 c).After-all_rounds-completed
 
 -- what the answer of the rounds says, by its case
 says : (c : After-all_rounds-completed) (r : AllRounds) → c.all_rounds-completed.result ≡ r → AllRoundsSay (graph_in (start c).args.file.now (start c).args.h) r
@@ -32,7 +29,7 @@ says c r e = subst (AllRoundsSay (graph_in (start c).args.file.now (start c).arg
 
 -- without a list: the rounds, from where their answer was seen
 abbrev none_rounds : In-None → After-all_rounds-completed
-none_rounds c = done (goal.at.In-None c).After-slice_known-4-1
+none_rounds c = (goal.at.In-None c).After-all_rounds-completed
 
 -- all of them are done: their number
 none_done : (c : In-None) → c.in-None.rounds ≡ length (candidates (graph_of (start (none_rounds c)).args.file.now 0))
