@@ -2,6 +2,7 @@
 #     make                                   target/lib and target/bin; rt proves what it builds
 #     make install PREFIX=DIR DESTDIR=DIR    into DIR, /usr/local if left out
 #     make test-tools                        tests the tools
+#     make bindings                          copies the modules that the Python module uses from tools/
 
 PREFIX ?= /usr/local
 CC ?= cc
@@ -63,8 +64,14 @@ install: all
 	for name in $(notdir $(SCRIPTS)); do ln -sf ../share/fahkelo/$$name "$(TREE)"/bin/$$name || exit; done
 	for page in $(PAGES); do install -m 644 $$page "$(TREE)"/share/man/man$${page##*.} || exit; done
 
+# The gate refuses links, so these are copies.
+COPIES = fahkelo_card.py fahkelo_places.py modelfile.py modeltext.py
+
+bindings:
+	cp $(addprefix tools/,$(COPIES)) bindings/python
+
 test-tools: all
 	tools/test-tools
 
-.PHONY: all install test-tools
+.PHONY: all install bindings test-tools
 .NOTPARALLEL:

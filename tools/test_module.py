@@ -123,6 +123,23 @@ def test_syntax():
                 expect(f"{path} imports {names}", allowed.issuperset(names))
 
 
+def test_copies():
+    """What stands beside the module is copied from tools, and finds the same card, program and library from there."""
+    folder = os.path.join(ROOT, "bindings/python")
+    names = sorted(name for name in os.listdir(folder) if name.endswith(".py") and name != "fahkelo.py")
+    wanted = ["fahkelo_card.py", "fahkelo_places.py", "modelfile.py", "modeltext.py"]
+    expect("the modules beside fahkelo.py", names == wanted, names)
+    for name in names:
+        path = f"bindings/python/{name}"
+        expect(f"{path} is no link", not os.path.islink(os.path.join(ROOT, path)))
+        expect(f"{path} is as in tools (make bindings copies it)", contents(path) == contents(f"tools/{name}"))
+    call = "from fahkelo_places import CARD, LIBRARIES, PROGRAM; print(CARD, LIBRARIES, PROGRAM, sep='\\n')"
+    places = [subprocess.run([sys.executable, "-c", call], env={**os.environ, "PYTHONPATH": at}, capture_output=True, text=True)
+              for at in (folder, TOOLS)]
+    expect("the places from both", places[0].stdout == places[1].stdout != "", places)
+    expect("the card is there", os.path.isfile(places[0].stdout.split("\n")[0]), places)
+
+
 # Answers.
 
 
@@ -400,7 +417,7 @@ def built():
     return there
 
 
-HEADER_TESTS = [test_header, test_card, test_syntax]  # without the library
+HEADER_TESTS = [test_header, test_card, test_syntax, test_copies]  # without the library
 
 MODULE_TESTS = [
     test_examples, test_answers, test_grades, test_module_refusals, test_wrong_arguments, test_lengths, test_threads,

@@ -5,13 +5,15 @@ import os
 
 HERE = os.path.dirname(os.path.realpath(__file__))
 INSTALLED = os.path.exists(os.path.join(HERE, "REFUSALS.md"))
+# In the repository this file is in tools, and its copy in bindings/python.
+TOP = os.path.join(HERE, ".." if os.path.exists(os.path.join(HERE, "../docs/REFUSALS.md")) else "../..")
 
 
 def place(in_repository, installed):
-    """One of two paths, both as seen from this folder."""
-    return os.path.normpath(os.path.join(HERE, installed if INSTALLED else in_repository))
+    """One of two paths: as seen from the top of the repository, and from this folder where it is installed."""
+    return os.path.normpath(os.path.join(HERE, installed) if INSTALLED else os.path.join(TOP, in_repository))
 
 
-CARD = place("../docs/REFUSALS.md", "REFUSALS.md")
-PROGRAM = place("../target/bin/desk_sheet", "../../bin/desk_sheet")
-LIBRARIES = place("../target/lib", "../../lib")
+CARD = place("docs/REFUSALS.md", "REFUSALS.md")
+PROGRAM = place("target/bin/desk_sheet", "../../bin/desk_sheet")
+LIBRARIES = place("target/lib", "../../lib")

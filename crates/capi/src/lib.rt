@@ -2,6 +2,8 @@
 // returned is the number of the refusal, 1 to 99, or the kind of answer, whose figures go to `out`: a refused call
 // changes nothing there. With fewer than 4 entries in `out` the answer is 100 and nothing at all is done; so it is for
 // a grade whose table for the place has no entry.
+#![tactic(auto)]
+
 ghost use Rattle.std.specs.Prelude.{◌≡◌};
 ghost use Rattle.gate.specs.Gate.{asking};
 ghost use Rattle.figures.specs.Kinds.{record_given, figures_in};

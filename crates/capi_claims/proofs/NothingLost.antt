@@ -14,6 +14,7 @@ use Rattle.format.specs.Layout.{states}
 use Rattle.model.specs.Model.{graph_of}
 use Rattle.lasso.specs.Roll.{roll}
 use Rattle.lasso.specs.Following.{following}
+use Rattle.outcomes.specs.Numbers as numbers
 use Rattle.outcomes.specs.Outcome.{Outcome, refused, answered}
 use Rattle.outcomes.specs.Tables.{written}
 use Rattle.step.specs.Step.{Stepped, finished, advanced, stepped, step_reasons}
@@ -171,13 +172,13 @@ nothing_lost = record {
   grade = record { refusals = λ n. refl; kinds = λ g. grade_kinds g.verdict };
   grade_injective = grade_injective;
   step_numbers = λ f t ceiling rec workRoom.
-      broken_one _ (stepped (graph_of f t) ceiling rec) (step_reasons f t ceiling workRoom) tt;
+      broken_one numbers.step_numbers (stepped (graph_of f t) ceiling rec) (step_reasons f t ceiling workRoom) tt;
   search_numbers = λ f ask answerRoom workRoom.
-      broken_one _ (searched (graph_of f ask.table) ask) (search_reasons f ask answerRoom workRoom) tt;
+      broken_one numbers.search_numbers (searched (graph_of f ask.table) ask) (search_reasons f ask answerRoom workRoom) tt;
   next_numbers = λ f t earlier answerRoom workRoom.
-      broken_one _ (followed (following earlier (roll (graph_of f t)))) (next_reasons f t earlier answerRoom workRoom) tt;
-  grade_numbers = λ f t xs k workRoom. broken_one _ (grade_of (graph_of f t) xs k) (named_rules f t workRoom) tt;
+      broken_one numbers.next_numbers (followed (following earlier (roll (graph_of f t)))) (next_reasons f t earlier answerRoom workRoom) tt;
+  grade_numbers = λ f t xs k workRoom. broken_one numbers.grade_numbers (grade_of (graph_of f t) xs k) (named_rules f t workRoom) tt;
   distances_numbers = λ f ceiling outputRoom workRoom.
-      broken_one _ (states f) (distance_reasons f ceiling outputRoom workRoom) tt;
+      broken_one numbers.distance_numbers (states f) (distance_reasons f ceiling outputRoom workRoom) tt;
   record_back = record_back;
 }

@@ -20,7 +20,8 @@ use Rattle.writer.specs.File.{edge_total, file_of}
 use Rattle.writer.proofs.FileLaws.{file_length_is}
 use Rattle.property.specs.Property.{bad_property}
 use Rattle.combine_graph.specs.Combined.{combined}
-use Rattle.combine.specs.Combine.{bad_letters, too_large, combined_file, combine_reasons, combine_broken, combine_outcome}
+use Rattle.combine_outcome.specs.Combination.{combined_file}
+use Rattle.combine.specs.Combine.{bad_letters, too_large, combine_reasons, combine_broken, combine_outcome}
 use Rattle.combine_outcome.proofs.ReasonLaws.{first_behind}
 use Rattle.desk_combining.specs.Combining.{NumberFits}
 use Rattle.desk_combining.specs.Sizes.{RefusedNumbers}
@@ -49,6 +50,7 @@ behind_number false false false false fits n e = let z : ◌≡◌ {A = ℕ} 0 1
 -- the first reason to refuse a combination
 broken_numbers : (f letters p : List ℕ) (n : ℕ) → combine_broken f letters p output_bytes ≡ some n
     → ((1 ≤ n) × (n ≤ 11)) ⊎ ((16 ≤ n) × (n ≤ 18))
+unfolding combined_file
 broken_numbers f letters p n e = go (first_broken (rules f)) refl
   where
     go : (o : Option ℕ) → first_broken (rules f) ≡ o → ((1 ≤ n) × (n ≤ 11)) ⊎ ((16 ≤ n) × (n ≤ 18))

@@ -5,7 +5,7 @@ ghost use Rattle.std.specs.Prelude.{◌≤◌, ◌<◌, length};
 
 use crate::calls::CaseNumbers;
 use crate::judged::Judged;
-use crate::model::{File, put_model};
+use crate::model_put::{File, put_model};
 use crate::setting::{Setting, is_setting};
 use crate::sweeps::{changes, lengths, once};
 use case_text::{NumberRead, byte_at, digits, find, make_entries, next_number, skip, within};

@@ -5,7 +5,7 @@
 mod calls;
 mod judged;
 mod lines;
-mod model;
+mod model_put;
 mod setting;
 mod sweeps;
 

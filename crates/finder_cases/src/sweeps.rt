@@ -4,7 +4,7 @@ ghost use Rattle.std.specs.Prelude.{◌≤◌, ◌<◌};
 
 use crate::calls::{Answers, CaseNumbers, try_all};
 use crate::judged::{Judged, and};
-use crate::model::File;
+use crate::model_put::File;
 use case_text::byte_at;
 use harness::{part, put_byte, refusal_of, say, text};
 

@@ -5,17 +5,17 @@
 #![tactic(auto)]
 
 mod calls;
-mod lists;
 mod models;
 mod tally;
+mod turns;
 
 ghost use Rattle.std.specs.Prelude.{◌<◌, ◌≤◌};
 
 use exhaustive::{Model, Placed};
 use grade_trials::{SHORTEST, Tried};
 use harness::{brings_list, part};
-use lists::{Turn, after, claim_of, first_turn};
 use tally::{Tally, with_brought, with_file, with_grade};
+use turns::{Turn, after, claim_of, first_turn};
 
 // More turns than any model has.
 const TURNS: u64 = 16;

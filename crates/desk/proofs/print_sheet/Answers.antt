@@ -1,5 +1,5 @@
 -- A sheet that was printed is that of what was read, and what was read decides.
-use Rattle.std.proofs.Common.{Bool, List, ℕ, ◌≤◌, Some, rules, arith, sym, ap, ◌∙◌, subst, take}
+use Rattle.std.proofs.Common.{Bool, List, ℕ, Some, rules, arith, sym, ap, ◌∙◌, subst, take}
 use Rattle.std.specs.Io.KnownBytes.{Appends}
 use Rattle.reading.specs.Reading.{InputRead}
 use Rattle.reading.proofs.ReadLaws.{first_read}

@@ -1,5 +1,5 @@
 -- A combination that was printed is that of what was read, and what was read decides.
-use Rattle.std.proofs.Common.{Bool, List, ℕ, Option, ◌≡◌, false, ◌≤◌, Some, rules, arith, sym, ap, ◌∙◌, subst, take}
+use Rattle.std.proofs.Common.{Bool, List, ℕ, Option, ◌≡◌, false, Some, rules, arith, sym, ◌∙◌, subst, take}
 use Rattle.std.specs.Io.KnownBytes.{Appends}
 use Rattle.numbers.specs.Limits.{file_bytes, letters_bytes, property_bytes}
 use Rattle.reading.specs.Reading.{FirstBytes, InputRead, input_of}

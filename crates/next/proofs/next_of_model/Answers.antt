@@ -14,7 +14,7 @@ use Rattle.begun.specs.declared.AllRounds.{AllRounds}
 use Rattle.next.specs.Next.{next_outcome, next_answer}
 use Rattle.next.proofs.NextLaws.{not_shortest_none, next_not_shortest}
 use Rattle.next.proofs.next_of_model.Goals as goal
-use Rattle.next.proofs.next_of_model.Goals.{After-all_rounds-completed, After-next_list-arg-in-Length-1, After-slice_known-in-Length-2-1, Start}
+use Rattle.next.proofs.next_of_model.Goals.{After-all_rounds-completed, Start}
 
 -- the function's start, and what the rounds came to
 abbrev start : After-all_rounds-completed → Start
@@ -27,7 +27,7 @@ says c r e = subst (AllRoundsSay (graph_in (start c).args.file.now (start c).arg
 pub next_list-requires : goal.next_list-requires
 next_list-requires c =
     let listed = c in
-    let rounds = (goal.at.After-next_list-arg-in-Length-1 listed).After-all_rounds-completed in record {
+    let rounds = (goal.at.next_list-requires listed).After-all_rounds-completed in record {
       rounds_ready = rounds.all_rounds-completed.ensures.ready;
       h_value = (says rounds _ listed.in-Length.is).least_is;
     }
@@ -50,7 +50,7 @@ pub returns-in-Length : goal.returns-in-Length
 returns-in-Length c =
     let wrote = c in
     let listed = wrote in
-    let rounds = (goal.at.After-slice_known-in-Length-2-1 listed).After-all_rounds-completed in
+    let rounds = (goal.at.returns-in-Length listed).After-all_rounds-completed in
     let a = rounds.args in
     let kept = rounds.all_rounds-completed.ensures.kept in record {
       outcome = at_length (λ n. next_outcome a.file.now a.h.table a.earlier.now (length a.answer.now) n) wrote.next_list.ensures.outcome kept;

@@ -21,7 +21,7 @@ use Rattle.outcomes.specs.Outcome.{answered}
 use Rattle.search.specs.Search.{stopped, none_within, graph_asked, search_outcome, search_answer, AsksEnough}
 use Rattle.search.proofs.SearchLaws.{search_too_high, search_stopped, search_none}
 use Rattle.search.proofs.search_model.Goals as goal
-use Rattle.search.proofs.search_model.Goals.{After-begin-begun, After-first_list-arg-in-Length-1, After-slice_known-in-Length-2-1, Else-ceiling_too_high, Start}
+use Rattle.search.proofs.search_model.Goals.{After-begin-begun, Else-ceiling_too_high, Start}
 
 -- the function's start, and what the rounds came to
 abbrev low : After-begin-begun → Else-ceiling_too_high
@@ -73,7 +73,7 @@ returns-then-ceiling_too_high c =
 pub first_list-requires : goal.first_list-requires
 first_list-requires c =
     let listed = c in
-    let begun = (goal.at.After-first_list-arg-in-Length-1 listed).After-begin-begun in
+    let begun = (goal.at.first_list-requires listed).After-begin-begun in
     let all = says begun _ listed.in-Length.is in record {
       rounds_ready = begun.begin-begun.ensures.ready;
       h_value = (begun_least all).0;
@@ -109,7 +109,7 @@ pub returns-in-Length : goal.returns-in-Length
 returns-in-Length c =
     let wrote = c in
     let listed = wrote in
-    let begun = (goal.at.After-slice_known-in-Length-2-1 listed).After-begin-begun in
+    let begun = (goal.at.returns-in-Length listed).After-begin-begun in
     let a = begun.args in
     let all = says begun _ listed.in-Length.is in
     let kept = begun.begin-begun.ensures.kept in
