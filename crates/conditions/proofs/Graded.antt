@@ -23,8 +23,9 @@ use Rattle.model.specs.Model.{graph_of}
 use Rattle.model.proofs.Laws.{accepted_well_formed}
 use Rattle.outcomes.specs.Outcome.{answered, outcome}
 use Rattle.outcomes.specs.Tables.{list_reasons, unless_refused, written}
-use Rattle.search.specs.Search.{Searched, stopped, first_of, first_due, stopsb, graph_asked, search_reasons}
-use Rattle.next.specs.Next.{Followed, followed, due_reasons, next_reasons}
+use Rattle.gate.specs.declared.Ask.{Ask}
+use Rattle.search.specs.Search.{Searched, search_outcome, search_answer, stopped, first_of, first_due, stopsb, graph_asked, search_reasons}
+use Rattle.next.specs.Next.{Followed, next_outcome, next_answer, followed, due_reasons, next_reasons}
 use Rattle.paths.specs.Breaks.{first_break}
 use Rattle.paths.proofs.BreakLaws.{breaks_shown}
 use Rattle.grade.specs.Grade.{Said, accepting, shortest, verdict, Grade, grade_of, grade_outcome}
@@ -168,23 +169,32 @@ grades_say f t xs k workRoom none_holds =
       );
     }
 
+-- what search finds is graded "shortest", and breaks nowhere
+search_graded : (f : List ℕ) (ask : Ask) (a : List ℕ) (workRoom L k rounds : ℕ)
+    → search_outcome f ask (length a) workRoom ≡ answered (Searched.found L k rounds)
+    → GradedShortest f ask.table (take (L + 1) (search_answer f ask a workRoom)) k
+search_graded f ask a workRoom L k rounds e =
+    let g : Graph = graph_asked f ask in
+    let due : Option (List ℕ) = first_due g ask in
+    let reasons : List Reason = search_reasons f ask (length a) workRoom in
+    let clear = answered_none (first_broken reasons) _ _ e in
+    let passed = passed_accepted f ask.table workRoom (ceiling_reason ask.ceiling.0 ∷ list_reasons g due (length a)) clear in
+    let within = search_found_in (roll_within g ask.ceiling.0) (stopsb g ask.allowance) (after_rounds g ask.ceiling.0 ask.allowance) (length (candidates g)) L k rounds (answered_is (first_broken reasons) _ _ e) in
+    let found : FoundIn (roll g) due L k = found_whole g ask.ceiling.0 within in
+    subst (λ (o : Option ℕ). GradedShortest f ask.table (take (L + 1) (written (unless_refused o due) a)) k) (sym clear) (found_graded f ask.table passed due a L k found)
+
+-- and so is what next finds
+next_graded : (f : List ℕ) (t : ℕ) (earlier a : List ℕ) (workRoom L k : ℕ)
+    → next_outcome f t earlier (length a) workRoom ≡ answered (Followed.found L k)
+    → GradedShortest f t (take (L + 1) (next_answer f t earlier a workRoom)) k
+next_graded f t earlier a workRoom L k e =
+    let g : Graph = graph_of f t in
+    let due : Option (List ℕ) = following earlier (roll g) in
+    let reasons : List Reason = next_reasons f t earlier (length a) workRoom in
+    let clear = answered_none (first_broken reasons) _ _ e in
+    let passed = passed_accepted f t workRoom (due_reasons g earlier due (length a)) clear in
+    let found = next_found_in (roll g) due (following_mem earlier (roll g)) L k (answered_is (first_broken reasons) _ _ e) in
+    subst (λ (o : Option ℕ). GradedShortest f t (take (L + 1) (written (unless_refused o due) a)) k) (sym clear) (found_graded f t passed due a L k found)
+
 pub found_is_shortest : FoundIsShortest
-found_is_shortest = record {
-  search = λ f ask a workRoom L k rounds e.
-      let g : Graph = graph_asked f ask in
-      let due : Option (List ℕ) = first_due g ask in
-      let reasons : List Reason = search_reasons f ask (length a) workRoom in
-      let clear = answered_none (first_broken reasons) _ _ e in
-      let passed = passed_accepted f ask.table workRoom (ceiling_reason ask.ceiling.0 ∷ list_reasons g due (length a)) clear in
-      let within = search_found_in (roll_within g ask.ceiling.0) (stopsb g ask.allowance) (after_rounds g ask.ceiling.0 ask.allowance) (length (candidates g)) L k rounds (answered_is (first_broken reasons) _ _ e) in
-      let found : FoundIn (roll g) due L k = found_whole g ask.ceiling.0 within in
-      subst (λ (o : Option ℕ). GradedShortest f ask.table (take (L + 1) (written (unless_refused o due) a)) k) (sym clear) (found_graded f ask.table passed due a L k found);
-  next = λ f t earlier a workRoom L k e.
-      let g : Graph = graph_of f t in
-      let due : Option (List ℕ) = following earlier (roll g) in
-      let reasons : List Reason = next_reasons f t earlier (length a) workRoom in
-      let clear = answered_none (first_broken reasons) _ _ e in
-      let passed = passed_accepted f t workRoom (due_reasons g earlier due (length a)) clear in
-      let found = next_found_in (roll g) due (following_mem earlier (roll g)) L k (answered_is (first_broken reasons) _ _ e) in
-      subst (λ (o : Option ℕ). GradedShortest f t (take (L + 1) (written (unless_refused o due) a)) k) (sym clear) (found_graded f t passed due a L k found);
-}
+found_is_shortest = record { search = search_graded; next = next_graded }
