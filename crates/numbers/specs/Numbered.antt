@@ -4,7 +4,7 @@ use Rattle.numbers.specs.Reasons as reason
 use Rattle.numbers.specs.declared.reason.Reason.{Reason}
 use Rattle.numbers.specs.declared.reason.Reason.TheVariants.{ShortFile, BadStates, BadEdges, BadStart, BadStays, BadOffsets, BadLength, BadRows, BadTargets, BadOrder, BadSpare, SmallTable, NotShortest, TooLong, NoRoom, BadLetters, BadProperty, TooLarge, HighCeiling, NoTable}
 
--- the number of a reason, as the contract numbers them: 1 to 11 for a file, then the calls' own; 19 and 20 stand for none
+-- the number of a reason
 abbrev pub number_of : Reason → ℕ
 number_of ShortFile = reason.short_file
 number_of BadStates = reason.bad_states
