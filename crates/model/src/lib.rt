@@ -25,10 +25,7 @@ impl Header {
     pub fn naming(self, table: usize) -> Header
         ensures { result ≡ naming «self» table }
     {
-        Header {
-            table,
-            ..self
-        }
+        Header { table, ..self }
     }
 }
 

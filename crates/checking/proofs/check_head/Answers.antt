@@ -77,11 +77,11 @@ returns-then-states-eq0 c =
     let first = (goal.at.returns-then-states-eq0 c).Else-file-lt24 in
     let file = checked (from1 first) in
     let broken : bad_states file ≡ true =
-        elim c.then-states-eq0.branch [
-          | then-states-eq0-via-then-states-eq0 w ↦ rw (eq-eqb (states file) 0 (omega arith))
-          | then-states-eq0-via-else-states-eq0+then-states-gt-MOST_STATES w ↦
-              rw (ne_eqb (states file) 0 (omega arith), lt-ltb 4096 (states file) (omega arith))
-        ] in
+    elim c.then-states-eq0.branch [
+      | then-states-eq0-via-then-states-eq0 w ↦ rw (eq-eqb (states file) 0 (omega arith))
+      | then-states-eq0-via-else-states-eq0+then-states-gt-MOST_STATES w ↦
+          rw (ne_eqb (states file) 0 (omega arith), lt-ltb 4096 (states file) (omega arith))
+    ] in
     held_refuses (head_rules file) (header_of file 0) (bad_states file) 2 _ (kept_1 first) broken
 
 pub returns-then-edges-gt-MOST_EDGES : goal.returns-then-edges-gt-MOST_EDGES
