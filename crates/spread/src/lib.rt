@@ -12,7 +12,7 @@ ghost use Rattle.spread.specs.Bounds.{ListedAt, LevelListed, BoundsInPlan};
 
 use edge_search::{SpreadAnswer, search_edges};
 use frontier::plan;
-use model::{Header, degree, row_part, successor};
+use model::{Header, successors_of};
 use table::get;
 
 // State s is in the list of a level, in a plan up to the limit, which the contract alone needs. Lists descend.
@@ -62,8 +62,8 @@ fn search_bound(file: &[u8], h: Header, work: &[u16], limit: usize, target: usiz
     if n <= target {
         return None;
     }
-    let part = row_part(file, h, target);
-    if degree(part, h, target) != 1 || successor(part, h, target, 0) != target {
+    let successors = successors_of(file, h, target);
+    if successors.len() != 1 || successors.get(0) != target {
         return None;
     }
     listed_level(work, n, limit, target)

@@ -16,6 +16,6 @@ returns c =
     let g : Graph = graph_in a.file.now a.h in
     level_bounds g a.limit a.target a.work.now _ (omega arith)
     (only_one (g.succs a.target) a.target
-    (sym (c.degree.ensures ∙ ap length c.row_part-part.ensures) ∙ c.if-degree-ne1.false)
-    (sym (c.successor.ensures ∙ ap (λ (ts : List ℕ). get_or ts 0 0) c.row_part-part.ensures) ∙ c.if-successor-target.false))
+    (sym (c.len.ensures ∙ ap length c.successors_of-successors.ensures) ∙ c.if-len-ne1.false)
+    (sym (c.get.ensures ∙ ap (λ (ts : List ℕ). get_or ts 0 0) c.successors_of-successors.ensures) ∙ c.if-get-target.false))
     c.listed_level.ensures
