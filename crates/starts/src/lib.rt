@@ -30,13 +30,11 @@ fn flag_row(file: &[u8], h: Header, work: &mut [u16], u: usize)
     let distance = get(work, u);
     let part = row_part(file, h, u);
     let d = degree(part, h, u);
-    let mut k = 0;
-    while k < d {
+    for k in 0..d {
         let t = successor(part, h, u, k);
         if get(work, t) <= distance {
             put(work, n + t, 1);
         }
-        k += 1;
     }
 }
 
@@ -49,12 +47,10 @@ fn flag_starts(file: &[u8], h: Header, work: &mut [u16])
 {
     let n = h.states;
     clear(work, n, 2 * n);
-    let mut u = 0;
-    while u < n {
+    for u in 0..n {
         if get(work, u) != 0 {
             flag_row(file, h, work, u);
         }
-        u += 1;
     }
 }
 
@@ -67,11 +63,8 @@ fn start_loop(file: &[u8], h: Header, work: &mut [u16], transitions: Transitions
     ensures same { SameOutside (2 * h.states) (6 * h.states) work.old work.new }
 {
     let reached = get(work, s);
-    if reached == 0 {
-        return 0;
-    }
     let most = transitions.number();
-    if most < reached {
+    if reached == 0 || most < reached {
         return 0;
     }
     let answer = loop_length(file, h, work, s, most + 1 - reached);
@@ -90,12 +83,10 @@ pub fn prepare_starts(file: &[u8], h: Header, work: &mut [u16], transitions: Tra
 {
     let n = h.states;
     flag_starts(file, h, work);
-    let mut s = 0;
-    while s < n {
+    for s in 0..n {
         if get(work, n + s) != 0 {
             let value = start_loop(file, h, work, transitions, s);
             put(work, n + s, value);
         }
-        s += 1;
     }
 }
