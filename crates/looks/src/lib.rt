@@ -10,7 +10,7 @@ ghost use Rattle.model.specs.Model.{graph_in};
 ghost use Rattle.looks.specs.Looks.{GoalAt, LastSays, PlaceSays, Closes};
 
 use current::list_at;
-use model::{Header, degree, row_part, successor};
+use model::{Header, successors_of};
 use table::get;
 
 // State y is a goal: it can start the loop, and stands on the list at the place of its distance, which is below the bound.
@@ -65,10 +65,9 @@ pub fn closes(file: &[u8], h: Header, work: &[u16], level: usize, bound: usize, 
     if get(work, 2 * n + s) != level + 1 {
         return false;
     }
-    let part = row_part(file, h, s);
-    let d = degree(part, h, s);
-    for k in 0..d {
-        let t = successor(part, h, s, k);
+    let successors = successors_of(file, h, s);
+    for k in 0..successors.len() {
+        let t = successors.target(k);
         if is_goal(h, work, bound, t) {
             return true;
         }

@@ -84,8 +84,8 @@ impl<'a> Successors<'a> {
         0
     }
 
-    // The one at place k.
-    pub fn get(&self, k: usize) -> usize
+    // The successor at place k.
+    pub fn target(&self, k: usize) -> usize
         requires { k < length self.now }
         ensures { result ≡ get_or self.now k 0 }
     {

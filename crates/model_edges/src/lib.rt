@@ -21,7 +21,7 @@ pub fn has_edge(file: &[u8], h: Header, s: usize, t: usize) -> bool
     let mut high = if t < d { t + 1 } else { d };
     while low < high {
         let middle = low + (high - low) / 2;
-        let u = successors.get(middle);
+        let u = successors.target(middle);
         if u == t {
             return true;
         }

@@ -63,7 +63,7 @@ fn search_bound(file: &[u8], h: Header, work: &[u16], limit: usize, target: usiz
         return None;
     }
     let successors = successors_of(file, h, target);
-    if successors.len() != 1 || successors.get(0) != target {
+    if successors.len() != 1 || successors.target(0) != target {
         return None;
     }
     listed_level(work, n, limit, target)

@@ -15,7 +15,7 @@ ghost use Rattle.starts.specs.Flags.{FlagsRow, FlagsStarts};
 
 use edge_search::SpreadAnswer;
 use lasso::Transitions;
-use model::{Header, degree, row_part, successor};
+use model::{Header, successors_of};
 use table::{clear, get, put};
 use walks::loop_length;
 
@@ -28,10 +28,9 @@ fn flag_row(file: &[u8], h: Header, work: &mut [u16], u: usize)
 {
     let n = h.states;
     let distance = get(work, u);
-    let part = row_part(file, h, u);
-    let d = degree(part, h, u);
-    for k in 0..d {
-        let t = successor(part, h, u, k);
+    let successors = successors_of(file, h, u);
+    for k in 0..successors.len() {
+        let t = successors.target(k);
         if get(work, t) <= distance {
             put(work, n + t, 1);
         }

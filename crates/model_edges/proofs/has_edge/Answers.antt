@@ -42,14 +42,14 @@ overflow_sub-middle c = omega (arith, c.loop-low-test.true)
 pub overflow_add-middle : goal.overflow_add-middle
 overflow_add-middle c = omega (arith, c.loop-low-test.true)
 
-pub get-u-requires : goal.get-u-requires
-get-u-requires c = omega (arith, c.loop-low-test.true, c.loop-low.invariant.within)
+pub target-u-requires : goal.target-u-requires
+target-u-requires c = omega (arith, c.loop-low-test.true, c.loop-low.invariant.within)
 
 pub returns-then-u-t : goal.returns-then-u-t
 returns-then-u-t c =
     let looked = c in
     let at = (goal.at.Then-u-t looked).At-loop-low in
-    sym (between_found at.loop-low.invariant _ (omega (arith, looked.loop-low-test.true)) (sym looked.get-u.ensures ∙ c.if-u-t.true))
+    sym (between_found at.loop-low.invariant _ (omega (arith, looked.loop-low-test.true)) (sym looked.target-u.ensures ∙ c.if-u-t.true))
     ∙ decide (row at)
 
 pub loop-low-smaller-then-u-t-2 : goal.loop-low-smaller-then-u-t-2
@@ -59,7 +59,7 @@ pub loop-low-preserved-then-u-t-2 : goal.loop-low-preserved-then-u-t-2
 loop-low-preserved-then-u-t-2 c =
     let looked = c in
     let at = looked in
-    between_after at.loop-low.invariant _ (omega (arith, looked.loop-low-test.true)) (omega (arith, looked.get-u.ensures, c.if-u-t-2.true))
+    between_after at.loop-low.invariant _ (omega (arith, looked.loop-low-test.true)) (omega (arith, looked.target-u.ensures, c.if-u-t-2.true))
 
 pub loop-low-smaller : goal.loop-low-smaller
 loop-low-smaller c = omega (arith, c.loop-low-test.true)
@@ -69,7 +69,7 @@ loop-low-preserved c =
     let looked = c in
     let at = looked in
     between_before at.loop-low.invariant _ (omega (arith, looked.loop-low-test.true))
-    (omega (arith, looked.get-u.ensures, c.if-u-t-2.false, c.if-u-t.false))
+    (omega (arith, looked.target-u.ensures, c.if-u-t-2.false, c.if-u-t.false))
 
 pub returns : goal.returns
 returns c =

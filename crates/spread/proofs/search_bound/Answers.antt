@@ -17,5 +17,5 @@ returns c =
     level_bounds g a.limit a.target a.work.now _ (omega arith)
     (only_one (g.succs a.target) a.target
     (sym (c.len.ensures ∙ ap length c.successors_of-successors.ensures) ∙ c.if-len-ne1.false)
-    (sym (c.get.ensures ∙ ap (λ (ts : List ℕ). get_or ts 0 0) c.successors_of-successors.ensures) ∙ c.if-get-target.false))
+    (sym (c.target.ensures ∙ ap (λ (ts : List ℕ). get_or ts 0 0) c.successors_of-successors.ensures) ∙ c.if-target.false))
     c.listed_level.ensures
