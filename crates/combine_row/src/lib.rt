@@ -35,12 +35,10 @@ fn write_block(
 {
     let count = targets.len() / 2;
     let mut next = at;
-    let mut k = 0;
-    while k < count {
+    for k in 0..count {
         if mask_holds(word(masks, 2 * k), letter) {
             next = write_word(out, next, base + word(targets, 2 * k));
         }
-        k += 1;
     }
     next
 }
@@ -59,11 +57,9 @@ fn copy_block(
     ensures { Wrote out.old at (words16 (copied out.old from count base other)) out.new result }
 {
     let mut next = at;
-    let mut j = 0;
-    while j < count {
+    for j in 0..count {
         let entry = word(out, from + 2 * j);
         next = write_word(out, next, other + (entry - base));
-        j += 1;
     }
     next
 }
@@ -100,11 +96,9 @@ pub fn write_row(
         return next;
     }
     let edges = edge_count(part);
-    let mut k = 1;
-    while k < edges {
+    for k in 1..edges {
         let other = edge_target(part, k) * size;
         next = copy_block(out, next, at, count, base, other);
-        k += 1;
     }
     next
 }

@@ -17,6 +17,7 @@ pub fn has_edge(file: &[u8], h: Header, s: usize, t: usize) -> bool
 {
     let successors = successors_of(file, h, s);
     let d = successors.len();
+    // By hand: `binary_search` and `partition_point` need a slice of numbers, and the file holds its numbers as bytes.
     let mut low = 0;
     let mut high = if t < d { t + 1 } else { d };
     while low < high {

@@ -3,7 +3,7 @@ use Prim.Native.Nat.{◌/◌, ◌%◌}
 use mathlib.Core.Path.{◌≡◌, sym, ap}
 use native.Mathlib.Omega.{arith}
 use lib.ListN.{length}
-use Rattle.text.proofs.WroteLaws.{wrote_length, wrote_as}
+use Rattle.text.proofs.WroteLaws.{wrote_as}
 use Rattle.writer.specs.File.{words16}
 use Rattle.format.specs.Bytes.{words}
 use Rattle.format.specs.Layout.{row_targets}
@@ -12,7 +12,7 @@ use Rattle.property.specs.Property.{chosen, row_masks}
 use Rattle.property.proofs.PropertyLaws.{property_facts}
 use Rattle.combine_row.specs.Row.{row_of}
 use Rattle.combine_graph.specs.Combined.{letter_of, combined}
-use Rattle.combine_graph.proofs.CombinedLaws.{property_header, some_property_state, state_below, property_below, combined_row, row_fits, row_masks-length}
+use Rattle.combine_graph.proofs.CombinedLaws.{property_header, property_below, combined_row, row_fits, row_masks-length}
 use Rattle.combine_edges.proofs.write_edges.Goals as goal
 use Rattle.combine_edges.proofs.write_edges.Goals.{After-mask_part-masks, After-shared_slice_known-4-1, Start}
 
@@ -34,43 +34,6 @@ row_told c =
     let masks-are : words c.mask_part-masks.result.now ≡ row_masks a.property.now (a.c % a.k.states) = c.mask_part-masks.ensures in
     rw (c.row_part-part.ensures, masks-are, targets-are) (sym (combined_row s.requires.combinable a.c s.requires.c_bound))
 
-pub nonzero_div-s : goal.nonzero_div-s
-nonzero_div-s c = some_property_state c.requires.combinable
-
-pub nonzero_rem-q : goal.nonzero_rem-q
-nonzero_rem-q c = some_property_state c.requires.combinable
-
-pub bounds-letters-s : goal.bounds-letters-s
-bounds-letters-s c =
-    let s = (goal.at.bounds-letters-s c).Start in
-    omega (arith, state_below s.requires.combinable s.args.c s.requires.c_bound, s.requires.combinable.letters_length)
-
-pub overflow_cast-letter : goal.overflow_cast-letter
-overflow_cast-letter c =
-    let s = (goal.at.overflow_cast-letter c).Start in
-    omega (arith, s.requires.combinable.letters_range (s.args.c / s.args.k.states))
-
-pub row_part-part-requires : goal.row_part-part-requires
-row_part-part-requires c =
-    let s = (goal.at.row_part-part-requires c).Start in record {
-      valid = s.requires.combinable.rule_valid;
-      s_lt_states = omega (arith, state_below s.requires.combinable s.args.c s.requires.c_bound);
-    }
-
-pub target_part-targets-requires : goal.target_part-targets-requires
-target_part-targets-requires c =
-    let s = (goal.at.target_part-targets-requires c).Start in record {
-      valid_property = s.requires.combinable.property_valid;
-      q_lt_states = omega (arith, property_below s.requires.combinable s.args.c s.requires.c_bound);
-    }
-
-pub mask_part-masks-requires : goal.mask_part-masks-requires
-mask_part-masks-requires c =
-    let s = (goal.at.mask_part-masks-requires c).Start in record {
-      valid_property = s.requires.combinable.property_valid;
-      q_lt_states = omega (arith, property_below s.requires.combinable s.args.c s.requires.c_bound);
-    }
-
 pub write_row-requires : goal.write_row-requires
 write_row-requires c =
     let at = (goal.at.write_row-requires c).After-mask_part-masks in
@@ -85,9 +48,6 @@ write_row-requires c =
       row_fits = rw (at.row_part-part.ensures, at.target_part-targets.ensures) (row_fits C a.c less);
       targets_in_bounds = omega (arith, ap length (row_told at), s.requires.c_in_bounds);
     }
-
-pub shape_of-out : goal.shape_of-out
-shape_of-out c = wrote_length c.write_row.ensures
 
 pub returns : goal.returns
 returns c = wrote_as (ap words16 (row_told (goal.at.returns c).After-mask_part-masks)) c.write_row.ensures

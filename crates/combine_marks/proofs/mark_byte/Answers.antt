@@ -1,5 +1,5 @@
 use Prim.Native.Nat.{ℕ, ◌+◌, ◌*◌, ◌^◌, ◌≤◌, ◌<◌}
-use mathlib.Core.Path.{◌≡◌, refl, sym, ap, ap₂, ◌∙◌}
+use mathlib.Core.Path.{◌≡◌, sym, ap, ap₂, ◌∙◌}
 use mathlib.Core.Bool.{Bool}
 use native.Mathlib.Omega.{arith}
 use native.Mathlib.Numerals.{add-one}
@@ -25,17 +25,8 @@ one_more : (set : ℕ → Bool) (j w x : ℕ) (b : Bool) → w ≡ 2 ^ j → x �
 one_more set j w x b ew ex eb =
     ap₂ ◌+◌ ex (ap₂ (λ (c : Bool) (v : ℕ). pick c v 0) eb ew) ∙ ap (worth set) (sym (add-one j))
 
-pub loop-j-init : goal.loop-j-init
-loop-j-init c = (omega arith, refl, refl)
-
-pub pair_mark-requires : goal.pair_mark-requires
-pair_mark-requires c = c.requires.valid_property
-
 pub overflow_add-byte : goal.overflow_add-byte
 overflow_add-byte c = omega (arith, small (goal.at.overflow_add-byte c).At-loop-j)
-
-pub overflow_mul-weight : goal.overflow_mul-weight
-overflow_mul-weight c = omega (arith, small (goal.at.overflow_mul-weight c).At-loop-j)
 
 pub loop-j-preserved : goal.loop-j-preserved
 loop-j-preserved c =

@@ -7,7 +7,6 @@ use Rattle.format.specs.Bytes.{words}
 use Rattle.model.specs.Model.{steps_of}
 use Rattle.model.proofs.Steps.{steps_behind_first}
 use Rattle.text.specs.Writing.{Wrote}
-use Rattle.text.proofs.WroteLaws.{wrote_length, wrote_none}
 use Rattle.writer.specs.File.{words16}
 use Rattle.property.specs.Property.{chosen}
 use Rattle.combine_row.specs.Row.{row_of, RowFits}
@@ -63,10 +62,6 @@ room c =
     let a = (start c).args in
     subst (λ (ss : List ℕ). a.at + 2 * length (row_of a.size ss (picked (start c))) ≤ length a.out.now) (found_all c) (start c).requires.targets_in_bounds
 
--- the first block's base fits
-first_fits : (c : After-successor-first) → c.successor-first.result * (start c).args.size + (start c).args.size ≤ 4096
-first_fits c = (fits c).successors_fit 0 (omega arith)
-
 -- where the first successor is known, from where its block is written
 abbrev known : After-write_block-next → After-successor-first
 known c = (goal.at.After-write_block-next c).After-successor-first
@@ -109,47 +104,12 @@ further c =
     let here = c.edge_target.ensures ∙ sym (behind_first f.successor-first.result ws at_loop.loop-k.k at_loop.loop-k.invariant.0) in
     (ap (λ x. x * a.size) here, (fits f).successors_fit at_loop.loop-k.k less, less)
 
-pub returns-then-degree-eq0 : goal.returns-then-degree-eq0
-returns-then-degree-eq0 c =
-    let begun = (goal.at.returns-then-degree-eq0 c).Start in
-    let a = begun.args in
-    wrote_row a.size (steps begun) (picked begun) 0 (omega (arith, c.if-degree-eq0.true, c.degree.ensures)) (wrote_none a.out.now a.at (omega arith))
-
-pub successor-first-requires : goal.successor-first-requires
-successor-first-requires c = has_successor c
-
-pub overflow_mul-base : goal.overflow_mul-base
-overflow_mul-base c = omega (arith, first_fits c)
-
-pub write_block-next-requires : goal.write_block-next-requires
-write_block-next-requires c =
-    let f = (goal.at.write_block-next-requires c).After-successor-first in
-    let a = (start f).args in
-    let free = block_room a.size (found f) (picked (start f)) 0 (omega arith) (room f) (wrote_none a.out.now a.at (omega arith)) in record {
-      letter_le_highest_letter = (start f).requires.letter_le_highest_letter;
-      masks_len = (start f).requires.masks_len;
-      targets_fit = (λ k less. omega (arith, first_fits f, (fits f).targets_fit k less));
-      targets_in_bounds = free;
-    }
-
-pub overflow_sub-count : goal.overflow_sub-count
-overflow_sub-count c = (counted (goal.at.overflow_sub-count c).After-write_block-next).0
-
-pub shape_of-out-then-count-eq0 : goal.shape_of-out-then-count-eq0
-shape_of-out-then-count-eq0 c = wrote_length c.write_block-next.ensures
-
 pub returns-then-count-eq0 : goal.returns-then-count-eq0
 returns-then-count-eq0 c =
     let w = (goal.at.returns-then-count-eq0 c).After-write_block-next in
     let f = known w in
     let a = (start f).args in
     wrote_empty_row a.size (steps (start f)) (picked (start f)) (f.successor-first.result * a.size) (omega (arith, (counted w).1, c.if-count-eq0.true)) w.write_block-next.ensures
-
-pub loop-k-init : goal.loop-k-init
-loop-k-init c = (omega arith, λ w₀ w. w)
-
-pub edge_target-requires : goal.edge_target-requires
-edge_target-requires c = omega (arith, c.loop-k-test.true, c.edge_count-edges.ensures)
 
 pub overflow_mul-other : goal.overflow_mul-other
 overflow_mul-other c = omega (arith, further c)
@@ -183,9 +143,6 @@ loop-k-preserved c =
           wrote_copied-block (start f).args.size (found f) (picked (start f)) at_loop.loop-k.k _ _ _ at_loop.loop-k.invariant.0 more.2
           (counted (wrote at_loop)).1 refl more.0 (at_loop.loop-k.invariant.1 w₀ w) Copied-next.copy_block-next.ensures,
     )
-
-pub shape_of-out : goal.shape_of-out
-shape_of-out c = wrote_length (so_far (goal.at.shape_of-out c).At-loop-k)
 
 pub returns : goal.returns
 returns c =

@@ -1,5 +1,5 @@
 -- `write_row` meets its contract. The loop's invariant: with the first block, the blocks of the first k successors are written.
-use Prim.Native.Nat.{ℕ, ◌-◌, ◌≤◌}
+use Prim.Native.Nat.{ℕ, ◌≤◌}
 use mathlib.Core.List.{List, ◌∷◌}
 use lib.ListN.{take, drop}
 use Rattle.format.specs.Bytes.{words}
@@ -15,6 +15,3 @@ invariant-loop-k l =
     let qs = chosen l.letter (words l.masks) (words l.targets) in
     (1 ≤ l.k)
     × ((w₀ : List ℕ) → Wrote w₀ l.at (words16 (row_of l.size (take 1 ss) qs)) l.initial.out l.initial.next → Wrote w₀ l.at (words16 (row_of l.size (take l.k ss) qs)) l.out l.next)
-
-abbrev pub decreases-loop-k : goal.decreases-loop-k
-decreases-loop-k l = l.edges - l.k
