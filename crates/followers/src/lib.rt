@@ -13,7 +13,7 @@ ghost use Rattle.followers.specs.Followers.{TrySays, LeastFound, FirstFound};
 
 use current::list_at;
 use lasso::Transitions;
-use model::{Header, degree, row_part, successor};
+use model::{Header, successors_of};
 use moves::retreat;
 use passed::Passed;
 use tested::may_follow;
@@ -60,10 +60,9 @@ pub fn least_follower(
 {
     *passed = retreat(file, h, work, transitions, place, *passed);
     let s = list_at(h, work, place);
-    let part = row_part(file, h, s);
-    let d = degree(part, h, s);
-    for k in 0..d {
-        let t = successor(part, h, s, k);
+    let successors = successors_of(file, h, s);
+    for k in 0..successors.len() {
+        let t = successors.target(k);
         if try_next(file, h, work, transitions, place, bound, t, passed) {
             return Some(t);
         }
@@ -87,14 +86,13 @@ pub fn first_follower(
     ensures { FirstFound file.now h work.old work.new transitions.0 place result passed.new }
 {
     let s = list_at(h, work, place);
-    let part = row_part(file, h, s);
-    let d = degree(part, h, s);
-    let last = d - 1;
+    let successors = successors_of(file, h, s);
+    let last = successors.len() - 1;
     for k in 0..last {
-        let t = successor(part, h, s, k);
+        let t = successors.target(k);
         if may_follow(file, h, work, transitions, place, t, passed) {
             return t;
         }
     }
-    successor(part, h, s, last)
+    successors.target(last)
 }
