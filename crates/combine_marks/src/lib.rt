@@ -29,12 +29,10 @@ fn mark_byte(property: &[u8], k: Header, states: usize, b: usize) -> usize
     ensures { (result ≡ pair_mark_byte property.now states b) × (result < 256) }
 {
     let mut byte = 0;
-    let mut weight = 1;
     for j in 0..8 {
         if pair_mark(property, k, states, 8 * b + j) {
-            byte += weight;
+            byte += 1 << j;
         }
-        weight *= 2;
     }
     byte
 }
