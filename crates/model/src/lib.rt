@@ -7,9 +7,8 @@ ghost use Rattle.format.specs.Bytes.{words};
 ghost use Rattle.model.specs.Model.{graph_in, steps_of, with_implied};
 ghost use Rattle.model.specs.Values.{naming, Valid};
 
-use std::marker::Model;
-
 use format::{bit, mark_bytes, row, table_at, word};
+use std::marker::Model;
 
 // The fields of an accepted file that its readers need, and the mark table by which they read it. `stays`: a state without
 // edges has an implied step to itself.
