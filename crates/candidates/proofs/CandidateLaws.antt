@@ -1,7 +1,6 @@
 -- Candidates, counted while going up through the states: those from a state on, and how many are below it.
 use Prim.Native.Nat.{ℕ, suc, ◌+◌, ◌-◌, ◌≤◌, ◌<◌}
 use mathlib.Core.Path.{◌≡◌, ◌∙◌, ap}
-use mathlib.Core.Logic.{inl, inr}
 use mathlib.Core.Bool.{Bool, true, false}
 use mathlib.Core.List.{List, [], ◌∷◌}
 use native.Mathlib.Omega.{arith}
@@ -9,7 +8,6 @@ use lib.ListN.{length, get_or}
 use Rattle.lists.specs.Lists.{keep, cons_if, up_from}
 use Rattle.lasso.specs.Graph.{Graph}
 use Rattle.lasso.specs.Rounds.{candidateb, candidates}
-use Rattle.lists.proofs.Tests.{lt_or_ge}
 
 -- the candidates from s on
 abbrev pub candidates_from : Graph → ℕ → List ℕ
@@ -92,13 +90,6 @@ counted_left {g} {d} {s} l e c = omega (arith, c.lengths, ap length (candidates_
 -- all candidates are below the number of states
 pub counted_all : {g : Graph} {d s : ℕ} → g.size ≤ s → Counted g d s → d ≡ length (candidates g)
 counted_all {g} {d} {s} l c = omega (arith, c.lengths, ap length (candidates_from_size g s l))
-
--- while a candidate is to come, the states are not passed
-pub counted_inside : {g : Graph} {d s : ℕ} → d < length (candidates g) → Counted g d s → s < g.size
-counted_inside {g} {d} {s} l c = elim (lt_or_ge s g.size) [
-  | inl less ↦ less
-  | inr past ↦ absurd (omega (arith, counted_all past c))
-]
 
 -- no more candidates are below a state than there are
 pub counted_le : {g : Graph} {d s : ℕ} → Counted g d s → d ≤ length (candidates g)

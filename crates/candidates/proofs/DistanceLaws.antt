@@ -2,7 +2,7 @@
 -- candidates, and a round keeps them.
 use Prim.Native.Nat.{ℕ, suc, ◌+◌, ◌*◌, ◌≤◌, ◌<◌}
 use mathlib.Core.Path.{◌≡◌, refl, sym, ◌∙◌, ap}
-use mathlib.Core.Bool.{Bool, true, false, ◌&&◌}
+use mathlib.Core.Bool.{true, false}
 use mathlib.Core.List.{List}
 use mathlib.Core.Option.{Option, some, none}
 use native.Mathlib.Omega.{arith}
@@ -10,8 +10,6 @@ use lib.ListN.{length, get_or}
 use Rattle.lists.specs.Lists.{is_some}
 use Rattle.lasso.specs.Graph.{Graph}
 use Rattle.lasso.specs.Distance.{dist}
-use Rattle.lasso.specs.Rounds.{candidateb}
-use Rattle.lists.proofs.Tests.{and_true, and_false}
 use Rattle.lasso.proofs.Distance.{dist-below}
 use Rattle.model.specs.declared.Header.{Header}
 use Rattle.model.specs.Values.{Valid}
@@ -62,20 +60,6 @@ is_some-entry (some v) h = refl
 none_entry : (a : Option ℕ) → entry_of a ≡ 0 → is_some a ≡ false
 none_entry none e = refl
 none_entry (some v) e = absurd (omega arith)
-
--- a state that is not reached from the start is no candidate
-pub candidate_unreached : {g : Graph} {w : List ℕ} → StartDistances g w → (s : ℕ) → s < g.size
-    → get_or w s 0 ≡ 0 → candidateb g s ≡ false
-candidate_unreached {g} d s l e =
-    ap (λ (b : Bool). g.marked s && b) (none_entry (dist g g.start s) (sym (start_entry d s l) ∙ e))
-    ∙ and_false (g.marked s)
-
--- a state that is reached from the start is a candidate if it is marked
-pub candidate_reached : {g : Graph} {w : List ℕ} → StartDistances g w → (s : ℕ) → s < g.size
-    → 0 < get_or w s 0 → candidateb g s ≡ g.marked s
-candidate_reached {g} d s l p =
-    ap (λ (b : Bool). g.marked s && b) (is_some-entry (dist g g.start s) (omega (arith, start_entry d s l)))
-    ∙ and_true (g.marked s)
 
 -- with the distances from the start the table is ready
 pub ready_started : {f : List ℕ} {h : Header} {w w' : List ℕ} → Valid f h → 6 * h.states ≤ length w

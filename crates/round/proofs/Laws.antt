@@ -20,18 +20,6 @@ pub entry_of_le : (n : ℕ) (a : Option ℕ) → ((v : ℕ) → a ≡ some v →
 entry_of_le n none h = omega arith
 entry_of_le n (some v) h = omega (arith, h v refl)
 
--- the entry for a sum with nothing stands for nothing
-pub sum-entry_none : (a b : ℕ) → b ≡ 0 → 0 ≡ entry_of (sum (value_of a) (value_of b))
-sum-entry_none zero b e = refl
-sum-entry_none (suc a) zero e = refl
-sum-entry_none (suc a) (suc b) e = absurd (omega arith)
-
--- the entry for a sum: one less than the sum of the entries for two values
-pub sum-entry : (a b : ℕ) → 0 < a → 0 < b → a + b - 1 ≡ entry_of (sum (value_of a) (value_of b))
-sum-entry zero b p q = absurd (omega arith)
-sum-entry (suc a) zero p q = absurd (omega arith)
-sum-entry (suc a) (suc b) p q = omega arith
-
 -- a search from start levels that are, below the limit, the sums of two distances finds the round's length
 pub round_found : (g : Graph) (limit r : ℕ) (source : ℕ → Option ℕ)
     → ((s : ℕ) → s < g.size → source s ≡ under limit (sum (dist g g.start s) (dist g r s)))
