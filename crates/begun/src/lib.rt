@@ -77,7 +77,13 @@ pub fn all_rounds(file: &[u8], h: Header, work: &mut [u16]) -> AllRounds
     );
     match begun {
         Begun::Stopped(_) => unreachable!(),
-        Begun::NoneWithin(rounds) => AllRounds { rounds, length: None },
-        Begun::Length(length, rounds) => AllRounds { rounds, length: Some(length) },
+        Begun::NoneWithin(rounds) => AllRounds {
+            rounds,
+            length: None,
+        },
+        Begun::Length(length, rounds) => AllRounds {
+            rounds,
+            length: Some(length),
+        },
     }
 }

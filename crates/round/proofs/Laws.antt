@@ -1,6 +1,6 @@
 -- Laws of one round: entries and what they stand for, the start levels that a round searches from, and that a round's
 -- length is at least one.
-use Prim.Native.Nat.{ℕ, zero, suc, ◌+◌, ◌-◌, ◌≤◌, ◌<◌}
+use Prim.Native.Nat.{ℕ, suc, ◌≤◌, ◌<◌}
 use mathlib.Core.Path.{◌≡◌, refl, ◌∙◌, ap}
 use mathlib.Core.Option.{Option, some, none}
 use native.Mathlib.Omega.{arith}
@@ -9,7 +9,7 @@ use Rattle.lasso.specs.Distance.{dist}
 use Rattle.lists.specs.Least.{sum}
 use Rattle.lasso.specs.Rounds.{round_length}
 use Rattle.lists.proofs.Least.{is_least_has}
-use Rattle.frontier.specs.Regions.{entry_of, value_of}
+use Rattle.frontier.specs.Regions.{entry_of}
 use Rattle.lists.specs.Limit.{under}
 use Rattle.hits.specs.Hit.{hit_length}
 use Rattle.lists.proofs.UnderLaws.{under_ge}

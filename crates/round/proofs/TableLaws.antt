@@ -1,24 +1,18 @@
 -- Laws of the working table during a round: the distances from the start in region 0, and the start levels in region 2.
-use Prim.Native.Nat.{ℕ, suc, ◌+◌, ◌*◌, ◌≤◌, ◌<◌}
+use Prim.Native.Nat.{ℕ, suc, ◌+◌, ◌*◌, ◌<◌}
 use mathlib.Core.Path.{◌≡◌, sym, ◌∙◌, ap, ap₂}
-use mathlib.Core.Logic.{inl, inr}
 use mathlib.Core.List.{List}
-use mathlib.Core.Option.{Option, some, none}
+use mathlib.Core.Option.{some, none}
 use native.Mathlib.Omega.{arith}
-use lib.ListN.{length, get_or, set}
-use lib.Seq.{get_or-set_same, get_or-set_other}
-use Rattle.lasso.specs.Graph.{Graph}
 use Rattle.lasso.specs.Distance.{dist}
 use Rattle.lists.specs.Least.{sum}
 use Rattle.lasso.specs.Rounds.{round_length}
-use Rattle.lists.proofs.Tests.{lt_or_ge}
 use Rattle.lists.proofs.UnderLaws.{under-sum}
 use Rattle.lasso.proofs.Distance.{dist-below}
 use Rattle.model.specs.declared.Header.{Header}
 use Rattle.model.specs.Model.{graph_in}
 use Rattle.model.proofs.Laws.{valid_sizes}
 use Rattle.table.specs.Changes.{SameOutside}
-use Rattle.table.proofs.Laws.{same_outside_refl, same_outside_widen, same_outside_trans, same_outside_set}
 use Rattle.frontier.specs.Regions.{entry, entry_of, value_of}
 use Rattle.lists.specs.Limit.{under}
 use Rattle.hits.specs.Hit.{hit_length}
@@ -27,7 +21,6 @@ use Rattle.edge_search.specs.Promises.{FoundFrom, ExhaustedFrom}
 use Rattle.frontier.specs.Buckets.{sources}
 use Rattle.lists.proofs.UnderLaws.{under_some}
 use Rattle.candidates.specs.Promises.{RoundsReady}
-use Rattle.candidates.proofs.DistanceLaws.{entry_zero}
 use Rattle.round.specs.Promises.{SumsFit, SumsPut}
 use Rattle.spread.proofs.SearchLaws.{value_entry}
 use Rattle.round.proofs.Laws.{entry_of_le, round_found}

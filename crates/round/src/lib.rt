@@ -47,7 +47,13 @@ fn add_start_distances(work: &mut [u16], n: usize)
 }
 
 // One round, for candidate r: its length, if it is at most the limit.
-pub fn round(file: &[u8], h: Header, work: &mut [u16], r: usize, limit: usize) -> Option<Transitions>
+pub fn round(
+    file: &[u8],
+    h: Header,
+    work: &mut [u16],
+    r: usize,
+    limit: usize,
+) -> Option<Transitions>
     requires rounds_ready { RoundsReady file.now h work.old }
     requires r_lt_states { r < h.states }
     requires limit_le_states { limit ≤ h.states }

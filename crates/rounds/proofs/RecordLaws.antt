@@ -15,11 +15,6 @@ pub record Underway (g : Graph) (ceiling allowance s : ℕ) (rec : Record) : Typ
   pub counted : Counted g rec.done s
   pub rounds : rec ≡ after_rounds g ceiling rec.done
 
--- at first no round is done
-pub underway_none : (g : Graph) (ceiling allowance : ℕ) → Underway g ceiling allowance 0 (record { done = 0; best = none })
-underway_none g ceiling allowance =
-    record { allowed = omega arith; counted = counted_none g; rounds = refl }
-
 -- the round for a candidate is done
 pub underway_yes : {g : Graph} {ceiling allowance s : ℕ} {rec rec' : Record} → s < g.size → candidateb g s ≡ true
     → rec.done < allowance → rec' ≡ after_round g ceiling rec → Underway g ceiling allowance s rec → Underway g ceiling allowance (s + 1) rec'
@@ -37,18 +32,3 @@ pub underway_no : {g : Graph} {ceiling allowance s : ℕ} {rec : Record} → s <
     → Underway g ceiling allowance s rec → Underway g ceiling allowance (s + 1) rec
 underway_no l e u =
     record { allowed = omega arith; counted = counted_no l e u.counted; rounds = u.rounds }
-
--- the rounds done are all that the allowance admits
-rounds_admitted : {g : Graph} {ceiling allowance s : ℕ} {rec : Record} → Underway g ceiling allowance s rec
-    → rec.done ≡ min allowance (length (candidates g)) → rec ≡ after_allowed g ceiling allowance
-rounds_admitted {g} {ceiling} u e = u.rounds ∙ ap (after_rounds g ceiling) e
-
--- a search that has used up its allowance is over
-pub underway_stopped : {g : Graph} {ceiling allowance s : ℕ} {rec : Record} → allowance ≤ rec.done
-    → Underway g ceiling allowance s rec → rec ≡ after_allowed g ceiling allowance
-underway_stopped l u = rounds_admitted u (omega (arith, counted_le u.counted))
-
--- a search that has gone through all states is over
-pub underway_all : {g : Graph} {ceiling allowance s : ℕ} {rec : Record} → g.size ≤ s
-    → Underway g ceiling allowance s rec → rec ≡ after_allowed g ceiling allowance
-underway_all l u = rounds_admitted u (omega (arith, counted_all l u.counted))
