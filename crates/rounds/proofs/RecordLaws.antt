@@ -1,13 +1,11 @@
 -- The record of a search while it goes up through the states.
-use Prim.Native.Nat.{ℕ, suc, ◌+◌, ◌≤◌, ◌<◌, min}
-use mathlib.Core.Path.{◌≡◌, refl, ◌∙◌, ap}
+use Prim.Native.Nat.{ℕ, suc, ◌+◌, ◌≤◌, ◌<◌}
+use mathlib.Core.Path.{◌≡◌, ◌∙◌, ap}
 use mathlib.Core.Bool.{true, false}
-use mathlib.Core.Option.{none}
 use native.Mathlib.Omega.{arith}
-use lib.ListN.{length}
 use Rattle.lasso.specs.Graph.{Graph}
-use Rattle.lasso.specs.Rounds.{candidateb, candidates, Record, after_round, after_rounds, after_allowed}
-use Rattle.candidates.proofs.CandidateLaws.{Counted, counted_none, counted_yes, counted_no, counted_all, counted_le}
+use Rattle.lasso.specs.Rounds.{candidateb, Record, after_round, after_rounds}
+use Rattle.candidates.proofs.CandidateLaws.{Counted, counted_yes, counted_no}
 
 -- the rounds for the candidates below s are done, and there are no more of them than allowed
 pub record Underway (g : Graph) (ceiling allowance s : ℕ) (rec : Record) : Type 0 where
