@@ -35,7 +35,7 @@ pub fn complete(
     let mut p = passed;
     for place in from..last {
         let t = first_follower(file, h, work, transitions, place, &mut p);
-        p = append(file, h, work, transitions, place, t, p);
+        append(file, h, work, transitions, place, t, &mut p);
     }
 }
 
@@ -45,6 +45,7 @@ pub fn first(file: &[u8], h: Header, work: &mut [u16], transitions: Transitions)
     ensures holds_first { HoldsFirst (graph_in file.now h) transitions.0 work.new }
     ensures kept { Kept h.states work.old work.new }
 {
-    let p = retreat(file, h, work, transitions, 0, Passed::unknown(0));
+    let mut p = Passed::unknown(0);
+    retreat(file, h, work, transitions, 0, &mut p);
     complete(file, h, work, transitions, 0, p);
 }

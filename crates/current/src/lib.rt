@@ -36,7 +36,8 @@ fn loop_start(h: Header, work: &[u16], transitions: Transitions) -> usize
     end
 }
 
-// Writes entries of the list, from a place on, to the front of a part of the answer table.
+// Writes entries of the list, from a place on, to the front of a part of the answer table. The part may be longer: what lies
+// past the entries is promised to stay.
 fn write_part(h: Header, work: &[u16], from: usize, entries: Entries, part: &mut [u16])
     requires entries_in_bounds { from + entries.0 ≤ length work.now + 1 }
     requires entries_in_bounds_2 { entries.0 ≤ length part.old }

@@ -36,10 +36,7 @@ fn try_next(
     requires passed_at { PassedAt file.now h work.old transitions.0 place passed.old }
     ensures { TrySays file.now h work.old work.new transitions.0 place bound t result passed.new }
 {
-    if t < bound {
-        return false;
-    }
-    may_follow(file, h, work, transitions, place, t, passed)
+    bound <= t && may_follow(file, h, work, transitions, place, t, passed)
 }
 
 // The least state from a bound on that may stand after the list up to a place. What is known is of a longer list at first.
@@ -58,7 +55,7 @@ pub fn least_follower(
     requires known_from { KnownFrom file.now h work.old transitions.0 place passed.old }
     ensures { LeastFound file.now h work.old work.new transitions.0 place bound result passed.new }
 {
-    *passed = retreat(file, h, work, transitions, place, *passed);
+    retreat(file, h, work, transitions, place, passed);
     let s = list_at(h, work, place);
     let successors = successors_of(file, h, s);
     for k in 0..successors.len() {
@@ -70,7 +67,8 @@ pub fn least_follower(
     None
 }
 
-// The least state that may stand after a list that extends: of its successors the last one needs no test.
+// The least state that may stand after a list that extends: of its successors the last one needs no test, so it is not
+// `least_follower` from 0 on.
 pub fn first_follower(
     file: &[u8],
     h: Header,

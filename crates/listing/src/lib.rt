@@ -30,8 +30,8 @@ pub fn advance(file: &[u8], h: Header, work: &mut [u16], transitions: Transition
     for place in (0..last).rev() {
         let bound = get(work, place) + 1;
         if let Some(t) = least_follower(file, h, work, transitions, place, bound, &mut p) {
-            let r = append(file, h, work, transitions, place, t, p);
-            complete(file, h, work, transitions, place + 1, r);
+            append(file, h, work, transitions, place, t, &mut p);
+            complete(file, h, work, transitions, place + 1, p);
             return true;
         }
     }

@@ -34,7 +34,8 @@ fn starts_at(h: Header, work: &[u16], k: usize) -> bool
     entry % 2 == 1 && entry / 2 == k + 1
 }
 
-// The last place of the list up to a given one with such a state, plus 1; or 0.
+// The last place of the list up to a given one with such a state, plus 1; or 0. It looks back as `goal_tables::last_mark`
+// does: one function with the test as a closure would say its promise over F.post, and be longer than both loops.
 fn last_start(h: Header, work: &[u16], place: usize) -> usize
     requires states_in_bounds { 2 * h.states ≤ length work.now }
     requires states_le_most_states { h.states ≤ most_states }
@@ -57,13 +58,13 @@ pub fn retreat(
     work: &[u16],
     transitions: Transitions,
     place: usize,
-    passed: Passed,
-) -> Passed
+    passed: &mut Passed,
+)
     requires prepared { Prepared file.now h work.now transitions.0 }
     requires place_le_transitions { place ≤ transitions.0 }
     requires states_to { StatesTo h work.now place }
-    requires known_from { KnownFrom file.now h work.now transitions.0 place passed }
-    ensures { PassedAt file.now h work.now transitions.0 place result }
+    requires known_from { KnownFrom file.now h work.now transitions.0 place passed.old }
+    ensures { PassedAt file.now h work.now transitions.0 place passed.new }
 {
     let start = if passed.start <= place + 1 {
         passed.start
@@ -75,7 +76,7 @@ pub fn retreat(
     } else {
         last_mark(file, h, work, place)
     };
-    passed.moved(start, mark)
+    *passed = passed.moved(start, mark);
 }
 
 // Puts state t at the place after the given one of the list, and says what is known of the list then.
@@ -86,14 +87,14 @@ pub fn append(
     transitions: Transitions,
     place: usize,
     t: usize,
-    passed: Passed,
-) -> Passed
+    passed: &mut Passed,
+)
     requires prepared { Prepared file.now h work.old transitions.0 }
     requires place_lt_transitions { place < transitions.0 }
     requires states_to { StatesTo h work.old place }
     requires t_lt_states { t < h.states }
-    requires passed_at { PassedAt file.now h work.old transitions.0 place passed }
-    ensures { Appended file.now h work.old work.new transitions.0 place t result }
+    requires passed_at { PassedAt file.now h work.old transitions.0 place passed.old }
+    ensures { Appended file.now h work.old work.new transitions.0 place t passed.new }
 {
     put(work, place, t);
     let start = if starts_at(h, work, place + 1) {
@@ -106,5 +107,5 @@ pub fn append(
     } else {
         passed.mark
     };
-    passed.moved(start, mark)
+    *passed = passed.moved(start, mark);
 }

@@ -6,7 +6,8 @@ ghost use Rattle.std.specs.Prelude.{false, ◌≡◌, ◌+◌, ◌≤◌, ◌<�
 ghost use Rattle.numbers.specs.Limits.{most_states};
 ghost use Rattle.passed.specs.Passed.{Moved};
 
-// What is known of a list up to a place: the places of its last loop start and of its last mark, plus 1, or 0; how many
+// What is known of a list up to a place: the places of its last loop start and of its last mark, plus 1, or 0, which are
+// numbers and not options, since they are compared as bounds and 0 is the least with no case of its own; how many
 // tests after that loop start were done by a search; and whether the tables after it are there.
 #[derive(Clone, Copy)]
 pub struct Passed {

@@ -53,7 +53,7 @@ fn flag_starts(file: &[u8], h: Header, work: &mut [u16])
     }
 }
 
-// The entry of region 1 for state s.
+// The entry of region 1 for state s, as a table of 16-bit numbers holds it: one more than the length, or 0 for none.
 fn start_loop(file: &[u8], h: Header, work: &mut [u16], transitions: Transitions, s: usize) -> usize
     requires rounds_ready { RoundsReady file.now h work.old }
     requires transitions_le_states { transitions.0 ≤ h.states }

@@ -33,10 +33,10 @@ first_follower-t-requires c =
       passed_at = i.1;
     }
 
-pub append-p-requires : goal.append-p-requires
-append-p-requires c =
+pub append-requires : goal.append-requires
+append-requires c =
     let test = c in
-    let loop = (goal.at.append-p-requires test).In-loop-place in
+    let loop = (goal.at.append-requires test).In-loop-place in
     let says = test.first_follower-t.ensures in
     let asks = append_asks loop.loop-place.invariant.0.prepared (inside loop) says.same says.found in record {
       prepared = asks.0;
@@ -49,7 +49,7 @@ append-p-requires c =
 pub loop-place-preserved : goal.loop-place-preserved
 loop-place-preserved c =
     let store = c in
-    (rw store.append-p.ensures.stored (longer (goal.at.loop-place-preserved store).After-first_follower-t), store.append-p.ensures.passed)
+    (rw store.append.ensures.stored (longer (goal.at.loop-place-preserved store).After-first_follower-t), store.append.ensures.passed)
 
 pub returns : goal.returns
 returns c = completing_all c.loop-place.invariant.0 (omega (arith, c.number-last.ensures))

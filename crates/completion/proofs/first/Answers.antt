@@ -7,10 +7,10 @@ use Rattle.follow.proofs.PlacesRoll.{completed_first}
 use Rattle.passed.proofs.PassedLaws.{known_none}
 use Rattle.completion.proofs.first.Goals as goal
 
-pub retreat-p-requires : goal.retreat-p-requires
-retreat-p-requires c =
+pub retreat-requires : goal.retreat-requires
+retreat-requires c =
     let p = c.requires in
-    let known = c.unknown.ensures in record {
+    let known = c.unknown-p.ensures in record {
       prepared = p;
       place_le_transitions = omega arith;
       states_to = states_to 0 p (omega arith) tt;
@@ -24,7 +24,7 @@ complete-requires c =
       prepared = s.requires;
       from_le_transitions = omega arith;
       extends = start_extends (graph_in a.file.now a.h) a.transitions.0 s.requires.least;
-      passed_at = c.retreat-p.ensures;
+      passed_at = c.retreat.ensures;
     }
 
 pub returns : goal.returns

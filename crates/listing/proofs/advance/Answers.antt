@@ -50,7 +50,7 @@ completed : (c : After-complete)
     Completed (graph_in a.file.now a.h) a.transitions.0 (c.loop-place.place - 1 + 1)
     (set c.least_follower.new.work (c.loop-place.place - 1) c.in-Some.t)
     c.complete.new.work
-completed c = rw c.append-r.ensures.stored at c.complete.ensures
+completed c = rw c.append.ensures.stored at c.complete.ensures
 
 pub unknown-p-requires : goal.unknown-p-requires
 unknown-p-requires c =
@@ -77,9 +77,9 @@ least_follower-requires c =
       known_from = c.loop-place.invariant.1 (c.loop-place.place - 1) (omega (arith, c.loop-place-test.true));
     }
 
-pub append-r-requires : goal.append-r-requires
-append-r-requires c =
-    let next = (goal.at.append-r-requires c).In-Some in
+pub append-requires : goal.append-requires
+append-requires c =
+    let next = (goal.at.append-requires c).In-Some in
     let raising = raising_asks (raise_of next) in
     let asks = append_asks raising.0 raising.1.0 c.least_follower.ensures.same (found next) in record {
       prepared = asks.0;
@@ -93,10 +93,10 @@ pub complete-requires : goal.complete-requires
 complete-requires c =
     let next = (goal.at.complete-requires c).In-Some in
     let asks = raised_asks (raise_of next) c.least_follower.ensures.same (found next) in record {
-      prepared = rw c.append-r.ensures.stored asks.0;
+      prepared = rw c.append.ensures.stored asks.0;
       from_le_transitions = asks.1.0;
-      extends = rw c.append-r.ensures.stored asks.1.1;
-      passed_at = c.append-r.ensures.passed;
+      extends = rw c.append.ensures.stored asks.1.1;
+      passed_at = c.append.ensures.passed;
     }
 
 pub returns-in-Some : goal.returns-in-Some

@@ -24,7 +24,7 @@ use Rattle.moves.proofs.append.Goals.{After-put, then-starts_at, else-starts_at,
 -- the table with the state stored: the listing can go on, the list holds states, and what was known of the shorter list is so
 stored : (c : After-put) → let a = c.args in
     let w = c.put.new.table in
-    Prepared a.file.now a.h w a.transitions.0 × (StatesTo a.h w (a.place + 1) × PassedAt a.file.now a.h w a.transitions.0 a.place a.passed)
+    Prepared a.file.now a.h w a.transitions.0 × (StatesTo a.h w (a.place + 1) × PassedAt a.file.now a.h w a.transitions.0 a.place a.passed.now)
 stored c =
     let a = c.args in
     rw c.put.ensures
@@ -50,11 +50,11 @@ returns c =
     let w = c.put.new.table in
     let (prepared, (states, passed)) = stored (goal.at.returns c).After-put in
     let entry : ℕ → Type 0 = LoopEntry a.h.states a.h.start w in
-    let known = start_entries prepared a.place a.passed.start (λ k i. states k (omega arith)) passed.start in
+    let known = start_entries prepared a.place a.passed.now.start (λ k i. states k (omega arith)) passed.start in
     let start : LastStart g a.transitions.0 (state_at a.h w) (a.place + 1) c.if-starts_at.start =
     elim c.if-starts_at.branch [
       | then-starts_at b ↦ entries_start prepared (a.place + 1) c.if-starts_at.start states (last_here entry a.place c.if-starts_at.start b.start-is (rw b.if-starts_at.true at c.starts_at.ensures))
-      | else-starts_at b ↦ rw b.start-is (entries_start prepared (a.place + 1) a.passed.start states (last_skip entry a.place a.passed.start known (rw b.if-starts_at.false at c.starts_at.ensures)))
+      | else-starts_at b ↦ rw b.start-is (entries_start prepared (a.place + 1) a.passed.now.start states (last_skip entry a.place a.passed.now.start known (rw b.if-starts_at.false at c.starts_at.ensures)))
     ] in
     let is_marked : ℕ → Type 0 = λ k. T (g.marked (state_at a.h w k)) in
     let at : state_at a.h w (a.place + 1) ≡ a.t =
@@ -63,6 +63,6 @@ returns c =
     let mark : LastMark g (state_at a.h w) (a.place + 1) c.if-is_marked.mark =
     elim c.if-is_marked.branch [
       | then-is_marked b ↦ last_here is_marked a.place c.if-is_marked.mark b.mark-is (rw (sym told ∙ b.if-is_marked.true) tt)
-      | else-is_marked b ↦ rw b.mark-is (last_skip is_marked a.place a.passed.mark passed.mark (λ x. absurd (rw (sym told ∙ b.if-is_marked.false) at x)))
+      | else-is_marked b ↦ rw b.mark-is (last_skip is_marked a.place a.passed.now.mark passed.mark (λ x. absurd (rw (sym told ∙ b.if-is_marked.false) at x)))
     ] in
     record { stored = c.put.ensures; passed = passed_moved c.moved.ensures start mark (λ made b i _. passed.tables made b i) }
