@@ -23,7 +23,8 @@ impl Transitions {
         Entries(self.0 as usize + 1)
     }
 
-    // The count as a number: the last place of a path with this many transitions, whose first place is 0.
+    // The count as a number: the last place of a path with this many transitions, whose first place is 0. Not a From: its
+    // callers ask for that place, which `usize::from(transitions)` would not say.
     pub fn number(self) -> usize
         ensures { result ≡ self.0 }
     {
