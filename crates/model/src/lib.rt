@@ -69,6 +69,17 @@ impl<'a> Model for Successors<'a> {
 }
 
 impl<'a> Successors<'a> {
+    // Those of state s, by its row's part.
+    pub fn of_part(part: &'a [u8], h: Header, s: usize) -> Self
+        ensures { result ≡ steps_of h s part.now }
+    {
+        Successors {
+            part,
+            state: s,
+            stays: h.stays,
+        }
+    }
+
     // How many there are.
     pub fn len(&self) -> usize
         ensures { result ≡ length self.now }
@@ -101,11 +112,7 @@ pub fn successors_of(file: &[u8], h: Header, s: usize) -> Successors
     requires s_lt_states { s < h.states }
     ensures { result ≡ (graph_in file.now h).succs s }
 {
-    Successors {
-        part: row_part(file, h, s),
-        state: s,
-        stays: h.stays,
-    }
+    Successors::of_part(row_part(file, h, s), h, s)
 }
 
 // State s is marked in the mark table that the header names: no state is if the file has no such table.
