@@ -16,6 +16,7 @@ use model::{Header, successors_of};
 use table::get;
 
 // State s is in the list of a level, in a plan up to the limit, which the contract alone needs. Lists descend.
+// The walk follows entries of the lent table, which takes the place of lists on a heap, so it is no loop over a range.
 fn is_listed(work: &[u16], n: usize, limit: usize, level: usize, s: usize) -> bool
     requires n_le_most_states { n ≤ most_states }
     requires level_lt_limit { level < limit }

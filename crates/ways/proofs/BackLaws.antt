@@ -1,7 +1,7 @@
 -- The way back over a queue: the states after a place are settled, those before it stand as before.
 use Prim.Native.Nat.{ℕ, suc, ◌+◌, ◌*◌, ◌≤◌, ◌<◌}
 use native.Mathlib.Omega.{arith}
-use mathlib.Core.Path.{◌≡◌, refl, sym, ◌∙◌, ap, subst}
+use mathlib.Core.Path.{◌≡◌, sym, ◌∙◌, ap, subst}
 use mathlib.Core.Logic.{inl, inr}
 use mathlib.Core.List.{List}
 use lib.ListN.{length, set}
@@ -9,10 +9,10 @@ use lib.Seq.{get_or-set_same, get_or-set_other}
 use Rattle.lasso.specs.Graph.{Graph, WellFormed}
 use Rattle.lists.proofs.Tests.{lt_or_ge}
 use Rattle.table.specs.Changes.{SameOutside}
-use Rattle.table.proofs.Laws.{same_outside_refl, same_outside_set}
+use Rattle.table.proofs.Laws.{same_outside_set}
 use Rattle.frontier.specs.Regions.{entry}
 use Rattle.frontier.specs.Search.{Queue}
-use Rattle.ways.specs.Ways.{LeadsOn, Leads, end, step, KeptBack}
+use Rattle.ways.specs.Ways.{LeadsOn, Leads, end, step}
 
 -- the queue's states from place i on are settled: they keep their level exactly if a way leads on
 pub record Settled (g : Graph) (n count : ℕ) (w w' : List ℕ) (i : ℕ) : Type 0 where
