@@ -36,20 +36,9 @@ impl<F: Read> Read for Opened<F> {
 
 // Opens the file of a name. A name that is no text names no file.
 pub fn open_named<R: Files>(rt: &R, name: &[u8]) -> Opened<R::File> {
-    let file = match str::from_utf8(name) {
-        Ok(path) => fs::open(rt, path).ok(),
-        Err(_) => None,
-    };
-    Opened { file: file }
-}
-
-// The read failed: its answer is an error.
-fn has_failed(got: &io::Result<usize>) -> bool
-    ensures { result ≡ failed_read got.now }
-{
-    match got {
-        Ok(_) => false,
-        Err(_) => true,
+    let path = str::from_utf8(name).ok();
+    Opened {
+        file: path.and_then(|path| fs::open(rt, path).ok()),
     }
 }
 
@@ -61,12 +50,9 @@ fn read_once<R: Read>(from: &mut R, buffer: &mut [u8]) -> Reading
         → IsAtEnd (R.remaining from.new) }
 {
     let got = from.read(buffer);
-    let failed = has_failed(&got);
+    let failed = got.is_err();
     let count = got.unwrap_or(0);
-    Reading {
-        count: count,
-        failed: failed,
-    }
+    Reading { count, failed }
 }
 
 // Reads until the buffer is full, the input ends or a read fails.
@@ -81,14 +67,14 @@ fn read_input<R: Read>(from: &mut R, buffer: &mut [u8]) -> Reading
         let more = reading.count;
         if more == 0 {
             return Reading {
-                count: count,
+                count,
                 failed: reading.failed,
             };
         }
         count += more;
     }
     Reading {
-        count: count,
+        count,
         failed: false,
     }
 }
@@ -128,11 +114,5 @@ pub fn input_bytes(read: &[u8], failed: bool, most: usize) -> usize
     ensures within { Within result read.now }
     ensures input { FirstBytes most (input_of failed read.now) (take result read.now) }
 {
-    if failed {
-        return 0;
-    }
-    if read.len() < most {
-        return read.len();
-    }
-    most
+    if failed { 0 } else { read.len().min(most) }
 }
