@@ -13,6 +13,7 @@ use std::rt::Files;
 use std::{fs, io, str};
 
 // What was read: so many bytes at the front of the buffer, and whether a read failed before the end of the input.
+// No `Result`: the clause `read` of the readers below tells how many bytes were taken where a read failed, too.
 #[derive(Clone, Copy)]
 pub struct Reading {
     pub count: usize,
@@ -42,6 +43,13 @@ pub fn open_named<R: Files>(rt: &R, name: &[u8]) -> Opened<R::File> {
     }
 }
 
+// The read failed: its answer is an error.
+fn has_failed(got: &io::Result<usize>) -> bool
+    ensures { result ≡ failed_read got.now }
+{
+    got.is_err()
+}
+
 // Reads once. No bytes are read at the end of the input, or if the read fails.
 fn read_once<R: Read>(from: &mut R, buffer: &mut [u8]) -> Reading
     ensures within { Within result.count buffer.new }
@@ -50,7 +58,7 @@ fn read_once<R: Read>(from: &mut R, buffer: &mut [u8]) -> Reading
         → IsAtEnd (R.remaining from.new) }
 {
     let got = from.read(buffer);
-    let failed = got.is_err();
+    let failed = has_failed(&got);
     let count = got.unwrap_or(0);
     Reading { count, failed }
 }
@@ -78,6 +86,9 @@ fn read_input<R: Read>(from: &mut R, buffer: &mut [u8]) -> Reading
         failed: false,
     }
 }
+
+// Three readers in place of one for any size: each promises to read no more than decides of its kind of input, and asks
+// for a buffer of that size; what they do is `read_input`.
 
 // Reads a model file.
 pub fn read_model<R: Read>(from: &mut R, buffer: &mut [u8]) -> Reading
