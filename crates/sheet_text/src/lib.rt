@@ -74,14 +74,6 @@ pub fn sheet_model(
             let at = write_head(text, h, done.rounds as usize);
             write_bytes(text, at, b"none\n")
         }
-        Some(transitions) => write_shortest(
-            file,
-            h,
-            transitions,
-            done.rounds,
-            answer,
-            work,
-            text,
-        ),
+        Some(transitions) => write_shortest(file, h, transitions, done.rounds, answer, work, text),
     }
 }

@@ -1,6 +1,6 @@
 -- `sheet` meets its contract: nothing without room for a text; else one line for a file that the gate refuses, or the sheet of
 -- a file that passes, with the working table cleared.
-use Rattle.std.proofs.Common.{◌≡◌, ◌∙◌, ap, ℕ, length, arith, rules}
+use Rattle.std.proofs.Common.{◌∙◌, ap, ℕ, length, arith, rules}
 use Rattle.gate.specs.Gate.{GatePassed}
 use Rattle.gate.proofs.GateLaws.{gate_says, entered_length, work_left_lem}
 use Rattle.outcomes.proofs.OutcomeLaws.{at_length}
