@@ -8,7 +8,7 @@ ghost use Rattle.capi_combine.specs.Figures.{FigureFits};
 ghost use Rattle.capi_combine.specs.Call.{combine_call, output_after_combine};
 
 use combine::{CombineAnswer, combine};
-use figures::{OUT_TOO_SHORT, WRITTEN, too_few};
+use figures::{Kind, report_figures, too_few};
 
 // Reports the answer of a combination: its number of bytes is the one figure.
 fn report_combine(answer: CombineAnswer, out: &mut [u16]) -> u16
@@ -42,7 +42,7 @@ pub fn combine_call(
         property.now output.old out.old }
 {
     if too_few(out.len()) {
-        return OUT_TOO_SHORT;
+        return Kind::OutTooShort.into();
     }
     let combined = combine(rule, letters, property, output);
     report_combine(combined, out)
