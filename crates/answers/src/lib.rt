@@ -21,7 +21,11 @@ pub fn report_search(answer: Result<SearchAnswer, Reason>, out: &mut [u16]) -> u
     match answer {
         Err(refusal) => refusal.into(),
         Ok(SearchAnswer::Stopped(r)) => report_record(Kind::Stopped, r, out),
-        Ok(SearchAnswer::Found(l, k, rounds)) => report_figures(Kind::Found, &[l.0, k, rounds], out),
+        Ok(SearchAnswer::Found(l, k, rounds)) => report_figures(
+            Kind::Found,
+            &[l.0, k, rounds],
+            out,
+        ),
         Ok(SearchAnswer::NoneWithin(rounds)) => report_figures(Kind::NoneWithin, &[rounds], out),
     }
 }
