@@ -21,13 +21,11 @@ fn leads_on(file: &[u8], h: Header, work: &[u16], s: usize, next: usize) -> bool
     let n = h.states;
     let part = row_part(file, h, s);
     let d = degree(part, h, s);
-    let mut k = 0;
-    while k < d {
+    for k in 0..d {
         let t = successor(part, h, s, k);
         if get(work, 2 * n + t) == next {
             return true;
         }
-        k += 1;
     }
     false
 }
@@ -41,9 +39,7 @@ pub fn keep_ways(file: &[u8], h: Header, work: &mut [u16], count: usize)
     ensures { KeptBack (graph_in file.now h) h.states work.old work.new }
 {
     let n = h.states;
-    let mut i = count;
-    while 0 < i {
-        i -= 1;
+    for i in (0..count).rev() {
         let s = get(work, 3 * n + i);
         if get(work, 4 * n + s) == 0 {
             let next = get(work, 2 * n + s) + 1;
