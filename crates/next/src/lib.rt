@@ -85,10 +85,10 @@ fn next_of_model(
         (length work.old) }
     ensures kept { length work.new ≡ length work.old }
 {
-    let Some(transitions) = all_rounds(file, h, work).length else {
-        return Err(Reason::NotShortest);
-    };
-    next_list(file, h, transitions, earlier, answer, work)
+    match all_rounds(file, h, work).length {
+        None => Err(Reason::NotShortest),
+        Some(transitions) => next_list(file, h, transitions, earlier, answer, work),
+    }
 }
 
 // The shortest accepting path that follows an earlier one, written to the answer table; none if there is no more.
