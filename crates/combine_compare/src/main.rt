@@ -15,8 +15,9 @@ use combine_trials::Tried;
 use draws::{Fault, drawn_at};
 use exhaustive::Model;
 use files::{File, call, lent};
+use harness::add;
 use pairs::{answer_of, model_of};
-use tally::{Tally, add, add_refused, add_searched, add_written, differs};
+use tally::{Tally, add_refused, add_searched, add_written, differs};
 
 // How many combinations there are: each rule, without implied steps and with them, with each property, without a fault and
 // with some.

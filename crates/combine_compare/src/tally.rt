@@ -1,7 +1,7 @@
 // The counts that are printed, and the difference that is printed first.
 use crate::draws::Combination;
 use exhaustive::Model;
-use harness::Answer;
+use harness::{Answer, add, add_if};
 
 // The counts: combinations, those written, those of them whose rule and whose property has an implied step, those whose rule
 // has two mark tables, the edges in them, searches of them that found a list and that found none, refusals with 7, 15, 16
@@ -23,16 +23,6 @@ pub struct Tally {
     differences: u64,
 }
 
-// Adds a number to a count.
-pub fn add(count: &mut u64, more: u64) {
-    *count = count.saturating_add(more);
-}
-
-// Adds one to a count if something holds.
-fn add_if(count: &mut u64, holds: bool) {
-    add(count, u64::from(holds));
-}
-
 // Counts a combination that is written, the implied steps of its files and the mark tables of its rule.
 pub fn add_written(tally: &mut Tally, c: Combination) {
     add(&mut tally.written, 1);
@@ -46,22 +36,20 @@ pub fn add_written(tally: &mut Tally, c: Combination) {
 
 // Counts a search by whether it found a list.
 pub fn add_searched(tally: &mut Tally, answer: Answer) {
-    let count = match answer {
-        Answer::Found { .. } => &mut tally.found,
-        _ => &mut tally.none_within,
-    };
-    add(count, 1);
+    match answer {
+        Answer::Found { .. } => add(&mut tally.found, 1),
+        _ => add(&mut tally.none_within, 1),
+    }
 }
 
 // Counts a refusal by its number.
 pub fn add_refused(tally: &mut Tally, number: u16) {
-    let count = match number {
-        7 => &mut tally.refused_7,
-        15 => &mut tally.refused_15,
-        16 => &mut tally.refused_16,
-        _ => &mut tally.refused_17,
-    };
-    add(count, 1);
+    match number {
+        7 => add(&mut tally.refused_7, 1),
+        15 => add(&mut tally.refused_15, 1),
+        16 => add(&mut tally.refused_16, 1),
+        _ => add(&mut tally.refused_17, 1),
+    }
 }
 
 // Prints a rule or a property.

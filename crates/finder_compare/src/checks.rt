@@ -3,9 +3,9 @@
 ghost use Rattle.std.specs.Prelude.{◌≤◌};
 
 use crate::calls;
-use crate::tally::{Tally, add, add_if, compare};
+use crate::tally::{Tally, compare};
 use exhaustive::{Earlier, Model, Seen, Truth, drawn, near, random_list, seed_of, tables_for};
-use harness::Answer;
+use harness::{Answer, add, add_if};
 
 // A working table's length for so many states: one entry too short, or with up to five entries more than needed.
 fn room(states: usize, short: bool, more: usize) -> usize

@@ -13,7 +13,8 @@ mod tally;
 ghost use Rattle.std.specs.Prelude.{◌<◌, ◌≤◌};
 
 use exhaustive::{Model, Placed, Truth};
-use tally::{Tally, add, add_at, add_if};
+use harness::{add, add_if};
+use tally::{Tally, add_at};
 
 // The lists that there is room for.
 const ROLL: usize = 64;
@@ -67,11 +68,11 @@ fn compare_file(
 fn counted(p: Placed, states: usize, first: bool, t: Truth, tally: &mut Tally)
     requires { 0 < states }
 {
-    let files = match p.second {
-        None => &mut tally.one_table,
-        Some(_) => &mut tally.two_tables,
-    };
-    add_at(files, usize::from(p.named));
+    let named = usize::from(p.named);
+    match p.second {
+        None => add_at(&mut tally.one_table, named),
+        Some(_) => add_at(&mut tally.two_tables, named),
+    }
     if first {
         add_at(&mut tally.models, states - 1);
         add_if(&mut tally.implied, exhaustive::has_implied(p.model));

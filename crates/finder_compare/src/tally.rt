@@ -1,6 +1,6 @@
 // The counts that are printed, and the comparison that counts differences.
 use exhaustive::Seen;
-use harness::Answer;
+use harness::{Answer, add, add_if};
 
 // How many calls of a kind there were, and how many of them were refused.
 #[derive(Clone, Copy, Default)]
@@ -42,16 +42,6 @@ pub struct Tally {
     pub differences: u64,
 }
 
-// Adds a number to a count.
-pub fn add(count: &mut u64, more: u64) {
-    *count = count.saturating_add(more);
-}
-
-// Adds one to a count if something holds.
-pub fn add_if(count: &mut u64, holds: bool) {
-    add(count, u64::from(holds));
-}
-
 // Adds one at a place of some counts.
 pub fn add_at(counts: &mut [u64], at: usize) {
     if let Some(count) = counts.get_mut(at) {
@@ -61,19 +51,18 @@ pub fn add_at(counts: &mut [u64], at: usize) {
 
 // Counts an answer by its kind, a refusal by its number.
 fn count_kind(tally: &mut Tally, answer: Answer) {
-    let count = match answer {
-        Answer::Advanced { .. } => &mut tally.advanced,
-        Answer::Finished { .. } => &mut tally.finished,
-        Answer::Found { .. } => &mut tally.found,
-        Answer::NoneWithin { .. } => &mut tally.none_within,
-        Answer::Stopped { .. } => &mut tally.stopped,
-        Answer::NextFound { .. } => &mut tally.next_found,
-        Answer::NoMore => &mut tally.no_more,
-        Answer::Written { .. } => &mut tally.written,
-        Answer::Refused(21) => &mut tally.refused[4],
-        Answer::Refused(number) => &mut tally.refused[usize::from(number % 4)],
-    };
-    add(count, 1);
+    match answer {
+        Answer::Advanced { .. } => add(&mut tally.advanced, 1),
+        Answer::Finished { .. } => add(&mut tally.finished, 1),
+        Answer::Found { .. } => add(&mut tally.found, 1),
+        Answer::NoneWithin { .. } => add(&mut tally.none_within, 1),
+        Answer::Stopped { .. } => add(&mut tally.stopped, 1),
+        Answer::NextFound { .. } => add(&mut tally.next_found, 1),
+        Answer::NoMore => add(&mut tally.no_more, 1),
+        Answer::Written { .. } => add(&mut tally.written, 1),
+        Answer::Refused(21) => add(&mut tally.refused[4], 1),
+        Answer::Refused(number) => add(&mut tally.refused[usize::from(number % 4)], 1),
+    }
 }
 
 // Counts a call's answer, and a difference if it is not the one that it must be.

@@ -81,13 +81,3 @@ pub struct Tried {
     pub answer: Answer,
     pub wrong: u8,
 }
-
-// A sum, up to a bound that no run comes near.
-pub fn sum(count: u64, more: u64) -> u64 {
-    const BOUND: u64 = 1000000000;
-    if count < BOUND && more < BOUND {
-        count + more
-    } else {
-        count
-    }
-}

@@ -1,14 +1,16 @@
-// Test support: answers, tables that are filled and looked at, bytes of model files, texts and entries in print, and a text
+// Test support: answers, counts, tables that are filled and looked at, bytes of model files, texts and entries in print, and a text
 // read to its end.
 #![tactic(auto)]
 
 mod answer;
+mod counts;
 mod files;
 mod print;
 mod read;
 mod tables;
 
-pub use answer::{Answer, Tried, sum};
+pub use answer::{Answer, Tried};
+pub use counts::{add, add_if, sum};
 pub use files::{header_word, part, put_byte, put16};
 pub use print::{entries, text};
 pub use read::read_text;
