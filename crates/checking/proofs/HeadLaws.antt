@@ -11,7 +11,7 @@ use Rattle.lists.proofs.Fails.{not_not}
 use Rattle.format.proofs.Reasons.{KeptTo, none_clear, clear_append, broken_append}
 use Rattle.format.proofs.Kept.{states_kept}
 use Rattle.model.specs.declared.Header.{Header}
-use Rattle.model.specs.declared.Checked.TheVariants.{Refused, Accept}
+use Rattle.model.specs.Values.{Refused, Accept}
 use Rattle.model.specs.Values.{header_of, answer_of, head_of, check_with}
 use Rattle.model.proofs.Answers.{answer_refused, answer_accepted}
 

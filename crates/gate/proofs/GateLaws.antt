@@ -14,8 +14,8 @@ use Rattle.lists.specs.Lists.{pick, some_if}
 use Rattle.format.specs.Layout.{states}
 use Rattle.format.specs.Rules.{Reason, first_broken, rules, Accepted}
 use Rattle.model.specs.declared.Header.{Header}
-use Rattle.model.specs.declared.Checked.{Checked}
-use Rattle.model.specs.declared.Checked.TheVariants.{Refused, Accept}
+use Rattle.model.specs.Values.{Checked}
+use Rattle.model.specs.Values.{Refused, Accept}
 use Rattle.model.specs.Values.{header_of, answer_of, Valid}
 use Rattle.format.proofs.Reasons.{clear_append, broken_append, append_clear, broken_number}
 use Rattle.model.proofs.Answers.{own_valid}

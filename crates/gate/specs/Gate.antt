@@ -9,8 +9,8 @@ use Rattle.format.specs.Rules.{Reason, first_broken, rules}
 use Rattle.model.specs.Values.{header_of, answer_of, Valid}
 use Rattle.gate.specs.declared.Ask.{Ask}
 use Rattle.model.specs.declared.Header.{Header}
-use Rattle.model.specs.declared.Checked.{Checked}
-use Rattle.model.specs.declared.Checked.TheVariants.{Refused, Accept}
+use Rattle.model.specs.Values.{Checked}
+use Rattle.model.specs.Values.{Refused, Accept}
 
 -- what a search asks that names this mark table, this ceiling and this allowance
 abbrev pub asking : (table ceiling allowance : ℕ) → Ask

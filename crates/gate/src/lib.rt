@@ -4,12 +4,13 @@
 #![tactic(auto)]
 
 ghost use Rattle.std.specs.Prelude.{◌≡◌, length};
+ghost use Rattle.model.specs.Values.{checked_of};
 ghost use Rattle.gate.specs.Gate.{gate_of, work_entered, high_ceiling, Zeroed};
 
 use checking::check;
 use lasso::Transitions;
-use model::Checked;
-use numbers::{limit, reason};
+use model::Header;
+use numbers::{Reason, limit};
 use table::clear;
 
 // What a search names beside the file and the tables that it is lent: the mark table, the length that no list may exceed,
@@ -23,25 +24,19 @@ pub struct Ask {
 
 // Applies the reasons 22 and 1 to 12 in order: the number of the first that holds, or the file's header, which names the
 // mark table. After 22 the working table is all zero; in every other case it is as it was.
-pub fn enter(file: &[u8], mark_table: u16, work: &mut [u16]) -> Checked
-    ensures answer { result ≡ gate_of file.now mark_table (length work.old) }
+pub fn enter(file: &[u8], mark_table: u16, work: &mut [u16]) -> Result<Header, Reason>
+    ensures answer { checked_of result ≡ gate_of file.now mark_table (length work.old) }
     ensures work { work.new ≡ work_entered mark_table work.old }
 {
     if 1 < mark_table {
         leave(work);
-        return Checked::Refused(reason::NO_TABLE);
+        return Err(Reason::NoTable);
     }
-    let table = mark_table as usize;
-    let checked = check(file);
-    match checked {
-        Checked::Refused(_) => checked,
-        Checked::Accept(h) => {
-            if work.len() < 6 * h.states {
-                return Checked::Refused(reason::SMALL_TABLE);
-            }
-            Checked::Accept(h.naming(table))
-        }
+    let h = check(file)?;
+    if work.len() < 6 * h.states {
+        return Err(Reason::SmallTable);
     }
+    Ok(h.naming(mark_table as usize))
 }
 
 // The ceiling is above 4,096: reason 21, which is applied after 12.
@@ -55,6 +50,5 @@ pub fn ceiling_too_high(ceiling: Transitions) -> bool
 pub fn leave(work: &mut [u16])
     ensures { Zeroed work.old work.new }
 {
-    let end = work.len();
-    clear(work, 0, end);
+    work.fill(0);
 }

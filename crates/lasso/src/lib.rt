@@ -1,16 +1,18 @@
-// The counts of a path, the best length of a search and the round record: the values that the layers above
-// hand to each other. What they stand for is in specs/.
+// The counts of a path and the round record: the values that the layers above hand to each other. What they stand for is
+// in specs/.
+#![tactic(auto)]
+
 ghost use Rattle.std.specs.Prelude.{◌≡◌, ◌+◌, ◌<◌};
 ghost use Rattle.lists.specs.Least;
 ghost use Rattle.lasso.specs.Rounds.{with_round};
-ghost use Rattle.lasso.specs.Values.{record_of, best_of, found_of};
+ghost use Rattle.lasso.specs.Values.{record_of, length_of};
 
 // A count of transitions: the length of a path.
-#[derive(Clone, Copy)]
+#[derive(Clone, Copy, PartialEq, Eq, PartialOrd, Ord)]
 pub struct Transitions(pub u16);
 
 // A count of path entries: what a table that holds a path must have room for.
-#[derive(Clone, Copy)]
+#[derive(Clone, Copy, PartialEq, Eq, PartialOrd, Ord)]
 pub struct Entries(pub usize);
 
 impl Transitions {
@@ -29,56 +31,33 @@ impl Transitions {
     }
 }
 
-// The length that a round found: none, or a length.
-#[derive(Clone, Copy)]
-pub enum LengthFound {
-    None,
-    Length(Transitions),
-}
-
-// The best length so far: none, or a length.
-#[derive(Clone, Copy)]
-pub enum Best {
-    None,
-    Length(Transitions),
-}
-
 // The number of rounds done, and the best length that they found.
 #[derive(Clone, Copy)]
 pub struct RoundRecord {
     pub done: u16,
-    pub best: Best,
+    pub best: Option<Transitions>,
 }
 
-// The lesser of the best so far and the length that a round found, where none counts as more than every length.
-pub fn lesser(best: Best, found: LengthFound) -> Best
-    ensures { best_of result ≡ Least.lesser (best_of best) (found_of found) }
+// The lesser of the best length so far and the length that a round found, where none counts as more than every length.
+pub fn lesser(best: Option<Transitions>, found: Option<Transitions>) -> Option<Transitions>
+    ensures { length_of result ≡ Least.lesser (length_of best) (length_of found) }
 {
-    match found {
-        LengthFound::None => best,
-        LengthFound::Length(length) => match best {
-            Best::None => Best::Length(length),
-            Best::Length(old) => {
-                if old.0 <= length.0 {
-                    best
-                } else {
-                    Best::Length(length)
-                }
-            }
-        },
+    match (best, found) {
+        (Some(old), Some(new)) => Some(old.min(new)),
+        (best, None) => best,
+        (None, found) => found,
     }
 }
 
 impl RoundRecord {
     // The record after one more round, given the length that it found.
-    pub fn with_round(self, found: LengthFound) -> RoundRecord
+    pub fn with_round(self, found: Option<Transitions>) -> RoundRecord
         requires { self.done < 65535 }
-        ensures { record_of result ≡ with_round (record_of self) (found_of found) }
+        ensures { record_of result ≡ with_round (record_of self) (length_of found) }
     {
-        let best = self.best;
         RoundRecord {
             done: self.done + 1,
-            best: lesser(best, found),
+            best: lesser(self.best, found),
         }
     }
 }

@@ -8,7 +8,7 @@ use native.Mathlib.Omega.{arith}
 use Rattle.lists.specs.Lists.{some_if}
 use Rattle.format.specs.Rules.{Reason, first_broken, rules, Accepted}
 use Rattle.model.specs.declared.Header.{Header}
-use Rattle.model.specs.declared.Checked.TheVariants.{Refused, Accept}
+use Rattle.model.specs.Values.{Refused, Accept}
 use Rattle.model.specs.Values.{header_of, naming, answer_of, check_of, Valid}
 
 -- the first reason of a table that holds refuses the file

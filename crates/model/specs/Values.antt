@@ -1,9 +1,9 @@
 -- What the values of the code stand for: the header of a file, and the answer of its check.
-use Rattle.std.specs.Prelude.{ℕ, ◌≤◌, ◌≡◌, List}
+use Rattle.std.specs.Prelude.{ℕ, ◌≤◌, ◌≡◌, List, Result, Ok, Err}
 use Rattle.std.proofs.Math.Option.{Option, some, none}
+use Rattle.numbers.specs.declared.reason.Reason.{Reason}
+use Rattle.numbers.specs.Numbered.{number_of}
 use Rattle.model.specs.declared.Header.{Header}
-use Rattle.model.specs.declared.Checked.{Checked}
-use Rattle.model.specs.declared.Checked.TheVariants.{Refused, Accept}
 use Rattle.format.specs.Layout.{states, edge_count, start_of, stays}
 use Rattle.format.specs.Rules.{first_broken, head_rules, rules_with, rules, Accepted}
 
@@ -14,6 +14,16 @@ header_of f t = record { states = states f; edges = edge_count f; start = start_
 -- the same header, but for the mark table that it names
 abbrev pub naming : Header → (t : ℕ) → Header
 naming h t = record { states = h.states; edges = h.edges; start = h.start; stays = h.stays; table = t }
+
+-- The answer of a check: refused with the number of a reason, or accepted with a header.
+pub data Checked : Type 0 where
+  Refused : ℕ → Checked
+  Accept : Header → Checked
+
+-- which answer each result of the code's check is
+abbrev pub checked_of : Result Header Reason → Checked
+checked_of (Err reason) = Refused (number_of reason)
+checked_of (Ok h) = Accept h
 
 -- refused with the number of the first reason that holds, or accepted with a header
 abbrev pub answer_of : Option ℕ → Header → Checked

@@ -1,4 +1,4 @@
-// The model file: its header, the answer of its check, and the leaves by which the layers above read it.
+// The model file: its header, and the leaves by which the layers above read it.
 // The leaves speak of the graph that the file holds; those that are given the part of a row alone, of its numbers.
 #![tactic(auto)]
 
@@ -25,21 +25,8 @@ impl Header {
     pub fn naming(self, table: usize) -> Header
         ensures { result ≡ naming «self» table }
     {
-        Header {
-            states: self.states,
-            edges: self.edges,
-            start: self.start,
-            stays: self.stays,
-            table,
-        }
+        Header { table, ..self }
     }
-}
-
-// The answer of the check: the number of the first broken rule, or the header.
-#[derive(Clone, Copy)]
-pub enum Checked {
-    Refused(u16),
-    Accept(Header),
 }
 
 // The part of the file that holds the targets of one state's row.
@@ -48,8 +35,7 @@ pub fn row_part(file: &[u8], h: Header, s: usize) -> &[u8]
     requires s_lt_states { s < h.states }
     ensures { steps_of h s result.now ≡ (graph_in file.now h).succs s }
 {
-    let states = h.states;
-    row(file, states, s)
+    row(file, h.states, s)
 }
 
 // The number of edges in a row's part.
@@ -98,10 +84,8 @@ pub fn is_marked(file: &[u8], h: Header, s: usize) -> bool
     requires s_lt_states { s < h.states }
     ensures { result ≡ (graph_in file.now h).marked s }
 {
-    let states = h.states;
-    let edges = h.edges;
-    let at = table_at(states, edges, h.table);
-    if file.len() < at + mark_bytes(states) {
+    let at = table_at(h.states, h.edges, h.table);
+    if file.len() < at + mark_bytes(h.states) {
         return false;
     }
     bit(file, at, s)

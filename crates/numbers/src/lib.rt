@@ -1,3 +1,7 @@
-// The numbers of the reasons to refuse a call, and the limits, each named once.
+// The reasons to refuse a call with their numbers, and the limits, each named once.
+#![tactic(auto)]
+
 pub mod limit;
-pub mod reason;
+mod reason;
+
+pub use reason::Reason;

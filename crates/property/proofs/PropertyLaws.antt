@@ -14,7 +14,7 @@ use Rattle.format.specs.Rules.{first_broken}
 use Rattle.lists.proofs.Fails.{neither_l}
 use Rattle.model.specs.Values.{header_of}
 use Rattle.model.specs.declared.Header.{Header}
-use Rattle.model.specs.declared.Checked.TheVariants.{Refused, Accept}
+use Rattle.model.specs.Values.{Refused, Accept}
 use Rattle.model.proofs.Answers.{answer_refused, answer_accepted}
 use Rattle.model.proofs.Laws.{Facts, kept_facts, kept_length, facts_well_formed, header_numbers, row_end_le}
 use Rattle.property.specs.Property.{masks_at, property_total, property_rules, property_check_of, zero_mask, bad_property, property_graph, ValidProperty}

@@ -9,7 +9,7 @@ use Rattle.format.specs.Layout.{states, edge_count, total_of, row_entry, target,
 use Rattle.format.specs.Rules.{Reason, first_broken, rules_with}
 use Rattle.model.specs.Model.{row_graph}
 use Rattle.model.specs.declared.Header.{Header}
-use Rattle.model.specs.declared.Checked.{Checked}
+use Rattle.model.specs.Values.{Checked}
 use Rattle.model.specs.Values.{header_of, check_with}
 use Rattle.combine_model.specs.Product.{Property}
 

@@ -6,24 +6,20 @@ ghost use Rattle.numbers.specs.Limits.{highest_letter};
 ghost use Rattle.lists.specs.Lists.{keep};
 ghost use Rattle.format.specs.Bytes.{words, bitb};
 ghost use Rattle.format.specs.Layout.{row_targets, mark_bit};
+ghost use Rattle.model.specs.Values.{checked_of};
 ghost use Rattle.property.specs.Property.{property_check_of, row_masks, zero_mask, ValidProperty};
 
 use checking::{check_head, check_tables};
 use format::{bit, edge_part, entry_at, row, table_at, total_of, word};
-use model::{Checked, Header};
+use model::Header;
+use numbers::Reason;
 
 // Applies the rules 1 to 11 in order; there is one mark table, and the total length counts the masks after it.
-pub fn check_property(file: &[u8]) -> Checked
-    ensures { result ≡ property_check_of file.now }
+pub fn check_property(file: &[u8]) -> Result<Header, Reason>
+    ensures { checked_of result ≡ property_check_of file.now }
 {
-    let head = check_head(file);
-    match head {
-        Checked::Refused(_) => head,
-        Checked::Accept(header) => {
-            let total = total_of(header.states, header.edges) + 2 * header.edges;
-            check_tables(file, header, total, 1)
-        }
-    }
+    let h = check_head(file)?;
+    check_tables(file, h, total_of(h.states, h.edges) + 2 * h.edges, 1)
 }
 
 // Some edge has a zero mask.

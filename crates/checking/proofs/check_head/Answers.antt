@@ -3,7 +3,7 @@
 use native.Mathlib.Omega.{arith}
 use Prim.Native.Nat.{ℕ}
 use mathlib.Core.Path.{◌≡◌, refl}
-use mathlib.Core.Bool.{false}
+use mathlib.Core.Bool.{true, false}
 use mathlib.Core.List.{List}
 use borrow.Author.Tests.{lt-ltb, le-ltb, eq-eqb, ne_eqb}
 use lib.ListN.{length}
@@ -14,7 +14,7 @@ use Rattle.format.proofs.Reasons.{KeptTo, unheld_skipped}
 use Rattle.model.specs.Values.{header_of}
 use Rattle.model.proofs.Answers.{held_refuses, none_accepts}
 use Rattle.checking.proofs.check_head.Goals as goal
-use Rattle.checking.proofs.check_head.Goals.{Else-edges-gt-MOST_EDGES, Else-file-lt24, Else-states-gt-MOST_STATES, Else-states-start, Else-stays_word-gt1, Start}
+use Rattle.checking.proofs.check_head.Goals.{Else-edges-gt-MOST_EDGES, Else-file-lt24, Else-states-gt-MOST_STATES, Else-states-start, Else-stays_word-gt1, Start, then-states-eq0-via-then-states-eq0, then-states-eq0-via-else-states-eq0+then-states-gt-MOST_STATES}
 
 -- the function's start, from the place where each rule is kept
 abbrev from1 : Else-file-lt24 → Start
@@ -75,16 +75,14 @@ returns-then-file-lt24 c =
 pub returns-then-states-eq0 : goal.returns-then-states-eq0
 returns-then-states-eq0 c =
     let first = (goal.at.returns-then-states-eq0 c).Else-file-lt24 in
-    let start = from1 first in
-    let file = checked start in
-    held_refuses (head_rules file) (header_of file 0) (bad_states file) 2 _ (kept_1 first) (rw (eq-eqb (states file) 0 (omega arith)))
-
-pub returns-then-states-gt-MOST_STATES : goal.returns-then-states-gt-MOST_STATES
-returns-then-states-gt-MOST_STATES c =
-    let first = (goal.at.returns-then-states-gt-MOST_STATES c).Else-file-lt24 in
-    let start = from1 first in
-    let file = checked start in
-    held_refuses (head_rules file) (header_of file 0) (bad_states file) 2 _ (kept_1 first) (rw (ne_eqb (states file) 0 (omega arith), lt-ltb 4096 (states file) (omega arith)))
+    let file = checked (from1 first) in
+    let broken : bad_states file ≡ true =
+    elim c.then-states-eq0.branch [
+      | then-states-eq0-via-then-states-eq0 w ↦ rw (eq-eqb (states file) 0 (omega arith))
+      | then-states-eq0-via-else-states-eq0+then-states-gt-MOST_STATES w ↦
+          rw (ne_eqb (states file) 0 (omega arith), lt-ltb 4096 (states file) (omega arith))
+    ] in
+    held_refuses (head_rules file) (header_of file 0) (bad_states file) 2 _ (kept_1 first) broken
 
 pub returns-then-edges-gt-MOST_EDGES : goal.returns-then-edges-gt-MOST_EDGES
 returns-then-edges-gt-MOST_EDGES c =
