@@ -18,8 +18,7 @@ pub fn start_distances(file: &[u8], h: Header, work: &mut [u16])
     ensures { StartDistancesPut (graph_in file.now h) work.old work.new }
 {
     let n = h.states;
-    let start = h.start;
-    distances_from(file, h, work, start, n);
+    distances_from(file, h, work, h.start, n);
     copy(work, 2 * n, 0, n);
 }
 
@@ -29,10 +28,7 @@ pub fn is_candidate(file: &[u8], h: Header, work: &[u16], s: usize) -> bool
     requires s_lt_states { s < h.states }
     ensures { result ≡ candidateb (graph_in file.now h) s }
 {
-    if get(work, s) == 0 {
-        return false;
-    }
-    is_marked(file, h, s)
+    get(work, s) != 0 && is_marked(file, h, s)
 }
 
 // The number of candidates.
@@ -40,14 +36,12 @@ pub fn count_candidates(file: &[u8], h: Header, work: &[u16]) -> usize
     requires { RoundsReady file.now h work.now }
     ensures { result ≡ length (candidates (graph_in file.now h)) }
 {
-    let states = h.states;
+    let n = h.states;
     let mut count = 0;
-    let mut s = 0;
-    while s < states {
+    for s in 0..n {
         if is_candidate(file, h, work, s) {
             count += 1;
         }
-        s += 1;
     }
     count
 }
@@ -59,14 +53,13 @@ pub fn candidate_at(file: &[u8], h: Header, work: &[u16], place: usize) -> usize
     ensures { result ≡ get_or (candidates (graph_in file.now h)) place 0 }
 {
     let mut before: usize = 0;
-    let mut s = 0;
-    loop {
+    for s in 0..h.states {
         if is_candidate(file, h, work, s) {
             if before == place {
                 return s;
             }
             before += 1;
         }
-        s += 1;
     }
+    unreachable!()
 }

@@ -9,7 +9,7 @@ ghost use Rattle.writer.specs.File.{words16};
 ghost use Rattle.combine_graph.specs.Combined.{combined, Combinable};
 
 use combine_row::write_row;
-use model::{Header, degree, row_part};
+use model::{Header, successors_of};
 use property::{count_holding, mask_part, target_part};
 
 // The number of edges from the combined state with number c.
@@ -29,7 +29,7 @@ pub fn pair_degree(
     let size = k.states;
     let s = c / size;
     let letter = letters[s] as usize;
-    let steps = degree(row_part(rule, h, s), h, s);
+    let steps = successors_of(rule, h, s).len();
     steps * count_holding(mask_part(property, k, c % size), letter)
 }
 
@@ -54,8 +54,8 @@ pub fn write_edges(
     let s = c / size;
     let q = c % size;
     let letter = letters[s] as usize;
-    let part = row_part(rule, h, s);
+    let successors = successors_of(rule, h, s);
     let targets = target_part(property, k, q);
     let masks = mask_part(property, k, q);
-    write_row(out, at, part, h, s, targets, masks, letter, size)
+    write_row(out, at, &successors, targets, masks, letter, size)
 }

@@ -24,10 +24,8 @@ pub fn count_edges(rule: &[u8], h: Header, letters: &[u8], property: &[u8], k: H
 {
     let pairs = h.states * k.states;
     let mut edges = 0;
-    let mut c = 0;
-    while c < pairs {
+    for c in 0..pairs {
         edges += pair_degree(rule, h, letters, property, k, c);
-        c += 1;
     }
     edges
 }
@@ -49,14 +47,12 @@ fn write_tables(
     let states = h.states * k.states;
     let base = edges_at(states);
     let mut at = base;
-    let mut c = 0;
-    while c < states {
+    for c in 0..states {
         write_word(out, 24 + 2 * c, (at - base) / 2);
         at = write_edges(out, at, rule, h, letters, property, k, c);
-        c += 1;
     }
     let edges = (at - base) / 2;
-    write_word(out, 24 + 2 * c, edges);
+    write_word(out, 24 + 2 * states, edges);
     at
 }
 

@@ -1,30 +1,14 @@
--- The letter table: letters that are none above 15, looked at place by place.
-use Prim.Native.Nat.{ℕ, zero, suc, ◌+◌, ◌≤◌, ◌<◌}
+-- The letter table: letters that are none above 15.
+use Prim.Native.Nat.{ℕ, zero, suc, ◌≤◌}
 use mathlib.Core.Path.{◌≡◌}
-use mathlib.Core.Bool.{true, false, not}
+use mathlib.Core.Bool.{false, not}
 use mathlib.Core.List.{List, [], ◌∷◌}
 use native.Mathlib.Omega.{arith}
-use native.Mathlib.Numerals.{add-one}
-use borrow.Author.Tests.{lt-ltb, le-ltb}
-use lib.ListN.{length, get_or, drop, drop_of_length-le}
-use lib.Seq.{drop-cons}
+use lib.ListN.{length, get_or}
 use lib.Dec.{T, eqb, ltb, eqb→eq, nltb→le}
 use Rattle.lists.specs.Lists.{anyb}
 use Rattle.lists.proofs.Fails.{false_not, neither_l, neither_r, kept}
 use Rattle.combine_letters.specs.Letters.{bad_letters}
-
-module _ (letters : List ℕ) (s : ℕ) where
-  -- a letter above 15 settles the test
-  pub letter_above : s < length letters → 15 < get_or letters s 0 → anyb (ltb 15) (drop s letters) ≡ true
-  letter_above less above = rw (drop-cons letters s 0 less, lt-ltb 15 (get_or letters s 0) above)
-
-  -- another letter is left behind
-  pub letter_past : s < length letters → get_or letters s 0 ≤ 15 → anyb (ltb 15) (drop s letters) ≡ anyb (ltb 15) (drop (s + 1) letters)
-  letter_past less small = rw (add-one s, drop-cons letters s 0 less, le-ltb 15 (get_or letters s 0) small)
-
-  -- after the last place no letter is above 15
-  pub letters_end : length letters ≤ s → anyb (ltb 15) (drop s letters) ≡ false
-  letters_end past = rw (drop_of_length-le letters {i = s} past)
 
 -- no letter is above 15 where none is found to be
 letters_small : (letters : List ℕ) → T (not (anyb (ltb 15) letters)) → (s : ℕ) → get_or letters s 0 ≤ 15

@@ -10,15 +10,5 @@ use numbers::limit;
 pub fn letters_broken(letters: &[u8], n: usize) -> bool
     ensures { result ≡ bad_letters n letters.now }
 {
-    if letters.len() != n {
-        return true;
-    }
-    let mut s = 0;
-    while s < n {
-        if limit::HIGHEST_LETTER < letters[s] {
-            return true;
-        }
-        s += 1;
-    }
-    false
+    letters.len() != n || letters.iter().any(|letter| limit::HIGHEST_LETTER < *letter)
 }

@@ -19,10 +19,7 @@ fn pair_mark(property: &[u8], k: Header, states: usize, c: usize) -> bool
     requires { ValidProperty property.now k }
     ensures { result ≡ pair_mark property.now states c }
 {
-    if states <= c {
-        return false;
-    }
-    property_marked(property, k, c % k.states)
+    c < states && property_marked(property, k, c % k.states)
 }
 
 // The mark byte at place b.
@@ -32,14 +29,10 @@ fn mark_byte(property: &[u8], k: Header, states: usize, b: usize) -> usize
     ensures { (result ≡ pair_mark_byte property.now states b) × (result < 256) }
 {
     let mut byte = 0;
-    let mut weight = 1;
-    let mut j = 0;
-    while j < 8 {
+    for j in 0..8 {
         if pair_mark(property, k, states, 8 * b + j) {
-            byte += weight;
+            byte += 1 << j;
         }
-        weight *= 2;
-        j += 1;
     }
     byte
 }
@@ -53,11 +46,9 @@ pub fn write_marks(out: &mut [u8], at: usize, property: &[u8], k: Header, states
 {
     let count = mark_bytes(states);
     let mut next = at;
-    let mut b = 0;
-    while b < count {
+    for b in 0..count {
         let byte = mark_byte(property, k, states, b);
         next = write_byte(out, next, byte as u8);
-        b += 1;
     }
     next
 }

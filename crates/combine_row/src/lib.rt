@@ -6,14 +6,13 @@
 ghost use Rattle.std.specs.Prelude.{◌≡◌, ◌+◌, ◌*◌, ◌≤◌, length};
 ghost use Rattle.numbers.specs.Limits.{highest_letter};
 ghost use Rattle.format.specs.Bytes.{words};
-ghost use Rattle.model.specs.Model.{steps_of};
 ghost use Rattle.text.specs.Writing.{Wrote};
 ghost use Rattle.writer.specs.File.{words16};
 ghost use Rattle.property.specs.Property.{chosen};
 ghost use Rattle.combine_row.specs.Row.{block, copied, row_of, TargetsFit, BlockFits, RowFits};
 
 use format::word;
-use model::{Header, degree, edge_count, edge_target, successor};
+use model::Successors;
 use property::mask_holds;
 use writer::write_word;
 
@@ -35,12 +34,10 @@ fn write_block(
 {
     let count = targets.len() / 2;
     let mut next = at;
-    let mut k = 0;
-    while k < count {
+    for k in 0..count {
         if mask_holds(word(masks, 2 * k), letter) {
             next = write_word(out, next, base + word(targets, 2 * k));
         }
-        k += 1;
     }
     next
 }
@@ -59,23 +56,19 @@ fn copy_block(
     ensures { Wrote out.old at (words16 (copied out.old from count base other)) out.new result }
 {
     let mut next = at;
-    let mut j = 0;
-    while j < count {
+    for j in 0..count {
         let entry = word(out, from + 2 * j);
         next = write_word(out, next, other + (entry - base));
-        j += 1;
     }
     next
 }
 
-// Writes the edges of (s, q): a block for each successor of s, from the parts that hold the rows of s and of q, where s
-// has the letter and the property has `size` states. After the first successor of a state there are only edges.
+// Writes the edges of (s, q): a block for each successor of s, from the parts that hold the rows of q, where s has the
+// letter and the property has `size` states.
 pub fn write_row(
     out: &mut [u8],
     at: usize,
-    part: &[u8],
-    h: Header,
-    s: usize,
+    successors: &Successors,
     targets: &[u8],
     masks: &[u8],
     letter: usize,
@@ -83,28 +76,25 @@ pub fn write_row(
 ) -> usize
     requires letter_le_highest_letter { letter ≤ highest_letter }
     requires masks_len { length (words masks.now) ≡ length (words targets.now) }
-    requires row_fits { RowFits size (steps_of h s part.now) (words targets.now) }
-    requires targets_in_bounds { at + 2 * length (row_of size (steps_of h s part.now) (chosen letter (words masks.now) (words targets.now)))
+    requires row_fits { RowFits size successors.now (words targets.now) }
+    requires targets_in_bounds { at + 2 * length (row_of size successors.now (chosen letter (words masks.now) (words targets.now)))
         ≤ length out.old }
-    ensures { Wrote out.old at (words16 (row_of size (steps_of h s part.now)
+    ensures { Wrote out.old at (words16 (row_of size successors.now
         (chosen letter (words masks.now) (words targets.now)))) out.new result }
 {
-    if degree(part, h, s) == 0 {
+    let d = successors.len();
+    if d == 0 {
         return at;
     }
-    let first = successor(part, h, s, 0);
-    let base = first * size;
+    let base = successors.target(0) * size;
     let mut next = write_block(out, at, targets, masks, letter, base);
     let count = (next - at) / 2;
     if count == 0 {
         return next;
     }
-    let edges = edge_count(part);
-    let mut k = 1;
-    while k < edges {
-        let other = edge_target(part, k) * size;
+    for k in 1..d {
+        let other = successors.target(k) * size;
         next = copy_block(out, next, at, count, base, other);
-        k += 1;
     }
     next
 }

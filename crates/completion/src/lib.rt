@@ -13,7 +13,7 @@ use followers::first_follower;
 use lasso::Transitions;
 use model::Header;
 use moves::{append, retreat};
-use passed::{Passed, unknown};
+use passed::Passed;
 
 // Completes the list after a place, with the least state that may stand at each.
 pub fn complete(
@@ -32,12 +32,10 @@ pub fn complete(
         work.old work.new }
 {
     let last = transitions.number();
-    let mut place = from;
     let mut p = passed;
-    while place < last {
-        let c = first_follower(file, h, work, transitions, place, p);
-        p = append(file, h, work, transitions, place, c.state, c.passed);
-        place += 1;
+    for place in from..last {
+        let t = first_follower(file, h, work, transitions, place, &mut p);
+        p = append(file, h, work, transitions, place, t, p);
     }
 }
 
@@ -47,6 +45,6 @@ pub fn first(file: &[u8], h: Header, work: &mut [u16], transitions: Transitions)
     ensures holds_first { HoldsFirst (graph_in file.now h) transitions.0 work.new }
     ensures kept { Kept h.states work.old work.new }
 {
-    let p = retreat(file, h, work, transitions, 0, unknown(0));
+    let p = retreat(file, h, work, transitions, 0, Passed::unknown(0));
     complete(file, h, work, transitions, 0, p);
 }

@@ -15,11 +15,6 @@ use Rattle.lists.proofs.Tests.{eq_or_apart, lt_or_ge}
 use Rattle.lists.proofs.Places.{place_of_first}
 use Rattle.table.specs.Changes.{SameOutside}
 
--- the states of the list from place 1 on are the table's entries from 0 on
-pub list_place : (start : ℕ) (w : List ℕ) (i : ℕ) → 1 ≤ i → get_or (start ∷ w) i 0 ≡ get_or w (i - 1) 0
-list_place start w zero l = absurd (omega arith)
-list_place start w (suc i) l = let e : i ≡ suc i - 1 = omega arith in ap (λ (j : ℕ). get_or w j 0) e
-
 -- a change after a place of the list keeps its state
 pub list_kept : {from to : ℕ} {w w' : List ℕ} (start k : ℕ) → SameOutside from to w w' → k ≤ from → get_or (start ∷ w') k 0 ≡ get_or (start ∷ w) k 0
 list_kept start zero same h = refl
@@ -101,16 +96,6 @@ loop_start_is s w t k fits le holds before =
     place_of_is (get_or (s ∷ take t w) (suc (length (take t w)) - 1) 0) (s ∷ take t w) k (omega arith)
     (front_at s w t k le ∙ holds ∙ sym last)
     (λ i less e. before i less (sym (front_at s w t i (omega arith)) ∙ e ∙ last))
-
--- a place up to t whose entry is not the one at t is before t
-pub before_last : (xs : List ℕ) (k t v last : ℕ) → k ≤ t → v ≡ get_or xs k 0 → last ≡ get_or xs t 0 → (v ≡ last → ⊥) → k < t
-before_last xs k t v last le at end apart =
-    elim (lt_or_ge k t) [
-      | inl less ↦ less
-      | inr more ↦
-          let e : k ≡ t = omega arith in
-          absurd (apart (at ∙ ap (λ (i : ℕ). get_or xs i 0) e ∙ sym end))
-    ]
 
 -- if the first entry and all others fit 16 bits, each entry does
 pub entries_fit : (s : ℕ) (w : List ℕ) (p : ℕ) → s < 65536 → ((i : ℕ) → get_or w i 0 < 65536) → get_or (s ∷ w) p 0 < 65536

@@ -28,11 +28,12 @@ fn loop_start(h: Header, work: &[u16], transitions: Transitions) -> usize
 {
     let end = transitions.number();
     let last = list_at(h, work, end);
-    let mut k = 0;
-    while list_at(h, work, k) != last {
-        k += 1;
+    for k in 0..end {
+        if list_at(h, work, k) == last {
+            return k;
+        }
     }
-    k
+    end
 }
 
 // Writes entries of the list, from a place on, to the front of a part of the answer table.
@@ -43,10 +44,8 @@ fn write_part(h: Header, work: &[u16], from: usize, entries: Entries, part: &mut
     ensures { part.new
         ≡ over_front entries.0 (drop from (h.start ∷ work.now)) part.old }
 {
-    let mut i = 0;
-    while i < entries.0 {
+    for i in 0..entries.0 {
         part[i] = list_at(h, work, from + i) as u16;
-        i += 1;
     }
 }
 

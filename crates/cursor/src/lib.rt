@@ -37,12 +37,7 @@ fn load(list: &[u16], work: &mut [u16])
     ensures { work.new
         ≡ drop 1 list.now ++ drop (edges list.now) work.old }
 {
-    let mut j = 1;
-    while j < list.len() {
-        let s = get(list, j);
-        put(work, j - 1, s);
-        j += 1;
-    }
+    work[..list.len() - 1].copy_from_slice(&list[1..]);
 }
 
 // Goes to a given list of the roll.

@@ -14,17 +14,17 @@ use model::{Header, edge_count, edge_target, row_part};
 use table::get;
 
 // The answer of a search: the length at which an edge into the target was found, or that there is none, with the
-// number of states reached.
+// number of states reached. No Result: a search for distances has no target and wants that number, so `Nothing` is no error.
 #[derive(Clone, Copy)]
 pub enum SpreadAnswer {
     Length(usize),
     Nothing(usize),
 }
 
-// The search by the edges of the file, from listed sources: level by level below the limit, and out of all loops at the
-// first edge into the target. `at`, `end` and `tail` are places of the table, in region 3: a new state is put at `tail`
-// with no sum to compute. It does not know of implied steps: such a step leads to a state that is reached already, so it
-// matters only as one into the target, and a target whose only successor is itself is no source here.
+// The search by the edges of the file, from listed sources: level by level below the limit, until the first edge into the
+// target. `head`, `at`, `end` and `tail` are places of the table, in region 3: a new state is put at `tail` with no sum to
+// compute. It does not know of implied steps: such a step leads to a state that is reached already, so it matters only as
+// one into the target, and a target whose only successor is itself is no source here.
 pub fn search_edges(
     file: &[u8],
     h: Header,
@@ -43,33 +43,24 @@ pub fn search_edges(
 {
     let n = h.states;
     let queue = 3 * n;
-    let mut level = 0;
-    let mut at = queue;
+    let mut head = queue;
     let mut tail = queue;
-    'levels: loop {
-        if limit <= level {
-            let count = tail - queue;
-            return SpreadAnswer::Nothing(count);
-        }
+    for level in 0..limit {
         tail = admit(work, n, level, tail);
         let end = tail;
-        while at < end {
+        for at in head..end {
             let s = get(work, at);
             let part = row_part(file, h, s);
             let d = edge_count(part);
-            let mut k = 0;
-            while k < d {
+            for k in 0..d {
                 let t = edge_target(part, k);
                 if t == target {
-                    break 'levels;
+                    return SpreadAnswer::Length(level + 1);
                 }
                 tail = reach(work, n, t, level + 1, tail);
-                k += 1;
             }
-            at += 1;
         }
-        level += 1;
+        head = end;
     }
-    let length = level + 1;
-    SpreadAnswer::Length(length)
+    SpreadAnswer::Nothing(tail - queue)
 }

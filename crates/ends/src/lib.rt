@@ -5,10 +5,10 @@
 ghost use Rattle.std.specs.Prelude.{◌*◌, ◌≤◌, ◌<◌, length};
 ghost use Rattle.model.specs.Values.{Valid};
 ghost use Rattle.model.specs.Model.{graph_in};
-ghost use Rattle.frontier.specs.Regions.{entry};
-ghost use Rattle.ends.specs.Ends.{MarkedEnd, FlagMore, ClosingPut, MarkedPut};
+ghost use Rattle.lists.specs.Decides.{Decides};
+ghost use Rattle.ends.specs.Ends.{MarkedEnd, ClosingPut, MarkedPut};
 
-use looks::closing_flag;
+use looks::closes;
 use model::{Header, is_marked};
 use table::{get, put};
 
@@ -22,36 +22,25 @@ pub fn flag_closing(file: &[u8], h: Header, work: &mut [u16], level: usize, boun
         work.old work.new }
 {
     let n = h.states;
-    let mut s = 0;
-    while s < n {
-        let flag = closing_flag(file, h, work, level, bound, s);
-        put(work, 4 * n + s, flag);
-        s += 1;
+    for s in 0..n {
+        let flag = closes(file, h, work, level, bound, s);
+        put(work, 4 * n + s, usize::from(flag));
     }
 }
 
-// 1 for a marked state that is reached and has the same entry in regions 2 and 5, else its flag as it is.
-fn marked_flag(file: &[u8], h: Header, work: &[u16], s: usize) -> usize
+// State s is marked and reached, and has the same entry in regions 2 and 5.
+fn is_marked_end(file: &[u8], h: Header, work: &[u16], s: usize) -> bool
     requires valid { Valid file.now h }
     requires states_in_bounds { 6 * h.states ≤ length work.now }
     requires s_lt_states { s < h.states }
-    ensures flag { FlagMore (MarkedEnd (graph_in file.now h) h.states work.now s)
-        (entry 4 h.states work.now s) result }
-    ensures small { result < 65536 }
+    ensures { Decides (MarkedEnd (graph_in file.now h) h.states work.now s) result }
 {
     let n = h.states;
-    let old = get(work, 4 * n + s);
     if !is_marked(file, h, s) {
-        return old;
+        return false;
     }
     let level = get(work, 2 * n + s);
-    if level == 0 {
-        return old;
-    }
-    if get(work, 5 * n + s) != level {
-        return old;
-    }
-    1
+    level != 0 && get(work, 5 * n + s) == level
 }
 
 // Flags the marked states that are reached and have the same entry in regions 2 and 5, and takes no flag away.
@@ -62,10 +51,9 @@ pub fn flag_marked(file: &[u8], h: Header, work: &mut [u16])
         work.old work.new }
 {
     let n = h.states;
-    let mut s = 0;
-    while s < n {
-        let flag = marked_flag(file, h, work, s);
-        put(work, 4 * n + s, flag);
-        s += 1;
+    for s in 0..n {
+        if is_marked_end(file, h, work, s) {
+            put(work, 4 * n + s, 1);
+        }
     }
 }

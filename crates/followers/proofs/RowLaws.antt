@@ -82,8 +82,3 @@ test_asks {f} {w} {w'} {h} {l} {place} {s} {k} t r same inside at = (prepared_sa
 -- what is so of the list after tests was so before them
 pub as_before : {f w w' : List ℕ} {h : Header} {l place s : ℕ} (P : List ℕ → Type 0) → StateRead f h w l place s → SameOutside (2 * h.states) (6 * h.states) w w' → P (take place w') → P (take place w)
 as_before {h = h} {place = place} P r same = subst P (same_take h.states place same (omega (arith, r.inside, r.fits)))
-
--- the answer of a test that passed the bound
-pub try_decides : (P : Type 0) (bound t : ℕ) → bound ≤ t → (b : Bool) → Decides P b → Decides ((bound ≤ t) × P) b
-try_decides P bound t i true p = (i, p)
-try_decides P bound t i false n = λ (j, p). n p

@@ -13,31 +13,10 @@ ghost use Rattle.followers.specs.Followers.{TrySays, LeastFound, FirstFound};
 
 use current::list_at;
 use lasso::Transitions;
-use model::{Header, degree, row_part, successor};
+use model::{Header, successors_of};
 use moves::retreat;
 use passed::Passed;
-use tested::{Tested, may_follow};
-
-// What may stand at the next place: a state, or nothing.
-#[derive(Clone, Copy)]
-pub enum Follower {
-    State(usize),
-    Nothing,
-}
-
-// What may stand there, and what is known of the list then.
-#[derive(Clone, Copy)]
-pub struct Found {
-    pub follower: Follower,
-    pub passed: Passed,
-}
-
-// The state that may stand there, and what is known of the list then.
-#[derive(Clone, Copy)]
-pub struct Chosen {
-    pub state: usize,
-    pub passed: Passed,
-}
+use tested::may_follow;
 
 // State t is not below the bound, and may stand after the list up to a place.
 fn try_next(
@@ -48,25 +27,22 @@ fn try_next(
     place: usize,
     bound: usize,
     t: usize,
-    passed: Passed,
-) -> Tested
+    passed: &mut Passed,
+) -> bool
     requires prepared { Prepared file.now h work.old transitions.0 }
     requires place_lt_transitions { place < transitions.0 }
     requires t_lt_states { t < h.states }
     requires t { T (pathb (graph_in file.now h) (list_in h.start work.old place ++ t ∷ [])) }
-    requires passed_at { PassedAt file.now h work.old transitions.0 place passed }
-    ensures { TrySays file.now h work.old work.new transitions.0 place bound t result }
+    requires passed_at { PassedAt file.now h work.old transitions.0 place passed.old }
+    ensures { TrySays file.now h work.old work.new transitions.0 place bound t result passed.new }
 {
     if t < bound {
-        return Tested {
-            yes: false,
-            passed: passed,
-        };
+        return false;
     }
     may_follow(file, h, work, transitions, place, t, passed)
 }
 
-// The least state from a bound on that may stand after the list up to a place. What was known of a longer list is given.
+// The least state from a bound on that may stand after the list up to a place. What is known is of a longer list at first.
 pub fn least_follower(
     file: &[u8],
     h: Header,
@@ -74,35 +50,24 @@ pub fn least_follower(
     transitions: Transitions,
     place: usize,
     bound: usize,
-    passed: Passed,
-) -> Found
+    passed: &mut Passed,
+) -> Option<usize>
     requires prepared { Prepared file.now h work.old transitions.0 }
     requires place_lt_transitions { place < transitions.0 }
     requires t { T (pathb (graph_in file.now h) (list_in h.start work.old place)) }
-    requires known_from { KnownFrom file.now h work.old transitions.0 place passed }
-    ensures { LeastFound file.now h work.old work.new transitions.0 place bound result }
+    requires known_from { KnownFrom file.now h work.old transitions.0 place passed.old }
+    ensures { LeastFound file.now h work.old work.new transitions.0 place bound result passed.new }
 {
-    let mut p = retreat(file, h, work, transitions, place, passed);
+    *passed = retreat(file, h, work, transitions, place, *passed);
     let s = list_at(h, work, place);
-    let part = row_part(file, h, s);
-    let d = degree(part, h, s);
-    let mut k = 0;
-    while k < d {
-        let t = successor(part, h, s, k);
-        let r = try_next(file, h, work, transitions, place, bound, t, p);
-        p = r.passed;
-        if r.yes {
-            return Found {
-                follower: Follower::State(t),
-                passed: p,
-            };
+    let successors = successors_of(file, h, s);
+    for k in 0..successors.len() {
+        let t = successors.target(k);
+        if try_next(file, h, work, transitions, place, bound, t, passed) {
+            return Some(t);
         }
-        k += 1;
     }
-    Found {
-        follower: Follower::Nothing,
-        passed: p,
-    }
+    None
 }
 
 // The least state that may stand after a list that extends: of its successors the last one needs no test.
@@ -112,33 +77,22 @@ pub fn first_follower(
     work: &mut [u16],
     transitions: Transitions,
     place: usize,
-    passed: Passed,
-) -> Chosen
+    passed: &mut Passed,
+) -> usize
     requires prepared { Prepared file.now h work.old transitions.0 }
     requires place_lt_transitions { place < transitions.0 }
     requires extends { Extends (graph_in file.now h) transitions.0 (list_in h.start work.old place) }
-    requires passed_at { PassedAt file.now h work.old transitions.0 place passed }
-    ensures { FirstFound file.now h work.old work.new transitions.0 place result }
+    requires passed_at { PassedAt file.now h work.old transitions.0 place passed.old }
+    ensures { FirstFound file.now h work.old work.new transitions.0 place result passed.new }
 {
     let s = list_at(h, work, place);
-    let part = row_part(file, h, s);
-    let d = degree(part, h, s);
-    let mut p = passed;
-    let mut tried = 0;
-    while tried + 1 < d {
-        let t = successor(part, h, s, tried);
-        let r = may_follow(file, h, work, transitions, place, t, p);
-        p = r.passed;
-        if r.yes {
-            return Chosen {
-                state: t,
-                passed: p,
-            };
+    let successors = successors_of(file, h, s);
+    let last = successors.len() - 1;
+    for k in 0..last {
+        let t = successors.target(k);
+        if may_follow(file, h, work, transitions, place, t, passed) {
+            return t;
         }
-        tried += 1;
     }
-    Chosen {
-        state: successor(part, h, s, tried),
-        passed: p,
-    }
+    successors.target(last)
 }

@@ -70,20 +70,20 @@ ascending_end (x ∷ []) zero h = refl
 ascending_end (x ∷ y ∷ r) zero h = absurd (omega arith)
 ascending_end (x ∷ ws) (suc k) h = ascending_end ws k (omega arith)
 
-module _ (part : List ℕ) (k : ℕ) (more : k + 1 < length part / 2) where
-  -- the test from place k on, by the numbers that stand in the part
+module _ (part : List ℕ) (k : ℕ) (first : 0 < k) (more : k < length part / 2) where
+  -- the test from the number before place k on, by the numbers that stand in the part
   part_step :
-      ascendingb (drop k (words part)) ≡ (ltb (word part (2 * k)) (word part (2 * (k + 1))) && ascendingb (drop (k + 1) (words part)))
+      ascendingb (drop (k - 1) (words part)) ≡ (ltb (word part (2 * (k - 1))) (word part (2 * k)) && ascendingb (drop k (words part)))
   part_step =
-      let e : suc k ≡ k + 1 = omega arith in
+      let e : suc (k - 1) ≡ k = omega arith in
       let n : length (words part) ≡ length part / 2 = words-length part in
-      ascending_step (words part) k (omega arith) ∙ rw (e, words_at part k (omega arith), words_at part (k + 1) (omega arith))
+      ascending_step (words part) (k - 1) (omega arith) ∙ rw (e, words_at part (k - 1) (omega arith), words_at part k (omega arith))
 
-  -- a number less than the next leaves the test to the numbers after it
+  -- a number greater than the one before leaves the test to it and the numbers after it
   pub part_rises :
-      word part (2 * k) < word part (2 * (k + 1)) → ascendingb (drop k (words part)) ≡ ascendingb (drop (k + 1) (words part))
-  part_rises h = part_step ∙ rw (lt-ltb (word part (2 * k)) (word part (2 * (k + 1))) h)
+      word part (2 * (k - 1)) < word part (2 * k) → ascendingb (drop (k - 1) (words part)) ≡ ascendingb (drop k (words part))
+  part_rises h = part_step ∙ rw (lt-ltb (word part (2 * (k - 1))) (word part (2 * k)) h)
 
-  -- a number not less than the next settles the test
-  pub part_falls : word part (2 * (k + 1)) ≤ word part (2 * k) → ascendingb (drop k (words part)) ≡ false
-  part_falls h = part_step ∙ rw (le-ltb (word part (2 * k)) (word part (2 * (k + 1))) h)
+  -- a number not greater than the one before settles the test
+  pub part_falls : word part (2 * k) ≤ word part (2 * (k - 1)) → ascendingb (drop (k - 1) (words part)) ≡ false
+  part_falls h = part_step ∙ rw (le-ltb (word part (2 * (k - 1))) (word part (2 * k)) h)

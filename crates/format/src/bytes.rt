@@ -8,7 +8,7 @@ pub fn word(file: &[u8], at: usize) -> usize
     requires { at + 1 < length file.now }
     ensures { (result ≡ Rattle.format.specs.Bytes.word file.now at) × (result < 65536) }
 {
-    file[at] as usize + 256 * (file[at + 1] as usize)
+    usize::from(u16::from_le_bytes([file[at], file[at + 1]]))
 }
 
 // The entry at place k of the table of 16-bit numbers that starts at a byte place.
@@ -24,7 +24,7 @@ pub fn long(file: &[u8], at: usize) -> usize
     requires { at + 3 < length file.now }
     ensures { result ≡ Rattle.format.specs.Bytes.long file.now at }
 {
-    word(file, at) + 65536 * word(file, at + 2)
+    u32::from_le_bytes([file[at], file[at + 1], file[at + 2], file[at + 3]]) as usize
 }
 
 // Bit s of the bytes from a place on, eight to a byte, bit 0 worth 1.
@@ -40,8 +40,5 @@ pub fn bit_if_there(file: &[u8], at: usize, s: usize) -> bool
     requires { (at ≤ 65535) × (s ≤ 65535) }
     ensures { result ≡ bitb (get_or file.now (at + s / 8) 0) (s % 8) }
 {
-    if file.len() <= at + s / 8 {
-        return false;
-    }
-    bit(file, at, s)
+    at + s / 8 < file.len() && bit(file, at, s)
 }

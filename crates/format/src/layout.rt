@@ -31,7 +31,7 @@ pub fn mark_bytes(n: usize) -> usize
     requires { n ≤ most_states }
     ensures { result ≡ mark_bytes n }
 {
-    (n + 7) / 8
+    n.div_ceil(8)
 }
 
 // The offset of mark table t.

@@ -5,32 +5,16 @@ use mathlib.Core.Logic.{inl, inr}
 use mathlib.Core.List.{List, ◌∷◌}
 use native.Mathlib.Omega.{arith}
 use native.Mathlib.Decide.{ℕ_discrete}
-use lib.ListN.{length, get_or, set, take, drop, length-set, length-drop}
-use lib.Seq.{get_or-set_same, get_or-set_other, get_or-take, get_or-drop, length-take-le}
+use lib.ListN.{length, get_or, take, drop, length-drop}
+use lib.Seq.{get_or-take, get_or-drop, length-take-le}
 use Rattle.lists.proofs.Tests.{lt_or_ge, places_different}
 use Rattle.lists.proofs.Different.{length_different_places}
 use Rattle.table.specs.Changes.{SameOutside}
-use Rattle.table.proofs.Laws.{same_outside_refl, same_outside_widen, same_outside_set, same_outside_trans, set_same_outside}
+use Rattle.table.proofs.Laws.{same_outside_refl, same_outside_widen, same_outside_trans}
 use Rattle.frontier.specs.Regions.{entry}
 use Rattle.frontier.specs.Buckets.{sources}
 use Rattle.frontier.specs.Search.{Queue, Hit, ReachedBy, State, Pushed, Reached, before, first}
 use Rattle.frontier.proofs.BucketLaws.{listed_same}
-
--- two stores put a state at the end of the queue
-pub set_pushed : (n t v count : ℕ) (w : List ℕ) → t < n → count < n → 6 * n ≤ length w → Pushed n t v count w (set (set w (2 * n + t) v) (3 * n + count) t)
-set_pushed n t v count w l k fits =
-    record {
-      outside = same_outside_set (3 * n + count) t (omega arith) (omega arith) (set_same_outside w (2 * n + t) v (2 * n) (4 * n) (omega arith) (omega arith));
-      level = in_two t l ∙ get_or-set_same w (2 * n + t) v 0 (omega arith);
-      levels = λ s h d. in_two s h ∙ get_or-set_other w (2 * n + t) (2 * n + s) v 0 (λ q. d (omega arith));
-      last = get_or-set_same (set w (2 * n + t) v) (3 * n + count) t 0 (simp length-set (omega arith));
-      others = λ i h d.
-          get_or-set_other (set w (2 * n + t) v) (3 * n + count) (3 * n + i) t 0 (λ q. d (omega arith)) ∙
-          get_or-set_other w (2 * n + t) (3 * n + i) v 0 (λ q. omega arith);
-    }
-  where
-    in_two : (s : ℕ) → s < n → entry 2 n (set (set w (2 * n + t) v) (3 * n + count) t) s ≡ entry 2 n (set w (2 * n + t) v) s
-    in_two s h = get_or-set_other (set w (2 * n + t) v) (3 * n + count) (2 * n + s) t 0 (λ q. omega arith)
 
 -- a state that was not reached is not in the queue, so the queue has room for it
 pub queue_room : {n count : ℕ} {w : List ℕ} (t : ℕ) → 6 * n ≤ length w → Queue n count w → t < n → entry 2 n w t ≡ 0 → count < n

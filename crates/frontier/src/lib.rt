@@ -3,6 +3,7 @@
 //   0 distances from the start   1 loop lengths   2 levels   3 queue   4 first source of a level   5 next source
 // An entry 0 stands for nothing; a level l stands as l + 1, a state s in a list of sources as s + 1. Between searches the
 // listing has other uses for some: the list in 0, the stems in 1, flags of ends in 4, the tables after a loop start in 2 and 5.
+// Entries stay numbers, and lists chains of entries: one lent table holds them all, since what C calls takes no memory of its own.
 #![tactic(auto)]
 
 ghost use Rattle.std.specs.Prelude.{◌≡◌, ◌+◌, ◌*◌, ◌≤◌, ◌<◌, length};
@@ -27,18 +28,6 @@ pub fn list_source(work: &mut [u16], n: usize, level: usize, s: usize)
     put(work, 4 * n + level, s + 1);
 }
 
-// The level that an entry stands for, and the greatest number for an entry 0, so that one comparison with a limit tells
-// the sources.
-fn level_of(start: usize) -> usize
-    ensures level { 1 ≤ start → result + 1 ≡ start }
-    ensures none { start ≡ 0 → most_states ≤ result }
-{
-    if start == 0 {
-        return usize::MAX;
-    }
-    start - 1
-}
-
 // Lists the sources of each level below the limit, from the start levels in region 2, which it clears.
 pub fn plan(work: &mut [u16], n: usize, limit: usize)
     requires n_le_most_states { n ≤ most_states }
@@ -47,15 +36,12 @@ pub fn plan(work: &mut [u16], n: usize, limit: usize)
     ensures { Planned n limit work.old work.new }
 {
     clear(work, 4 * n, 4 * n + limit);
-    let mut s = 0;
-    while s < n {
+    for s in 0..n {
         let start = get(work, 2 * n + s);
         put(work, 2 * n + s, 0);
-        let level = level_of(start);
-        if level < limit {
-            list_source(work, n, level, s);
+        if 1 <= start && start <= limit {
+            list_source(work, n, start - 1, s);
         }
-        s += 1;
     }
 }
 

@@ -13,8 +13,8 @@ use Rattle.frontier.specs.Regions.{entry}
 use Rattle.stems.specs.Stems.{StemEntry, on_none, on_stem, on_start, StemEntries}
 use Rattle.stems.proofs.StemLaws.{start_stem}
 use Rattle.goals.specs.Goals.{Goal, StepTo}
-use Rattle.looks.specs.Looks.{GoalAt, FlagFor}
-use Rattle.ends.specs.Ends.{ClosingPut}
+use Rattle.looks.specs.Looks.{GoalAt}
+use Rattle.ends.specs.Ends.{FlagFor, ClosingPut}
 
 -- a flag tells
 flag_is : {P : Type 0} (v : ℕ) → FlagFor P v → (1 ≤ v) ↔ P

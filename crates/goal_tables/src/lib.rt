@@ -27,13 +27,11 @@ pub fn last_mark(file: &[u8], h: Header, work: &[u16], place: usize) -> usize
     requires states_to { StatesTo h work.now place }
     ensures { LastMark (graph_in file.now h) (state_at h work.now) place result }
 {
-    let mut k = place + 1;
-    while 0 < k {
-        let s = list_at(h, work, k - 1);
+    for k in (0..=place).rev() {
+        let s = list_at(h, work, k);
         if is_marked(file, h, s) {
-            return k;
+            return k + 1;
         }
-        k -= 1;
     }
     0
 }

@@ -1,1 +1,2 @@
 // The verdicts of a grade, as mathematics: definitions and laws, no code.
+#![tactic(auto)]

@@ -11,11 +11,11 @@ ghost use Rattle.follow.specs.Places.{Kept, Replaced};
 
 use completion::complete;
 pub use completion::first;
-use followers::{Follower, least_follower};
+use followers::least_follower;
 use lasso::Transitions;
 use model::Header;
 use moves::append;
-use passed::unknown;
+use passed::Passed;
 use table::get;
 
 // Puts the path after the one in region 0 there, and answers true; or answers false if that one is the last.
@@ -25,21 +25,14 @@ pub fn advance(file: &[u8], h: Header, work: &mut [u16], transitions: Transition
     ensures replaced { Replaced (graph_in file.now h) transitions.0 work.old work.new result }
     ensures kept { Kept h.states work.old work.new }
 {
-    let mut place = transitions.number();
-    let mut p = unknown(place);
-    while 0 < place {
-        place -= 1;
+    let last = transitions.number();
+    let mut p = Passed::unknown(last);
+    for place in (0..last).rev() {
         let bound = get(work, place) + 1;
-        let found = least_follower(file, h, work, transitions, place, bound, p);
-        p = found.passed;
-        let next = found.follower;
-        match next {
-            Follower::State(t) => {
-                let r = append(file, h, work, transitions, place, t, p);
-                complete(file, h, work, transitions, place + 1, r);
-                return true;
-            }
-            Follower::Nothing => {}
+        if let Some(t) = least_follower(file, h, work, transitions, place, bound, &mut p) {
+            let r = append(file, h, work, transitions, place, t, p);
+            complete(file, h, work, transitions, place + 1, r);
+            return true;
         }
     }
     false

@@ -1,6 +1,6 @@
 -- What a look after the last loop start of a list tells: b is its place, `mark` that of the last mark of the list plus 1, or
 -- 0 if there is none.
-use Rattle.std.specs.Prelude.{ℕ, zero, suc, ◌+◌, ◌-◌, ◌/◌, ◌%◌, ◌≤◌, ◌<◌, ◌⊎◌, ◌≡◌, List, ◌∷◌, get_or, T}
+use Rattle.std.specs.Prelude.{ℕ, suc, ◌+◌, ◌-◌, ◌/◌, ◌%◌, ◌≤◌, ◌<◌, ◌⊎◌, ◌≡◌, List, ◌∷◌, get_or, T}
 use Rattle.lasso.specs.Graph.{Graph, edgeb}
 use Rattle.frontier.specs.Regions.{entry}
 
@@ -23,8 +23,3 @@ PlaceSays n w b mark place t =
 -- a step leads from s, which has the level, to a goal
 abbrev pub Closes : Graph → ℕ → ℕ → List ℕ → ℕ → ℕ → ℕ → Type 0
 Closes g n start w level bound s = (entry 2 n w s ≡ suc level) × ((y : ℕ) × T (edgeb g s y) × GoalAt n start w bound y)
-
--- 1 if P holds, 0 if it does not
-abbrev pub FlagFor : Type 0 → ℕ → Type 0
-FlagFor P zero = P → ⊥
-FlagFor P (suc v) = P × (v ≡ 0)

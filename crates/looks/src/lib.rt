@@ -7,10 +7,10 @@ ghost use Rattle.numbers.specs.Limits.{most_states};
 ghost use Rattle.lists.specs.Decides.{Decides};
 ghost use Rattle.model.specs.Values.{Valid};
 ghost use Rattle.model.specs.Model.{graph_in};
-ghost use Rattle.looks.specs.Looks.{GoalAt, LastSays, PlaceSays, Closes, FlagFor};
+ghost use Rattle.looks.specs.Looks.{GoalAt, LastSays, PlaceSays, Closes};
 
 use current::list_at;
-use model::{Header, degree, row_part, successor};
+use model::{Header, successors_of};
 use table::get;
 
 // State y is a goal: it can start the loop, and stands on the list at the place of its distance, which is below the bound.
@@ -21,22 +21,9 @@ fn is_goal(h: Header, work: &[u16], bound: usize, y: usize) -> bool
     requires y_lt_states { y < h.states }
     ensures { Decides (GoalAt h.states h.start work.now bound y) result }
 {
-    let n = h.states;
-    let entry = get(work, n + y);
-    if entry % 2 != 1 {
-        return false;
-    }
+    let entry = get(work, h.states + y);
     let reached = entry / 2;
-    if reached < 1 {
-        return false;
-    }
-    if bound < reached {
-        return false;
-    }
-    if list_at(h, work, reached - 1) != y {
-        return false;
-    }
-    true
+    entry % 2 == 1 && 1 <= reached && reached <= bound && list_at(h, work, reached - 1) == y
 }
 
 // At the last place: t is a goal, at or before the last mark if no mark stands after the loop start. Both places are one
@@ -48,10 +35,7 @@ pub fn at_last(h: Header, work: &[u16], start: usize, mark: usize, t: usize) -> 
     requires t_lt_states { t < h.states }
     ensures { Decides (LastSays h.states h.start work.now start mark t) result }
 {
-    if start < mark {
-        return is_goal(h, work, start, t);
-    }
-    is_goal(h, work, mark, t)
+    is_goal(h, work, start.min(mark), t)
 }
 
 // At a place before the last: the table says that t may stand there.
@@ -63,42 +47,30 @@ pub fn before_last(n: usize, work: &[u16], b: usize, mark: usize, place: usize, 
     requires t_lt_n { t < n }
     ensures { Decides (PlaceSays n work.now b mark place t) result }
 {
-    if b + 1 < mark {
-        return get(work, 5 * n + t) == place + 2 - b;
-    }
-    get(work, 2 * n + t) == place + 2 - b
+    let region = if b + 1 < mark { 5 } else { 2 };
+    get(work, region * n + t) == place + 2 - b
 }
 
-// 1 if state s has the level, and a step leads from it to a goal below the bound; else 0.
-pub fn closing_flag(
-    file: &[u8],
-    h: Header,
-    work: &[u16],
-    level: usize,
-    bound: usize,
-    s: usize,
-) -> usize
+// State s has the level, and a step leads from it to a goal below the bound.
+pub fn closes(file: &[u8], h: Header, work: &[u16], level: usize, bound: usize, s: usize) -> bool
     requires valid { Valid file.now h }
     requires states_in_bounds { 6 * h.states ≤ length work.now }
     requires level_le_states { level ≤ h.states }
     requires bound_le_states { bound ≤ h.states }
     requires s_lt_states { s < h.states }
-    ensures { FlagFor (Closes (graph_in file.now h) h.states h.start work.now
+    ensures { Decides (Closes (graph_in file.now h) h.states h.start work.now
         level bound s) result }
 {
     let n = h.states;
     if get(work, 2 * n + s) != level + 1 {
-        return 0;
+        return false;
     }
-    let part = row_part(file, h, s);
-    let d = degree(part, h, s);
-    let mut k = 0;
-    while k < d {
-        let t = successor(part, h, s, k);
+    let successors = successors_of(file, h, s);
+    for k in 0..successors.len() {
+        let t = successors.target(k);
         if is_goal(h, work, bound, t) {
-            return 1;
+            return true;
         }
-        k += 1;
     }
-    0
+    false
 }

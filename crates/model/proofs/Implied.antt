@@ -5,35 +5,23 @@ use mathlib.Core.Bool.{Bool, true, false, ◌&&◌}
 use mathlib.Core.List.{List, [], ◌∷◌}
 use mathlib.Core.Logic.{◌⊎◌, inl, inr}
 use native.Mathlib.Omega.{arith}
-use lib.ListN.{length, get_or, drop}
+use lib.ListN.{length}
 use lib.Dec.{T, eqb, ltb, ltb→lt, eqb→eq, eqb_refl}
 use Rattle.lists.specs.Lists.{memb, ascendingb}
 use Rattle.lasso.specs.Graph.{Graph, WellFormed}
 use Rattle.lists.proofs.Tests.{either, or_l, snd}
-use Rattle.model.specs.Model.{list_if, with_implied, staying}
+use Rattle.model.specs.Model.{with_implied, staying}
 
 -- a state with edges has no implied step
 pub implied_some : (b : Bool) (s : ℕ) (ts : List ℕ) → 1 ≤ length ts → with_implied b s ts ≡ ts
 implied_some b s [] l = absurd (omega arith)
 implied_some b s (t ∷ ts) l = refl
 
--- a state without edges has its implied step alone
-pub implied_none : (b : Bool) (s : ℕ) (ts : List ℕ) → length ts ≡ 0 → with_implied b s ts ≡ list_if b (s ∷ [])
-implied_none b s [] l = refl
-implied_none b s (t ∷ ts) l = absurd (omega arith)
-
 -- the steps are the edges, or one step to the state itself
 pub implied_or_itself : (b : Bool) (s : ℕ) (ts : List ℕ) → (with_implied b s ts ≡ ts) ⊎ (with_implied b s ts ≡ s ∷ [])
 implied_or_itself true s [] = inr refl
 implied_or_itself false s [] = inl refl
 implied_or_itself b s (t ∷ ts) = inl refl
-
--- after the first successor there are only edges
-pub implied_behind_first : (b : Bool) (s : ℕ) (ts : List ℕ) → 0 < length (with_implied b s ts)
-    → with_implied b s ts ≡ get_or (with_implied b s ts) 0 0 ∷ drop 1 ts
-implied_behind_first true s [] l = refl
-implied_behind_first false s [] l = absurd (omega arith)
-implied_behind_first b s (t ∷ ts) l = refl
 
 -- where nothing stays there is no implied step
 pub implied_not : (s : ℕ) (ts : List ℕ) → with_implied false s ts ≡ ts

@@ -2,12 +2,13 @@
 // The leaves speak of the graph that the file holds; those that are given the part of a row alone, of its numbers.
 #![tactic(auto)]
 
-ghost use Rattle.std.specs.Prelude.{◌≡◌, ◌<◌, length, get_or};
+ghost use Rattle.std.specs.Prelude.{◌≡◌, ◌<◌, ℕ, List, length, get_or};
 ghost use Rattle.format.specs.Bytes.{words};
-ghost use Rattle.model.specs.Model.{graph_in, steps_of};
+ghost use Rattle.model.specs.Model.{graph_in, steps_of, with_implied};
 ghost use Rattle.model.specs.Values.{naming, Valid};
 
 use format::{bit, mark_bytes, row, table_at, word};
+use std::marker::Model;
 
 // The fields of an accepted file that its readers need, and the mark table by which they read it. `stays`: a state without
 // edges has an implied step to itself.
@@ -53,29 +54,58 @@ pub fn edge_target(part: &[u8], k: usize) -> usize
     word(part, 2 * k)
 }
 
-// The number of successors of state s, by its row's part; a state without edges that stays has one, itself.
-pub fn degree(part: &[u8], h: Header, s: usize) -> usize
-    ensures { result ≡ length (steps_of h s part.now) }
-{
-    let count = edge_count(part);
-    if 0 < count {
-        return count;
-    }
-    if h.stays {
-        return 1;
-    }
-    0
+// The successors of a state, ascending: those of its row's part or, if it has no edges and such states stay, itself.
+#[derive(Drop)]
+pub struct Successors<'a> {
+    part: &'a [u8],
+    state: usize,
+    stays: bool,
 }
 
-// The successor of state s at place k, by its row's part; the only one of a state without edges is itself.
-pub fn successor(part: &[u8], h: Header, s: usize, k: usize) -> usize
-    requires { k < length (steps_of h s part.now) }
-    ensures { result ≡ get_or (steps_of h s part.now) k 0 }
-{
-    if edge_count(part) == 0 {
-        return s;
+impl<'a> Model for Successors<'a> {
+    ghost Value = { List ℕ };
+
+    ghost view = { λ r. with_implied r.stays r.state (words r.part.now) };
+}
+
+impl<'a> Successors<'a> {
+    // How many there are.
+    pub fn len(&self) -> usize
+        ensures { result ≡ length self.now }
+    {
+        let count = edge_count(self.part);
+        if 0 < count {
+            return count;
+        }
+        if self.stays {
+            return 1;
+        }
+        0
     }
-    edge_target(part, k)
+
+    // The successor at place k.
+    pub fn target(&self, k: usize) -> usize
+        requires { k < length self.now }
+        ensures { result ≡ get_or self.now k 0 }
+    {
+        if edge_count(self.part) == 0 {
+            return self.state;
+        }
+        edge_target(self.part, k)
+    }
+}
+
+// The successors of state s.
+pub fn successors_of(file: &[u8], h: Header, s: usize) -> Successors
+    requires valid { Valid file.now h }
+    requires s_lt_states { s < h.states }
+    ensures { result ≡ (graph_in file.now h).succs s }
+{
+    Successors {
+        part: row_part(file, h, s),
+        state: s,
+        stays: h.stays,
+    }
 }
 
 // State s is marked in the mark table that the header names: no state is if the file has no such table.

@@ -17,7 +17,7 @@ use current::list_at;
 use goal_tables::last_mark;
 use lasso::Transitions;
 use model::{Header, is_marked};
-use passed::{Passed, moved};
+use passed::Passed;
 use table::{get, put};
 
 // The state at place k can start the loop, and stands at its distance.
@@ -31,13 +31,7 @@ fn starts_at(h: Header, work: &[u16], k: usize) -> bool
     let n = h.states;
     let s = list_at(h, work, k);
     let entry = get(work, n + s);
-    if entry % 2 != 1 {
-        return false;
-    }
-    if entry / 2 != k + 1 {
-        return false;
-    }
-    true
+    entry % 2 == 1 && entry / 2 == k + 1
 }
 
 // The last place of the list up to a given one with such a state, plus 1; or 0.
@@ -48,44 +42,12 @@ fn last_start(h: Header, work: &[u16], place: usize) -> usize
     requires states_to { StatesTo h work.now place }
     ensures { LastOf (LoopEntry h.states h.start work.now) place result }
 {
-    let mut k = place + 1;
-    while 0 < k {
-        if starts_at(h, work, k - 1) {
-            return k;
+    for k in (0..=place).rev() {
+        if starts_at(h, work, k) {
+            return k + 1;
         }
-        k -= 1;
     }
     0
-}
-
-// The last loop start up to a place, where `start` is it unless it stands after.
-fn start_back(h: Header, work: &[u16], place: usize, start: usize) -> usize
-    requires states_in_bounds { 2 * h.states ≤ length work.now }
-    requires states_le_most_states { h.states ≤ most_states }
-    requires place_le_states { place ≤ h.states }
-    requires states_to { StatesTo h work.now place }
-    requires last_of { start ≤ place + 1 → LastOf (LoopEntry h.states h.start work.now) place start }
-    ensures { LastOf (LoopEntry h.states h.start work.now) place result }
-{
-    if start <= place + 1 {
-        return start;
-    }
-    last_start(h, work, place)
-}
-
-// The last mark up to a place, where `mark` is it unless it stands after.
-fn mark_back(file: &[u8], h: Header, work: &[u16], place: usize, mark: usize) -> usize
-    requires valid { Valid file.now h }
-    requires states_in_bounds { 2 * h.states ≤ length work.now }
-    requires place_le_states { place ≤ h.states }
-    requires states_to { StatesTo h work.now place }
-    requires last_mark { mark ≤ place + 1 → LastMark (graph_in file.now h) (state_at h work.now) place mark }
-    ensures { LastMark (graph_in file.now h) (state_at h work.now) place result }
-{
-    if mark <= place + 1 {
-        return mark;
-    }
-    last_mark(file, h, work, place)
 }
 
 // What is known of the list up to a place, from what was known of a longer one.
@@ -103,40 +65,17 @@ pub fn retreat(
     requires known_from { KnownFrom file.now h work.now transitions.0 place passed }
     ensures { PassedAt file.now h work.now transitions.0 place result }
 {
-    let start = start_back(h, work, place, passed.start);
-    let mark = mark_back(file, h, work, place, passed.mark);
-    moved(passed, start, mark)
-}
-
-// The last loop start up to the place after the given one.
-fn start_after(h: Header, work: &[u16], place: usize, start: usize) -> usize
-    requires states_in_bounds { 2 * h.states ≤ length work.now }
-    requires states_le_most_states { h.states ≤ most_states }
-    requires place_lt_states { place < h.states }
-    requires states_to { StatesTo h work.now (place + 1) }
-    requires last_of { LastOf (LoopEntry h.states h.start work.now) place start }
-    ensures { LastOf (LoopEntry h.states h.start work.now) (place + 1) result }
-{
-    if starts_at(h, work, place + 1) {
-        return place + 2;
-    }
-    start
-}
-
-// The last mark up to the place after the given one.
-fn mark_after(file: &[u8], h: Header, work: &[u16], place: usize, mark: usize) -> usize
-    requires valid { Valid file.now h }
-    requires states_in_bounds { 2 * h.states ≤ length work.now }
-    requires place_lt_states { place < h.states }
-    requires states_to { StatesTo h work.now (place + 1) }
-    requires last_mark { LastMark (graph_in file.now h) (state_at h work.now) place mark }
-    ensures { LastMark (graph_in file.now h) (state_at h work.now) (place + 1) result }
-{
-    let s = list_at(h, work, place + 1);
-    if is_marked(file, h, s) {
-        return place + 2;
-    }
-    mark
+    let start = if passed.start <= place + 1 {
+        passed.start
+    } else {
+        last_start(h, work, place)
+    };
+    let mark = if passed.mark <= place + 1 {
+        passed.mark
+    } else {
+        last_mark(file, h, work, place)
+    };
+    passed.moved(start, mark)
 }
 
 // Puts state t at the place after the given one of the list, and says what is known of the list then.
@@ -157,7 +96,15 @@ pub fn append(
     ensures { Appended file.now h work.old work.new transitions.0 place t result }
 {
     put(work, place, t);
-    let start = start_after(h, work, place, passed.start);
-    let mark = mark_after(file, h, work, place, passed.mark);
-    moved(passed, start, mark)
+    let start = if starts_at(h, work, place + 1) {
+        place + 2
+    } else {
+        passed.start
+    };
+    let mark = if is_marked(file, h, t) {
+        place + 2
+    } else {
+        passed.mark
+    };
+    passed.moved(start, mark)
 }

@@ -16,35 +16,33 @@ pub struct Passed {
     pub made: bool,
 }
 
-// Nothing is known of the list up to a place: what is said to be last stands after it.
-pub fn unknown(place: usize) -> Passed
-    requires { place ≤ most_states }
-    ensures { (place + 1 < result.start) × (place + 1 < result.mark) × (result.made ≡ false) }
-{
-    Passed {
-        start: place + 2,
-        mark: place + 2,
-        searches: 0,
-        made: false,
-    }
-}
-
-// What is known with these as the last loop start and the last mark: another loop start has searches and tables of its own.
-pub fn moved(passed: Passed, start: usize, mark: usize) -> Passed
-    ensures { Moved passed start mark result }
-{
-    if start != passed.start {
-        return Passed {
-            start: start,
-            mark: mark,
+impl Passed {
+    // Nothing is known of the list up to a place: what is said to be last stands after it.
+    pub fn unknown(place: usize) -> Passed
+        requires { place ≤ most_states }
+        ensures { (place + 1 < result.start) × (place + 1 < result.mark) × (result.made ≡ false) }
+    {
+        Passed {
+            start: place + 2,
+            mark: place + 2,
             searches: 0,
             made: false,
-        };
+        }
     }
-    Passed {
-        start: start,
-        mark: mark,
-        searches: passed.searches,
-        made: passed.made,
+
+    // What is known with these as the last loop start and the last mark: another loop start has searches and tables of its
+    // own.
+    pub fn moved(self, start: usize, mark: usize) -> Passed
+        ensures { Moved self start mark result }
+    {
+        if start != self.start {
+            return Passed {
+                start,
+                mark,
+                searches: 0,
+                made: false,
+            };
+        }
+        Passed { mark, ..self }
     }
 }

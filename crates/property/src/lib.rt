@@ -29,12 +29,10 @@ pub fn has_zero_mask(file: &[u8], h: Header) -> bool
 {
     let m = h.edges;
     let masks = total_of(h.states, m);
-    let mut e = 0;
-    while e < m {
+    for e in 0..m {
         if entry_at(file, masks, e) == 0 {
             return true;
         }
-        e += 1;
     }
     false
 }
@@ -45,8 +43,7 @@ pub fn target_part(file: &[u8], h: Header, q: usize) -> &[u8]
     requires q_lt_states { q < h.states }
     ensures { words result.now ≡ row_targets file.now q }
 {
-    let states = h.states;
-    row(file, states, q)
+    row(file, h.states, q)
 }
 
 // The part of the file that holds the masks of one state's row.
@@ -73,12 +70,10 @@ pub fn count_holding(masks: &[u8], letter: usize) -> usize
 {
     let count = masks.len() / 2;
     let mut held = 0;
-    let mut k = 0;
-    while k < count {
+    for k in 0..count {
         if mask_holds(word(masks, 2 * k), letter) {
             held += 1;
         }
-        k += 1;
     }
     held
 }
@@ -89,7 +84,5 @@ pub fn property_marked(file: &[u8], h: Header, q: usize) -> bool
     requires q_lt_states { q < h.states }
     ensures { result ≡ mark_bit file.now 0 q }
 {
-    let states = h.states;
-    let edges = h.edges;
-    bit(file, table_at(states, edges, 0), q)
+    bit(file, table_at(h.states, h.edges, 0), q)
 }

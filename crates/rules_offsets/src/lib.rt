@@ -18,12 +18,10 @@ fn total_fits(file: &[u8], n: usize, total: usize, tables: usize) -> bool
 {
     let size = mark_bytes(n);
     let given = long(file, 20);
-    let mut further: usize = 0;
-    while further < tables {
+    for further in 0..tables {
         if given == total + further * size {
             return true;
         }
-        further += 1;
     }
     false
 }
@@ -37,16 +35,8 @@ pub fn offsets_broken(file: &[u8], n: usize, m: usize, total: usize, tables: usi
     requires total_bound { (total ≤ 65535) × (tables ≤ 2) }
     ensures { result ≡ bad_offsets total tables file.now }
 {
-    let edges = edges_at(n);
-    let marks = marks_at(n, m);
-    if long(file, 8) != 24 {
-        return true;
-    }
-    if long(file, 12) != edges {
-        return true;
-    }
-    if long(file, 16) != marks {
-        return true;
-    }
-    !total_fits(file, n, total, tables)
+    long(file, 8) != 24
+        || long(file, 12) != edges_at(n)
+        || long(file, 16) != marks_at(n, m)
+        || !total_fits(file, n, total, tables)
 }

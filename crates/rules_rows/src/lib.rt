@@ -17,12 +17,10 @@ pub fn rows_broken(file: &[u8], n: usize, m: usize) -> bool
     if row_entry(file, 0) != 0 {
         return true;
     }
-    let mut s = 0;
-    while s < n {
+    for s in 0..n {
         if row_entry(file, s + 1) < row_entry(file, s) {
             return true;
         }
-        s += 1;
     }
     row_entry(file, n) != m
 }
@@ -33,12 +31,10 @@ pub fn targets_broken(file: &[u8], n: usize, m: usize) -> bool
     ensures { result ≡ bad_targets file.now }
 {
     let base = edges_at(n);
-    let mut e = 0;
-    while e < m {
+    for e in 0..m {
         if n <= entry_at(file, base, e) {
             return true;
         }
-        e += 1;
     }
     false
 }
@@ -48,12 +44,10 @@ fn ascends(part: &[u8]) -> bool
     ensures { result ≡ ascendingb (words part.now) }
 {
     let count = part.len() / 2;
-    let mut k = 0;
-    while k + 1 < count {
-        if word(part, 2 * (k + 1)) <= word(part, 2 * k) {
+    for k in 1..count {
+        if word(part, 2 * k) <= word(part, 2 * (k - 1)) {
             return false;
         }
-        k += 1;
     }
     true
 }
@@ -64,12 +58,10 @@ pub fn order_broken(file: &[u8], n: usize, m: usize) -> bool
     requires file_value { bad_rows file.now ≡ false }
     ensures { result ≡ bad_order file.now }
 {
-    let mut s = 0;
-    while s < n {
+    for s in 0..n {
         if !ascends(row(file, n, s)) {
             return true;
         }
-        s += 1;
     }
     false
 }

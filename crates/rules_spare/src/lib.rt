@@ -15,12 +15,10 @@ fn spare_of_table(file: &[u8], n: usize, m: usize, t: usize) -> bool
 {
     let at = table_at(n, m, t);
     let end = 8 * mark_bytes(n);
-    let mut s = n;
-    while s < end {
+    for s in n..end {
         if bit_if_there(file, at, s) {
             return true;
         }
-        s += 1;
     }
     false
 }
@@ -31,12 +29,10 @@ pub fn spare_set(file: &[u8], n: usize, m: usize, tables: usize) -> bool
     requires tables_bound { tables ≤ 2 }
     ensures { result ≡ bad_spare tables file.now }
 {
-    let mut t: usize = 0;
-    while t < tables {
+    for t in 0..tables {
         if spare_of_table(file, n, m, t) {
             return true;
         }
-        t += 1;
     }
     false
 }

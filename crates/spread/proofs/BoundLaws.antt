@@ -6,7 +6,6 @@ use mathlib.Core.List.{List, [], ◌∷◌}
 use mathlib.Core.Logic.{inl, inr}
 use mathlib.Core.Option.{Option, some, none}
 use native.Mathlib.Omega.{arith}
-use native.Mathlib.Nat.{le_refl}
 use lib.ListN.{length, get_or}
 use lib.Dec.{T, eqb, eqb_refl}
 use Rattle.lists.specs.Lists.{memb}
@@ -20,7 +19,8 @@ use Rattle.frontier.specs.Regions.{entry, value_of}
 use Rattle.frontier.specs.Buckets.{sources, Greatest, SourcesListed, Planned}
 use Rattle.hits.specs.Hit.{hit_length}
 use Rattle.edge_search.specs.Promises.{Apart, ApartInPlan, Spread}
-use Rattle.spread.specs.Bounds.{LevelListed, Bounds, BoundsInPlan}
+use Rattle.std.specs.Prelude as std
+use Rattle.spread.specs.Bounds.{LevelListed, OwnLevel, BoundsInPlan}
 use Rattle.edge_search.specs.declared.SpreadAnswer.TheVariants.{Length, Nothing}
 use Rattle.hits.proofs.HitLaws.{Timed, hit_length_least, hit_length-under}
 
@@ -100,34 +100,37 @@ module _ (n limit b : ℕ) (origin : List ℕ) (less : b ≤ limit) where
       }
 
 module _ (g : Graph) (limit target : ℕ) (w : List ℕ) where
-  -- where the target has not itself as its only successor the limit bounds the search
-  pub limit_bounds : (g.succs target ≡ target ∷ [] → ⊥) → BoundsInPlan g limit target w limit
-  limit_bounds other origin P = record { within = le_refl limit; apart = λ e. absurd (other e); level = λ l. absurd (omega arith) }
-
   -- the level of a target whose only successor is itself bounds the search
-  pub level_bounds : (level : ℕ) → target < g.size → g.succs target ≡ target ∷ [] → LevelListed g.size limit target w level
+  pub level_bounds : (level : std.Option ℕ) → target < g.size → g.succs target ≡ target ∷ [] → LevelListed g.size limit target w level
       → BoundsInPlan g limit target w level
-  level_bounds level inside alone L origin P =
-      record {
-        within = L.within;
-        apart = λ e. none_below (sources g.size level origin target) refl;
-        level = λ l. (inside, alone, L.listed l origin P);
-      }
+  level_bounds (std.Some level) inside alone L origin P = record { below = L.0; inside = inside; alone = alone; source = L.1 origin P }
+  level_bounds std.None inside alone L origin P = λ e. none_listed (sources g.size limit origin target) refl
     where
-      none_below : (o : Option ℕ) → sources g.size level origin target ≡ o → sources g.size level origin target ≡ none
+      none_listed : (o : Option ℕ) → sources g.size limit origin target ≡ o → sources g.size limit origin target ≡ none
+      none_listed none q = q
+      none_listed (some a) q =
+          absurd (L a (under_some limit (value_of (entry 2 g.size origin target)) a q).1 origin P q)
+
+module _ {g : Graph} {limit target : ℕ} {w : List ℕ} {b : ℕ} (B : OwnLevel g limit target w b) where
+  -- such a target is apart up to its own level
+  pub own_apart : Apart g b target w
+  own_apart e = none_below (sources g.size b w target) refl
+    where
+      none_below : (o : Option ℕ) → sources g.size b w target ≡ o → sources g.size b w target ≡ none
       none_below none q = q
       none_below (some a) q =
-          let up = source_up g.size limit level origin L.within target a q in absurd (L.none_before a up.1 origin P up.0)
+          let up = source_up g.size limit b w (omega (arith, B.below)) target a q in
+          let same : a ≡ b = cc (up.0, B.source) in absurd (omega (arith, up.1))
 
-module _ {g : Graph} {limit target : ℕ} {w : List ℕ} {b : ℕ} (w' : List ℕ) (B : Bounds g limit target w b) where
+module _ {g : Graph} {limit target : ℕ} {w : List ℕ} {b : ℕ} (w' : List ℕ) (B : OwnLevel g limit target w b) where
   -- lengths up to the bound are those that sources below it give
   same_lengths : under (suc b) (hit_length g (sources g.size limit w) target) ≡ under (suc b) (hit_length g (sources g.size b w) target)
   same_lengths =
       let all : ℕ → Option ℕ = λ s. value_of (entry 2 g.size w s) in
       let whole : Option ℕ = hit_length g (sources g.size limit w) target in
-      sym (under-under (suc b) (suc limit) whole (omega (arith, B.within)))
+      sym (under-under (suc b) (suc limit) whole (omega (arith, B.below)))
       ∙ ap (under (suc b)) (hit_length-under g limit all target)
-      ∙ under-under (suc b) (suc limit) (hit_length g all target) (omega (arith, B.within))
+      ∙ under-under (suc b) (suc limit) (hit_length g all target) (omega (arith, B.below))
       ∙ sym (hit_length-under g b all target)
 
   -- a length found up to the bound is the one up to the limit
@@ -135,17 +138,16 @@ module _ {g : Graph} {limit target : ℕ} {w : List ℕ} {b : ℕ} (w' : List �
   found_before l F =
       let whole : Option ℕ = hit_length g (sources g.size limit w) target in
       let least = under_some (suc b) whole l (same_lengths ∙ F.length) in
-      record { outside = F.outside; length = some_under (suc limit) whole l least.0 (omega (arith, least.1, B.within)) }
+      record { outside = F.outside; length = some_under (suc limit) whole l least.0 (omega (arith, least.1, B.below)) }
 
   -- if none is found up to the bound, below the limit, the step from the target to itself has the least
-  pub found_itself : WellFormed g → b < limit → (count : ℕ) → Spread g b target w w' (Nothing count) → Spread g limit target w w' (Length (b + 1))
-  found_itself wf less count N =
-      let level = B.level less in
+  pub found_itself : WellFormed g → (count : ℕ) → Spread g b target w w' (Nothing count) → Spread g limit target w w' (Length (b + 1))
+  found_itself wf count N =
       let source : ℕ → Option ℕ = sources g.size limit w in
       let whole : Option ℕ = hit_length g source target in
-      let own : source target ≡ some b = level.2 in
+      let own : source target ≡ some b = B.source in
       let P : ℕ → Type 0 = Timed g.size source (λ s m. (1 ≤ m) × Walk g s target m) in
-      let step : P (b + 1) = (target, b, 1, level.0, own, (omega arith, walk_edge (own_edge g target level.1)), omega arith) in
+      let step : P (b + 1) = (target, b, 1, B.inside, own, (omega arith, walk_edge (own_edge g target B.alone)), omega arith) in
       let (m, is, most) = is_least_le P whole (hit_length_least wf source target) (b + 1) step in
       let not_less : suc b ≤ m =
       elim (lt_or_ge m (suc b)) [

@@ -12,7 +12,7 @@ ghost use Rattle.spread.specs.Bounds.{ListedAt, LevelListed, BoundsInPlan};
 
 use edge_search::{SpreadAnswer, search_edges};
 use frontier::plan;
-use model::{Header, degree, row_part, successor};
+use model::{Header, successors_of};
 use table::get;
 
 // State s is in the list of a level, in a plan up to the limit, which the contract alone needs. Lists descend.
@@ -32,8 +32,8 @@ fn is_listed(work: &[u16], n: usize, limit: usize, level: usize, s: usize) -> bo
     cursor == s + 1
 }
 
-// The level in whose list state s is, or the limit if it is in none.
-fn listed_level(work: &[u16], n: usize, limit: usize, s: usize) -> usize
+// The level in whose list state s is.
+fn listed_level(work: &[u16], n: usize, limit: usize, s: usize) -> Option<usize>
     requires n_le_most_states { n ≤ most_states }
     requires limit_le_n { limit ≤ n }
     requires s_lt_n { s < n }
@@ -41,19 +41,17 @@ fn listed_level(work: &[u16], n: usize, limit: usize, s: usize) -> usize
     requires has_plan { HasPlan n limit work.now }
     ensures { LevelListed n limit s work.now result }
 {
-    let mut level = 0;
-    while level < limit {
+    for level in 0..limit {
         if is_listed(work, n, limit, level, s) {
-            return level;
+            return Some(level);
         }
-        level += 1;
     }
-    limit
+    None
 }
 
-// How far a search has to look: up to the level of the target, if that is a source below the limit whose only successor
-// is itself, else up to the limit.
-fn search_bound(file: &[u8], h: Header, work: &[u16], limit: usize, target: usize) -> usize
+// How far a search has to look, if not up to the limit: up to the level of the target, if that is a source below the limit
+// whose only successor is itself.
+fn search_bound(file: &[u8], h: Header, work: &[u16], limit: usize, target: usize) -> Option<usize>
     requires valid { Valid file.now h }
     requires limit_le_states { limit ≤ h.states }
     requires states_in_bounds { 6 * h.states ≤ length work.now }
@@ -62,14 +60,11 @@ fn search_bound(file: &[u8], h: Header, work: &[u16], limit: usize, target: usiz
 {
     let n = h.states;
     if n <= target {
-        return limit;
+        return None;
     }
-    let part = row_part(file, h, target);
-    if degree(part, h, target) != 1 {
-        return limit;
-    }
-    if successor(part, h, target, 0) != target {
-        return limit;
+    let successors = successors_of(file, h, target);
+    if successors.len() != 1 || successors.target(0) != target {
+        return None;
     }
     listed_level(work, n, limit, target)
 }
@@ -90,17 +85,13 @@ pub fn search_planned(
     ensures { SearchedFromPlan (graph_in file.now h) limit target
         work.old work.new result }
 {
-    let bound = search_bound(file, h, work, limit, target);
-    if limit <= bound {
+    let Some(bound) = search_bound(file, h, work, limit, target) else {
         return search_edges(file, h, work, limit, target);
-    }
+    };
     let answer = search_edges(file, h, work, bound, target);
     match answer {
         SpreadAnswer::Length(_) => answer,
-        SpreadAnswer::Nothing(_) => {
-            let length = bound + 1;
-            SpreadAnswer::Length(length)
-        }
+        SpreadAnswer::Nothing(_) => SpreadAnswer::Length(bound + 1),
     }
 }
 

@@ -15,7 +15,7 @@ ghost use Rattle.starts.specs.Flags.{FlagsRow, FlagsStarts};
 
 use edge_search::SpreadAnswer;
 use lasso::Transitions;
-use model::{Header, degree, row_part, successor};
+use model::{Header, successors_of};
 use table::{clear, get, put};
 use walks::loop_length;
 
@@ -28,15 +28,12 @@ fn flag_row(file: &[u8], h: Header, work: &mut [u16], u: usize)
 {
     let n = h.states;
     let distance = get(work, u);
-    let part = row_part(file, h, u);
-    let d = degree(part, h, u);
-    let mut k = 0;
-    while k < d {
-        let t = successor(part, h, u, k);
+    let successors = successors_of(file, h, u);
+    for k in 0..successors.len() {
+        let t = successors.target(k);
         if get(work, t) <= distance {
             put(work, n + t, 1);
         }
-        k += 1;
     }
 }
 
@@ -49,12 +46,10 @@ fn flag_starts(file: &[u8], h: Header, work: &mut [u16])
 {
     let n = h.states;
     clear(work, n, 2 * n);
-    let mut u = 0;
-    while u < n {
+    for u in 0..n {
         if get(work, u) != 0 {
             flag_row(file, h, work, u);
         }
-        u += 1;
     }
 }
 
@@ -67,11 +62,8 @@ fn start_loop(file: &[u8], h: Header, work: &mut [u16], transitions: Transitions
     ensures same { SameOutside (2 * h.states) (6 * h.states) work.old work.new }
 {
     let reached = get(work, s);
-    if reached == 0 {
-        return 0;
-    }
     let most = transitions.number();
-    if most < reached {
+    if reached == 0 || most < reached {
         return 0;
     }
     let answer = loop_length(file, h, work, s, most + 1 - reached);
@@ -90,12 +82,10 @@ pub fn prepare_starts(file: &[u8], h: Header, work: &mut [u16], transitions: Tra
 {
     let n = h.states;
     flag_starts(file, h, work);
-    let mut s = 0;
-    while s < n {
+    for s in 0..n {
         if get(work, n + s) != 0 {
             let value = start_loop(file, h, work, transitions, s);
             put(work, n + s, value);
         }
-        s += 1;
     }
 }

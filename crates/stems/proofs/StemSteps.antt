@@ -7,8 +7,7 @@ use mathlib.Core.Option.{some}
 use lib.ListN.{get_or}
 use Rattle.lasso.specs.Graph.{Graph, WellFormed}
 use Rattle.lasso.specs.Roll.{least_length}
-use Rattle.table.specs.Changes.{SameOutside, Copied}
-use Rattle.table.proofs.Laws.{same_outside_widen, same_outside_trans}
+use Rattle.table.specs.Changes.{Copied}
 use Rattle.frontier.specs.Regions.{entry, entry_of}
 use Rattle.frontier.specs.Search.{Queue}
 use Rattle.walks.specs.Through.{DistancesWithin}
@@ -58,14 +57,3 @@ module _ {g : Graph} {l count : ℕ} {w₁ w₂ w₃ : List ℕ} (wf : WellForme
                 ∙ loops_same s h)
                 (put.put s h);
           }
-
-      -- regions 1 to 5 alone changed
-      pub stems_outside : {w : List ℕ} → SameOutside g.size (6 * g.size) w w₁ → SameOutside g.size (6 * g.size) w w₅
-      stems_outside first =
-          let from = g.size in
-          let to = 6 * g.size in
-          same_outside_trans first
-          (same_outside_trans (same_outside_widen from to (omega arith) (omega arith) away.outside)
-          (same_outside_trans (same_outside_widen from to (omega arith) (omega arith) copied.others)
-          (same_outside_trans (same_outside_widen from to (omega arith) (omega arith) kept.outside)
-          (same_outside_widen from to (omega arith) (omega arith) put.outside))))

@@ -9,7 +9,7 @@ ghost use Rattle.lasso.specs.Roll.{least_length};
 ghost use Rattle.model.specs.Model.{graph_in};
 ghost use Rattle.table.specs.Changes.{SameOutside};
 ghost use Rattle.candidates.specs.Promises.{RoundsReady};
-ghost use Rattle.stems.specs.Stems.{StemEntries, flag_of, LevelsFit, StemsPut};
+ghost use Rattle.stems.specs.Stems.{StemEntries, LevelsFit, StemsPut};
 
 use lasso::Transitions;
 use model::Header;
@@ -18,16 +18,6 @@ use table::{copy, get, put};
 use walks::distances_from;
 use ways::keep_ways;
 
-// 1 for an entry that stands for a value, else 0.
-fn flag(entry: usize) -> usize
-    ensures { result ≡ flag_of entry }
-{
-    if entry == 0 {
-        return 0;
-    }
-    1
-}
-
 // Puts the entries of the stems into region 1: twice the level of region 2, and 1 more for a loop start.
 fn put_stems(work: &mut [u16], n: usize)
     requires n_le_most_states { n ≤ most_states }
@@ -35,12 +25,10 @@ fn put_stems(work: &mut [u16], n: usize)
     requires levels_fit { LevelsFit n work.old }
     ensures { StemsPut n n work.old work.new }
 {
-    let mut s = 0;
-    while s < n {
+    for s in 0..n {
         let level = get(work, 2 * n + s);
-        let one = flag(get(work, n + s));
+        let one = usize::from(get(work, n + s) != 0);
         put(work, n + s, 2 * level + one);
-        s += 1;
     }
 }
 

@@ -1,17 +1,11 @@
--- Laws of changed tables: tables that are the same outside a range, one store, and tables cleared or copied entry by entry.
-use Prim.Native.Nat.{ℕ, ◌+◌, ◌≤◌, ◌<◌}
+-- Laws of changed tables: tables that are the same outside a range, one store, and a table that is cleared as a whole.
+use Prim.Native.Nat.{ℕ, ◌≤◌, ◌<◌}
 use mathlib.Core.Path.{◌≡◌, refl, sym, ◌∙◌}
-use mathlib.Core.Logic.{◌⊎◌, ⊎_elim}
 use mathlib.Core.List.{List}
-use native.Mathlib.Nat.{eq-or-lt_of_le}
 use native.Mathlib.Omega.{arith}
-use lib.ListN.{length, get_or, set, replicate, length-set, length-replicate, get_or-replicate}
-use lib.Seq.{get_or-set_same, get_or-set_other, ext_get_or}
-use Rattle.table.specs.Changes.{SameOutside, Cleared, Copied}
-
--- a number below i + 1 is i or below i
-pub last_or_below : (s i : ℕ) → s < i + 1 → (s ≡ i) ⊎ (s < i)
-last_or_below s i l = let q : s ≤ i = omega arith in eq-or-lt_of_le q
+use lib.ListN.{length, set, replicate, length-set, length-replicate, get_or-replicate}
+use lib.Seq.{get_or-set_other, ext_get_or}
+use Rattle.table.specs.Changes.{SameOutside, Cleared}
 
 -- a table is the same as itself
 pub same_outside_refl : (from to : ℕ) (w : List ℕ) → SameOutside from to w w
@@ -57,21 +51,6 @@ set_same_outside w at v from to p q =
 pub same_outside_set : {from to : ℕ} {w w' : List ℕ} (at v : ℕ) → from ≤ at → at < to → SameOutside from to w w' → SameOutside from to w (set w' at v)
 same_outside_set {from} {to} {w' = w'} at v p q s = same_outside_trans s (set_same_outside w' at v from to p q)
 
--- nothing is cleared by a range of no entries
-pub cleared_none : (from : ℕ) (w : List ℕ) → Cleared from from w w
-cleared_none from w = record { others = same_outside_refl from from w; zeros = λ i p q. absurd (omega arith) }
-
--- one more entry is cleared by storing zero after the cleared ones
-pub cleared_more : (from at : ℕ) (w w' : List ℕ) → from ≤ at → at < length w → Cleared from at w w' → Cleared from (at + 1) w (set w' at 0)
-cleared_more from at w w' p q c =
-    record {
-      others = same_outside_set at 0 p (omega arith) (same_outside_widen from (at + 1) (omega arith) (omega arith) c.others);
-      zeros = λ i h l. ⊎_elim (λ e. rw e (get_or-set_same w' at 0 0 inside)) (λ k. get_or-set_other w' at i 0 0 (omega arith) ∙ c.zeros i h k) (last_or_below i at l);
-    }
-  where
-    inside : at < length w'
-    inside = omega (arith, c.others.same_length)
-
 -- a table that is cleared as a whole holds zeros
 pub cleared_all : (w w' : List ℕ) → Cleared 0 (length w) w w' → w' ≡ replicate (length w) 0
 cleared_all w w' c =
@@ -79,25 +58,3 @@ cleared_all w w' c =
   where
     inside : (i : ℕ) → i < length w' → i < length w
     inside i h = omega (arith, c.others.same_length)
-
--- nothing is copied by a copy of no entries
-pub copied_none : (from to : ℕ) (w : List ℕ) → Copied from to 0 w w
-copied_none from to w = record { others = same_outside_refl to (to + 0) w; copies = λ i l. absurd (omega arith) }
-
--- one more entry is copied by storing it after the copies: it stands as before, since the two parts are apart
-pub copied_more : (from to m n : ℕ) (w w' : List ℕ) (at source : ℕ) → at ≡ to + n → source ≡ from + n → (to + m ≤ from) ⊎ (from + m ≤ to) → n < m → to + n < length w → Copied from to n w w'
-    → Copied from to (n + 1) w (set w' at (get_or w' source 0))
-copied_more from to m n w w' at source at_is source_is apart l q c =
-    rw (at_is, source_is)
-    record {
-      others = same_outside_set (to + n) (get_or w' (from + n) 0) (omega arith) (omega arith) (same_outside_widen to (to + (n + 1)) (omega arith) (omega arith) c.others);
-      copies = λ i l. ⊎_elim (λ e. rw e here) (λ k. get_or-set_other w' (to + n) (to + i) (get_or w' (from + n) 0) 0 (omega arith) ∙ c.copies i k) (last_or_below i n l);
-    }
-  where
-    inside : to + n < length w'
-    inside = omega (arith, c.others.same_length)
-
-    here : get_or (set w' (to + n) (get_or w' (from + n) 0)) (to + n) 0 ≡ get_or w (from + n) 0
-    here =
-        get_or-set_same w' (to + n) (get_or w' (from + n) 0) 0 inside
-        ∙ ⊎_elim (λ a. c.others.same_after (from + n) (omega arith)) (λ a. c.others.same_before (from + n) (omega arith)) apart

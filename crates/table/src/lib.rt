@@ -28,11 +28,7 @@ pub fn clear(table: &mut [u16], from: usize, to: usize)
     requires to_in_bounds { to ≤ length table.old }
     ensures { Cleared from to table.old table.new }
 {
-    let mut i = from;
-    while i < to {
-        table[i] = 0;
-        i += 1;
-    }
+    table[from..to].fill(0);
 }
 
 // Copies n entries from one place to another; the two parts are apart.
@@ -42,9 +38,5 @@ pub fn copy(table: &mut [u16], from: usize, to: usize, n: usize)
     requires n_in_bounds_2 { to + n ≤ length table.old }
     ensures { Copied from to n table.old table.new }
 {
-    let mut i = 0;
-    while i < n {
-        table[to + i] = table[from + i];
-        i += 1;
-    }
+    table.copy_within(from..from + n, to);
 }

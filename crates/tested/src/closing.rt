@@ -26,19 +26,15 @@ fn closes_marked(file: &[u8], h: Header, work: &[u16], place: usize, left: usize
 {
     let n = h.states;
     let mut marked = false;
-    let mut k = place + 1;
-    while 0 < k {
-        k -= 1;
+    for k in (0..=place).rev() {
         let s = list_at(h, work, k);
         if is_marked(file, h, s) {
             marked = true;
         }
         if marked {
             let level = get(work, 2 * n + s);
-            if level != 0 {
-                if level <= left + 1 {
-                    return true;
-                }
+            if level != 0 && level <= left + 1 {
+                return true;
             }
         }
     }
@@ -55,18 +51,12 @@ fn closes_start(h: Header, work: &[u16], place: usize, left: usize) -> bool
     ensures { Decides (ClosesStart h.states h.start work.now place left) result }
 {
     let n = h.states;
-    let mut k = 0;
-    while k <= place {
+    for k in 0..=place {
         let s = list_at(h, work, k);
         let level = get(work, 2 * n + s);
-        if get(work, n + s) % 2 == 1 {
-            if level != 0 {
-                if level <= left + 1 {
-                    return true;
-                }
-            }
+        if get(work, n + s) % 2 == 1 && level != 0 && level <= left + 1 {
+            return true;
         }
-        k += 1;
     }
     false
 }

@@ -37,17 +37,9 @@ fn ensure_tables(
         work.new }
     ensures same { SameOutside (2 * h.states) (6 * h.states) work.old work.new }
 {
-    if made {
-        return;
+    if !made {
+        make_tables(file, h, work, transitions, b);
     }
-    make_tables(file, h, work, transitions, b);
-}
-
-// The answer of a test: whether the state may stand there, and what is known of the list then.
-#[derive(Clone, Copy)]
-pub struct Tested {
-    pub yes: bool,
-    pub passed: Passed,
 }
 
 // So many tests after a loop start are done by a search each; the next one makes the tables, which cost more.
@@ -62,58 +54,34 @@ pub fn may_follow(
     transitions: Transitions,
     place: usize,
     t: usize,
-    passed: Passed,
-) -> Tested
+    passed: &mut Passed,
+) -> bool
     requires prepared { Prepared file.now h work.old transitions.0 }
     requires place_lt_transitions { place < transitions.0 }
     requires t_lt_states { t < h.states }
     requires t { T (pathb (graph_in file.now h) (list_in h.start work.old place ++ t ∷ [])) }
-    requires passed_at { PassedAt file.now h work.old transitions.0 place passed }
-    ensures { TestSays file.now h work.old work.new transitions.0 place t result }
+    requires passed_at { PassedAt file.now h work.old transitions.0 place passed.old }
+    ensures { TestSays file.now h work.old work.new transitions.0 place t result passed.new }
 {
     let n = h.states;
     let start = passed.start;
     let mark = passed.mark;
     if get(work, n + t) / 2 == place + 2 {
-        return Tested {
-            yes: true,
-            passed: passed,
-        };
+        return true;
     }
     if start == 0 {
-        return Tested {
-            yes: false,
-            passed: passed,
-        };
+        return false;
     }
     let b = start - 1;
     if place + 1 == transitions.number() {
-        return Tested {
-            yes: at_last(h, work, start, mark, t),
-            passed: passed,
-        };
+        return at_last(h, work, start, mark, t);
     }
-    let searches = passed.searches;
-    if searches < SEARCHES {
-        let done = searches + 1;
-        return Tested {
-            yes: may_close(file, h, work, transitions, place, t),
-            passed: Passed {
-                start: start,
-                mark: mark,
-                searches: done,
-                made: false,
-            },
-        };
+    if passed.searches < SEARCHES {
+        passed.searches += 1;
+        passed.made = false;
+        return may_close(file, h, work, transitions, place, t);
     }
     ensure_tables(file, h, work, transitions, b, passed.made);
-    Tested {
-        yes: before_last(n, work, b, mark, place, t),
-        passed: Passed {
-            start: start,
-            mark: mark,
-            searches: searches,
-            made: true,
-        },
-    }
+    passed.made = true;
+    before_last(n, work, b, mark, place, t)
 }

@@ -1,11 +1,10 @@
 -- Writers one after the other: what two of them write is what one would write that writes both.
-use Prim.Native.Nat.{ℕ, ◌+◌, ◌≤◌, ◌<◌}
-use mathlib.Core.Path.{◌≡◌, refl, sym, ◌∙◌, ap, subst}
-use mathlib.Core.List.{List, [], ◌∷◌, ◌++◌, append_assoc, append-nil}
-use native.Mathlib.Numerals.{add-one}
+use Prim.Native.Nat.{ℕ, ◌+◌, ◌≤◌}
+use mathlib.Core.Path.{◌≡◌, sym, ◌∙◌, ap, subst}
+use mathlib.Core.List.{List, [], ◌++◌, append_assoc, append-nil}
 use native.Mathlib.Omega.{arith}
-use lib.ListN.{length, take, drop, set, length-append, length-take, length-drop, take-append-drop}
-use lib.Seq.{length-take-le, set_split, take_at, drop_at, drop-drop}
+use lib.ListN.{length, take, drop, length-append, length-take, length-drop, take-append-drop}
+use lib.Seq.{length-take-le, take_at, drop_at, drop-drop}
 use Rattle.text.specs.Writing.{Wrote, Within}
 
 -- the text keeps its length
@@ -21,18 +20,6 @@ wrote_none t at fits =
       text = sym (ap (λ (k : ℕ). take at t ++ [] ++ drop k t) e ∙ ap (λ (p : List ℕ). p ++ drop at t) (append-nil (take at t)) ∙ take-append-drop at t);
       place = sym e;
     }
-
--- one byte is stored
-pub wrote_byte : (t : List ℕ) (at byte : ℕ) → at < length t → Wrote t at (byte ∷ []) (set t at byte) (at + 1)
-wrote_byte t at byte fits =
-    record {
-      room = omega arith;
-      text = set_split t at byte fits ∙ ap (λ (k : ℕ). take at t ++ byte ∷ drop k t) (sym (add-one at)) ∙ sym (snoc (take at t) (drop (at + 1) t));
-      place = refl;
-    }
-  where
-    snoc : (p q : List ℕ) → p ++ (byte ∷ []) ++ q ≡ p ++ byte ∷ q
-    snoc p q = append_assoc p (byte ∷ []) q
 
 -- two writers, one after the other
 pub wrote_then : {t : List ℕ} {at : ℕ} {b b' t' t'' : List ℕ} {next next' : ℕ} → Wrote t at b t' next → Wrote t' next b' t'' next'

@@ -20,13 +20,8 @@ pub fn write_bytes(text: &mut [u8], at: usize, bytes: &[u8]) -> usize
     requires { at + length bytes.now ≤ length text.old }
     ensures { Wrote text.old at bytes.now text.new result }
 {
-    let mut next = at;
-    let mut i = 0;
-    while i < bytes.len() {
-        let byte = bytes[i];
-        next = write_byte(text, next, byte);
-        i += 1;
-    }
+    let next = at + bytes.len();
+    text[at..next].copy_from_slice(bytes);
     next
 }
 
@@ -36,10 +31,10 @@ pub fn write_number(text: &mut [u8], at: usize, n: usize) -> usize
     ensures { Wrote text.old at (decimal n) text.new result }
 {
     if n < 10 {
-        return write_byte(text, at, 48 + n as u8);
+        return write_byte(text, at, b'0' + n as u8);
     }
     let next = write_number(text, at, n / 10);
-    write_byte(text, next, 48 + (n % 10) as u8)
+    write_byte(text, next, b'0' + (n % 10) as u8)
 }
 
 // Writes a line with a word and a number.

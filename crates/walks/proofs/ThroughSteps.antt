@@ -2,7 +2,6 @@
 -- its level into distances; the levels of the marked states are kept and the search goes on from them.
 use Prim.Native.Nat.{ℕ, suc, ◌+◌, ◌*◌, ◌≤◌, ◌<◌}
 use mathlib.Core.Path.{◌≡◌, refl, ◌∙◌, ap}
-use mathlib.Core.Logic.{inl, inr}
 use mathlib.Core.Bool.{Bool, true, false}
 use mathlib.Core.List.{List}
 use mathlib.Core.Option.{some}
@@ -12,9 +11,8 @@ use lib.ListN.{length, get_or, set, length-set}
 use lib.Seq.{get_or-set_same, get_or-set_other}
 use Rattle.lists.specs.Lists.{pick}
 use Rattle.lasso.specs.Graph.{Graph, WellFormed}
-use Rattle.lists.proofs.Tests.{lt_or_ge}
 use Rattle.table.specs.Changes.{SameOutside, Cleared}
-use Rattle.table.proofs.Laws.{same_outside_refl, same_outside_sym, set_same_outside, same_outside_set, same_outside_trans, same_outside_widen}
+use Rattle.table.proofs.Laws.{same_outside_sym, set_same_outside, same_outside_set, same_outside_trans, same_outside_widen}
 use Rattle.edge_search.specs.declared.SpreadAnswer.{SpreadAnswer}
 use Rattle.edge_search.specs.declared.SpreadAnswer.TheVariants.{Nothing}
 use Rattle.frontier.specs.Regions.{entry, value_of}
@@ -140,51 +138,6 @@ pub record KeptBelow (marked : ℕ → Bool) (n i : ℕ) (w w' : List ℕ) : Typ
   pub outside : SameOutside (2 * n) (3 * n) w w'
   pub passed : (s : ℕ) → s < i → entry 2 n w' s ≡ pick (marked s) (entry 2 n w s) 0
   pub rest : (s : ℕ) → i ≤ s → entry 2 n w' s ≡ entry 2 n w s
-
--- at first all entries are kept
-pub kept_none : (marked : ℕ → Bool) (n : ℕ) (w : List ℕ) → KeptBelow marked n 0 w w
-kept_none marked n w =
-    record {
-      outside = same_outside_refl (2 * n) (3 * n) w;
-      passed = λ s l. absurd (omega arith);
-      rest = λ s l. refl;
-    }
-
--- one state more is passed if its entry is the one that it is to have
-kept_next : {marked : ℕ → Bool} {n i : ℕ} {w w' : List ℕ} → KeptBelow marked n i w w'
-    → entry 2 n w' i ≡ pick (marked i) (entry 2 n w i) 0 → KeptBelow marked n (i + 1) w w'
-kept_next {marked} {n} {i} {w} {w'} k e =
-    record {
-      outside = k.outside;
-      passed = λ s l. elim (lt_or_ge s i) [ inl p ↦ k.passed s p | inr p ↦ let q : s ≡ i = omega arith in rw q e ];
-      rest = λ s l. k.rest s (omega arith);
-    }
-
--- the entry of a marked state stays
-pub kept_marked : {marked : ℕ → Bool} {n i : ℕ} {w w' : List ℕ} → KeptBelow marked n i w w' → marked i ≡ true
-    → KeptBelow marked n (i + 1) w w'
-kept_marked {i = i} k e = kept_next k (rw e (k.rest i (omega arith)))
-
--- the entry of an unmarked state becomes 0
-pub kept_unmarked : {marked : ℕ → Bool} {n i : ℕ} {w w' : List ℕ} → i < n → 3 * n ≤ length w
-    → KeptBelow marked n i w w' → marked i ≡ false → KeptBelow marked n (i + 1) w (set w' (2 * n + i) 0)
-kept_unmarked {marked} {n} {i} {w} {w'} l b k e =
-    record {
-      outside = same_outside_set (2 * n + i) 0 (omega arith) (omega arith) k.outside;
-      passed = λ s p. elim (lt_or_ge s i) [ inl r ↦ other s (omega arith) ∙ k.passed s r | inr r ↦ let q : s ≡ i = omega arith in rw (q, e) here ];
-      rest = λ s p. other s (omega arith) ∙ k.rest s (omega arith);
-    }
-  where
-    here : entry 2 n (set w' (2 * n + i) 0) i ≡ 0
-    here = get_or-set_same w' (2 * n + i) 0 0 (omega (arith, k.outside.same_length))
-
-    other : (s : ℕ) → (s ≡ i → ⊥) → entry 2 n (set w' (2 * n + i) 0) s ≡ entry 2 n w' s
-    other s d = get_or-set_other w' (2 * n + i) (2 * n + s) 0 0 (λ q. d (omega arith))
-
--- once all states are passed the entries of the marked ones are kept
-pub kept_all : (g : Graph) {i : ℕ} {w w' : List ℕ} → g.size ≤ i → KeptBelow g.marked g.size i w w'
-    → KeptMarked g w w'
-kept_all g l k = record { outside = k.outside; levels = λ s p. k.passed s (omega arith) }
 
 -- one source is put down
 started_single : {n x : ℕ} {w u : List ℕ} → x < n → OneSource n x w u → Single n x (λ s. value_of (entry 2 n u s))

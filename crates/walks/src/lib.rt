@@ -36,12 +36,10 @@ fn keep_marked(file: &[u8], h: Header, work: &mut [u16])
     ensures { KeptMarked (graph_in file.now h) work.old work.new }
 {
     let n = h.states;
-    let mut s = 0;
-    while s < n {
+    for s in 0..n {
         if !is_marked(file, h, s) {
             put(work, 2 * n + s, 0);
         }
-        s += 1;
     }
 }
 

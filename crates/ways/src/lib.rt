@@ -8,7 +8,7 @@ ghost use Rattle.model.specs.Model.{graph_in};
 ghost use Rattle.frontier.specs.Search.{Queue};
 ghost use Rattle.ways.specs.Ways.{LeadsOn, KeptBack};
 
-use model::{Header, degree, row_part, successor};
+use model::{Header, successors_of};
 use table::{get, put};
 
 // Some successor of s has the entry `next` in region 2.
@@ -19,15 +19,12 @@ fn leads_on(file: &[u8], h: Header, work: &[u16], s: usize, next: usize) -> bool
     ensures { Decides (LeadsOn (graph_in file.now h) h.states work.now s next) result }
 {
     let n = h.states;
-    let part = row_part(file, h, s);
-    let d = degree(part, h, s);
-    let mut k = 0;
-    while k < d {
-        let t = successor(part, h, s, k);
+    let successors = successors_of(file, h, s);
+    for k in 0..successors.len() {
+        let t = successors.target(k);
         if get(work, 2 * n + t) == next {
             return true;
         }
-        k += 1;
     }
     false
 }
@@ -41,9 +38,7 @@ pub fn keep_ways(file: &[u8], h: Header, work: &mut [u16], count: usize)
     ensures { KeptBack (graph_in file.now h) h.states work.old work.new }
 {
     let n = h.states;
-    let mut i = count;
-    while 0 < i {
-        i -= 1;
+    for i in (0..count).rev() {
         let s = get(work, 3 * n + i);
         if get(work, 4 * n + s) == 0 {
             let next = get(work, 2 * n + s) + 1;

@@ -7,7 +7,7 @@ ghost use Rattle.text.specs.Writing.{Wrote};
 ghost use Rattle.writer.specs.File.{word16, words16, halves, header_words};
 
 use format::{edges_at, marks_at, total_of};
-use text::write_byte;
+use text::write_bytes;
 
 // Writes a 16-bit number.
 pub fn write_word(out: &mut [u8], at: usize, x: usize) -> usize
@@ -15,8 +15,7 @@ pub fn write_word(out: &mut [u8], at: usize, x: usize) -> usize
     requires x_bound { x < 65536 }
     ensures { Wrote out.old at (word16 x) out.new result }
 {
-    let next = write_byte(out, at, (x % 256) as u8);
-    write_byte(out, next, (x / 256) as u8)
+    write_bytes(out, at, &(x as u16).to_le_bytes())
 }
 
 // Writes a number below 2³² as two of 16 bits.
@@ -25,8 +24,7 @@ fn write_long(out: &mut [u8], at: usize, x: usize) -> usize
     requires x_bound { x < 4294967296 }
     ensures { Wrote out.old at (words16 (halves x)) out.new result }
 {
-    let next = write_word(out, at, x % 65536);
-    write_word(out, next, x / 65536)
+    write_bytes(out, at, &(x as u32).to_le_bytes())
 }
 
 // Writes the header of a model file with n states, m edges, an initial state and one mark table.

@@ -7,64 +7,21 @@ use lib.ListN.{length}
 use Rattle.lists.specs.Lists.{keep}
 use Rattle.format.specs.Bytes.{bitb}
 use Rattle.combine_graph.specs.Combined.{letter_of, combined}
-use Rattle.combine_graph.proofs.CombinedLaws.{some_property_state, state_below, property_below, combined_degree, combined_degree_le}
+use Rattle.combine_graph.proofs.CombinedLaws.{combined_degree, combined_degree_le}
 use Rattle.combine_edges.proofs.pair_degree.Goals as goal
-use Rattle.combine_edges.proofs.pair_degree.Goals.{After-count_holding, After-shared_slice_known-4-1, Start}
-
--- the function's start, from where the letter is read
-abbrev start : After-shared_slice_known-4-1 → Start
-start c = (goal.at.After-shared_slice_known-4-1 c).Start
+use Rattle.combine_edges.proofs.pair_degree.Goals.{After-count_holding}
 
 -- the product is the number of edges
-told : (c : After-count_holding) →
-    let s = start (goal.at.After-count_holding c).After-shared_slice_known-4-1 in
-    c.degree-steps.result * c.count_holding.result
-    ≡ length ((combined s.args.rule.now s.args.letters.now s.args.property.now).succs s.args.c)
+told : (c : After-count_holding) → let a = c.args in
+    c.len-steps.result * c.count_holding.result ≡ length ((combined a.rule.now a.letters.now a.property.now).succs a.c)
 told c =
-    let s = start (goal.at.After-count_holding c).After-shared_slice_known-4-1 in
-    let letter : ℕ = letter_of s.args.letters.now (s.args.c / s.args.k.states) in
-    let steps = c.degree-steps.ensures ∙ ap length c.row_part.ensures in
+    let letter : ℕ = letter_of c.args.letters.now (c.args.c / c.args.k.states) in
+    let steps = c.len-steps.ensures ∙ ap length c.successors_of.ensures in
     let held = c.count_holding.ensures ∙ ap (λ (ms : List ℕ). length (keep (λ (m : ℕ). bitb m letter) ms)) c.mask_part.ensures in
-    ap₂ ◌*◌ steps held ∙ sym (combined_degree s.requires.combinable s.args.c s.requires.c_bound)
-
-pub nonzero_div-s : goal.nonzero_div-s
-nonzero_div-s c = let s = c in some_property_state s.requires.combinable
-
-pub bounds-letters-s : goal.bounds-letters-s
-bounds-letters-s c =
-    let s = (goal.at.bounds-letters-s c).Start in
-    omega (arith, state_below s.requires.combinable s.args.c s.requires.c_bound, s.requires.combinable.letters_length)
-
-pub overflow_cast-letter : goal.overflow_cast-letter
-overflow_cast-letter c =
-    let s = (goal.at.overflow_cast-letter c).Start in
-    omega (arith, s.requires.combinable.letters_range (s.args.c / s.args.k.states))
-
-pub row_part-requires : goal.row_part-requires
-row_part-requires c =
-    let s = (goal.at.row_part-requires c).Start in record {
-      valid = s.requires.combinable.rule_valid;
-      s_lt_states = state_below s.requires.combinable s.args.c s.requires.c_bound;
-    }
-
-pub mask_part-requires : goal.mask_part-requires
-mask_part-requires c =
-    let s = (goal.at.mask_part-requires c).Start in record {
-      valid_property = s.requires.combinable.property_valid;
-      q_lt_states = property_below s.requires.combinable s.args.c s.requires.c_bound;
-    }
-
-pub count_holding-requires : goal.count_holding-requires
-count_holding-requires c =
-    let s = (goal.at.count_holding-requires c).Start in
-    s.requires.combinable.letters_range (s.args.c / s.args.k.states)
+    ap₂ ◌*◌ steps held ∙ sym (combined_degree c.requires.combinable c.args.c c.requires.c_bound)
 
 pub overflow_mul-result : goal.overflow_mul-result
-overflow_mul-result c =
-    let s = (goal.at.overflow_mul-result c).Start in
-    omega (arith, told c, combined_degree_le s.requires.combinable s.args.c s.requires.c_bound)
+overflow_mul-result c = omega (arith, told c, combined_degree_le c.requires.combinable c.args.c c.requires.c_bound)
 
 pub returns : goal.returns
-returns c =
-    let s = (goal.at.returns c).Start in
-    (told c, omega (arith, told c, combined_degree_le s.requires.combinable s.args.c s.requires.c_bound))
+returns c = (told c, omega (arith, told c, combined_degree_le c.requires.combinable c.args.c c.requires.c_bound))

@@ -3,91 +3,42 @@ use Prim.Native.Nat.{◌/◌, ◌%◌}
 use mathlib.Core.Path.{◌≡◌, sym, ap}
 use native.Mathlib.Omega.{arith}
 use lib.ListN.{length}
-use Rattle.text.proofs.WroteLaws.{wrote_length, wrote_as}
+use Rattle.text.proofs.WroteLaws.{wrote_as}
 use Rattle.writer.specs.File.{words16}
 use Rattle.format.specs.Bytes.{words}
 use Rattle.format.specs.Layout.{row_targets}
-use Rattle.model.specs.Model.{steps_of}
 use Rattle.property.specs.Property.{chosen, row_masks}
 use Rattle.property.proofs.PropertyLaws.{property_facts}
 use Rattle.combine_row.specs.Row.{row_of}
 use Rattle.combine_graph.specs.Combined.{letter_of, combined}
-use Rattle.combine_graph.proofs.CombinedLaws.{property_header, some_property_state, state_below, property_below, combined_row, row_fits, row_masks-length}
+use Rattle.combine_graph.proofs.CombinedLaws.{property_header, property_below, combined_row, row_fits, row_masks-length}
 use Rattle.combine_edges.proofs.write_edges.Goals as goal
-use Rattle.combine_edges.proofs.write_edges.Goals.{After-mask_part-masks, After-shared_slice_known-4-1, Start}
-
--- the function's start, from where the letter is read
-abbrev start : After-shared_slice_known-4-1 → Start
-start c = (goal.at.After-shared_slice_known-4-1 c).Start
+use Rattle.combine_edges.proofs.write_edges.Goals.{After-mask_part-masks}
 
 -- what the row's writer is to write are the edges from the combined state
-row_told : (c : After-mask_part-masks) →
-    let s = start (goal.at.After-mask_part-masks c).After-shared_slice_known-4-1 in
-    let a = s.args in
-    row_of a.k.states (steps_of a.h (a.c / a.k.states) c.row_part-part.result.now)
+row_told : (c : After-mask_part-masks) → let a = c.args in
+    row_of a.k.states c.successors_of-successors.result
     (chosen (letter_of a.letters.now (a.c / a.k.states)) (words c.mask_part-masks.result.now) (words c.target_part-targets.result.now))
     ≡ (combined a.rule.now a.letters.now a.property.now).succs a.c
 row_told c =
-    let s = start (goal.at.After-mask_part-masks c).After-shared_slice_known-4-1 in
-    let a = s.args in
+    let a = c.args in
     let targets-are : words c.target_part-targets.result.now ≡ row_targets a.property.now (a.c % a.k.states) = c.target_part-targets.ensures in
     let masks-are : words c.mask_part-masks.result.now ≡ row_masks a.property.now (a.c % a.k.states) = c.mask_part-masks.ensures in
-    rw (c.row_part-part.ensures, masks-are, targets-are) (sym (combined_row s.requires.combinable a.c s.requires.c_bound))
-
-pub nonzero_div-s : goal.nonzero_div-s
-nonzero_div-s c = some_property_state c.requires.combinable
-
-pub nonzero_rem-q : goal.nonzero_rem-q
-nonzero_rem-q c = some_property_state c.requires.combinable
-
-pub bounds-letters-s : goal.bounds-letters-s
-bounds-letters-s c =
-    let s = (goal.at.bounds-letters-s c).Start in
-    omega (arith, state_below s.requires.combinable s.args.c s.requires.c_bound, s.requires.combinable.letters_length)
-
-pub overflow_cast-letter : goal.overflow_cast-letter
-overflow_cast-letter c =
-    let s = (goal.at.overflow_cast-letter c).Start in
-    omega (arith, s.requires.combinable.letters_range (s.args.c / s.args.k.states))
-
-pub row_part-part-requires : goal.row_part-part-requires
-row_part-part-requires c =
-    let s = (goal.at.row_part-part-requires c).Start in record {
-      valid = s.requires.combinable.rule_valid;
-      s_lt_states = omega (arith, state_below s.requires.combinable s.args.c s.requires.c_bound);
-    }
-
-pub target_part-targets-requires : goal.target_part-targets-requires
-target_part-targets-requires c =
-    let s = (goal.at.target_part-targets-requires c).Start in record {
-      valid_property = s.requires.combinable.property_valid;
-      q_lt_states = omega (arith, property_below s.requires.combinable s.args.c s.requires.c_bound);
-    }
-
-pub mask_part-masks-requires : goal.mask_part-masks-requires
-mask_part-masks-requires c =
-    let s = (goal.at.mask_part-masks-requires c).Start in record {
-      valid_property = s.requires.combinable.property_valid;
-      q_lt_states = omega (arith, property_below s.requires.combinable s.args.c s.requires.c_bound);
-    }
+    rw (c.successors_of-successors.ensures, masks-are, targets-are) (sym (combined_row c.requires.combinable a.c c.requires.c_bound))
 
 pub write_row-requires : goal.write_row-requires
 write_row-requires c =
     let at = (goal.at.write_row-requires c).After-mask_part-masks in
-    let s = (goal.at.After-mask_part-masks at).Start in
-    let a = s.args in
-    let C = s.requires.combinable in
-    let less = s.requires.c_bound in
+    let a = c.args in
+    let C = c.requires.combinable in
+    let less = c.requires.c_bound in
     let within = property_below C a.c less in record {
       letter_le_highest_letter = C.letters_range (a.c / a.k.states);
       masks_len = rw (at.mask_part-masks.ensures, at.target_part-targets.ensures)
           (row_masks-length (property_facts C.property_valid) (a.c % a.k.states) (omega (arith, within, (property_header C).0))).0;
-      row_fits = rw (at.row_part-part.ensures, at.target_part-targets.ensures) (row_fits C a.c less);
-      targets_in_bounds = omega (arith, ap length (row_told at), s.requires.c_in_bounds);
+      row_fits = rw (at.successors_of-successors.ensures, at.target_part-targets.ensures) (row_fits C a.c less);
+      targets_in_bounds = omega (arith, ap length (row_told at), c.requires.c_in_bounds);
     }
-
-pub shape_of-out : goal.shape_of-out
-shape_of-out c = wrote_length c.write_row.ensures
 
 pub returns : goal.returns
 returns c = wrote_as (ap words16 (row_told (goal.at.returns c).After-mask_part-masks)) c.write_row.ensures

@@ -1,5 +1,5 @@
 -- `count_edges` meets its contract: the edges of the combined states below c are counted.
-use Prim.Native.Nat.{◌*◌, ◌-◌, ◌≤◌}
+use Prim.Native.Nat.{◌*◌, ◌≤◌}
 use mathlib.Core.Path.{◌≡◌}
 use lib.ListN.{length}
 use Rattle.writer.specs.File.{edges_below}
@@ -9,6 +9,3 @@ use Rattle.combine_file.proofs.count_edges.Given as goal
 abbrev pub invariant-loop-c : goal.invariant-loop-c
 invariant-loop-c l =
     (l.c ≤ l.pairs) × (l.edges ≡ length (edges_below (combined l.rule l.letters l.property) l.c)) × (l.edges ≤ l.c * 67108864)
-
-abbrev pub decreases-loop-c : goal.decreases-loop-c
-decreases-loop-c l = l.pairs - l.c

@@ -1,10 +1,9 @@
-use Prim.Native.Nat.{ℕ, ◌+◌, ◌*◌, ◌-◌, ◌/◌, ◌≤◌, ◌<◌}
+use Prim.Native.Nat.{ℕ, ◌+◌, ◌*◌, ◌-◌, ◌/◌, ◌<◌}
 use mathlib.Core.Path.{◌≡◌, sym, ap, subst, ◌∙◌}
 use native.Mathlib.Omega.{arith}
 use lib.ListN.{length}
 use Rattle.lasso.specs.Graph.{Graph}
 use Rattle.format.specs.Layout.{edges_at}
-use Rattle.text.proofs.WroteLaws.{wrote_length}
 use Rattle.writer.specs.File.{edges_below}
 use Rattle.combine_graph.specs.Combined.{combined}
 use Rattle.combine_graph.proofs.CombinedLaws.{pairs_are}
@@ -50,19 +49,9 @@ entry_room c =
     let s = start c in
     omega (arith, passed_length s.requires.tables_fit c.loop-c.invariant, s.requires.tables_fit.room, c.loop-c.invariant.within)
 
--- the place after the last edge is not before the edge table
-edges-behind : (c : At-loop-c) → c.edges_at-base.result ≤ c.loop-c.at
-edges-behind c = omega (arith, base_is c, c.loop-c.invariant.at_is)
-
 -- an entry fits 16 bits
 entry_small : (c : At-loop-c) → (c.loop-c.at - c.edges_at-base.result) / 2 < 65536
 entry_small c = omega (arith, entry_is c, (passed_entry (start c).requires.tables_fit c.loop-c.invariant).1)
-
-pub overflow_mul-states : goal.overflow_mul-states
-overflow_mul-states c = omega (arith, c.requires.combinable.pairs_limit)
-
-pub edges_at-base-requires : goal.edges_at-base-requires
-edges_at-base-requires c = c.requires.combinable.pairs_limit
 
 pub loop-c-init : goal.loop-c-init
 loop-c-init c =
@@ -70,15 +59,6 @@ loop-c-init c =
     let g = graph s in
     subst (λ (at : ℕ). PassedTo g s.args.out.now 0 s.args.out.now at) (sym (c.edges_at-base.ensures ∙ ap edges_at (sym (pairs_are s.requires.combinable))))
     (passed_none s.requires.tables_fit)
-
-pub overflow_mul-c : goal.overflow_mul-c
-overflow_mul-c c = omega (arith, c.loop-c.invariant.within, pairs_are c.requires.combinable, c.requires.combinable.pairs_limit)
-
-pub overflow_add-c : goal.overflow_add-c
-overflow_add-c c = omega (arith, c.loop-c.invariant.within, pairs_are c.requires.combinable, c.requires.combinable.pairs_limit)
-
-pub overflow_sub-at : goal.overflow_sub-at
-overflow_sub-at c = edges-behind (goal.at.overflow_sub-at c).At-loop-c
 
 pub write_word-requires : goal.write_word-requires
 write_word-requires c =
@@ -98,12 +78,6 @@ write_edges-at-requires c =
       c_in_bounds = edges_fit s.requires.tables_fit at.loop-c.invariant (turn_below in-loop) (entered word);
     }
 
-pub overflow_add-c-in-loop-c : goal.overflow_add-c-in-loop-c
-overflow_add-c-in-loop-c c = let at = c in omega (arith, at.loop-c.invariant.within, pairs_are at.requires.combinable, at.requires.combinable.pairs_limit)
-
-pub loop-c-smaller : goal.loop-c-smaller
-loop-c-smaller c = omega (arith, c.loop-c-test.true)
-
 pub loop-c-preserved : goal.loop-c-preserved
 loop-c-preserved c =
     let edges = c in
@@ -112,15 +86,6 @@ loop-c-preserved c =
     let at = in-loop in
     edges-written at.requires.tables_fit at.loop-c.invariant (turn_below in-loop) (entered word) edges.write_edges-at.ensures
 
-pub overflow_sub-edges : goal.overflow_sub-edges
-overflow_sub-edges c = edges-behind (goal.at.overflow_sub-edges c).At-loop-c
-
-pub overflow_mul-c-2 : goal.overflow_mul-c-2
-overflow_mul-c-2 c = omega (arith, c.loop-c.invariant.within, pairs_are c.requires.combinable, c.requires.combinable.pairs_limit)
-
-pub overflow_add-c-2 : goal.overflow_add-c-2
-overflow_add-c-2 c = omega (arith, c.loop-c.invariant.within, pairs_are c.requires.combinable, c.requires.combinable.pairs_limit)
-
 pub write_word-requires-2 : goal.write_word-requires-2
 write_word-requires-2 c =
     record {
@@ -128,17 +93,12 @@ write_word-requires-2 c =
       x_bound = omega (arith, entry_small (goal.at.write_word-requires-2 c).At-loop-c);
     }
 
-pub shape_of-out : goal.shape_of-out
-shape_of-out c =
-    let word = c in
-    let at = word in
-    wrote_length word.write_word-2.ensures ∙ passed_length at.requires.tables_fit at.loop-c.invariant
-
 pub returns : goal.returns
 returns c =
     let word = c in
     let past = (goal.at.returns word).After-loop-c in
     let at = (goal.at.After-loop-c past).At-loop-c in
     let s = (goal.at.At-loop-c at).Start in
+    let here : s.args.h.states * s.args.k.states ≡ at.loop-c.c = omega (arith, all_passed past, pairs_are s.requires.combinable) in
     tables_written s.requires.tables_fit at.loop-c.invariant (all_passed past)
-    (entry-written s.requires.tables_fit at.loop-c.invariant (entry_is at) word.write_word-2.ensures)
+    (entry-written s.requires.tables_fit at.loop-c.invariant (entry_is at) (rw here at word.write_word-2.ensures))

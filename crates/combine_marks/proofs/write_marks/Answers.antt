@@ -1,70 +1,23 @@
 use Prim.Native.Nat.{ℕ}
-use mathlib.Core.Path.{◌≡◌, sym, ap, ◌∙◌}
-use mathlib.Core.List.{[], ◌∷◌, map}
+use mathlib.Core.Path.{sym, ap}
+use mathlib.Core.List.{[], ◌∷◌}
 use native.Mathlib.Omega.{arith}
-use Rattle.lists.specs.Lists.{below}
 use Rattle.lists.proofs.BelowLaws.{map-below-length, map-below_next}
 use Rattle.text.proofs.WroteLaws.{wrote_length, wrote_none, wrote_then, wrote_as}
 use Rattle.combine_graph.specs.Combined.{pair_mark_byte}
 use Rattle.combine_marks.proofs.write_marks.Goals as goal
 
-pub mark_bytes-count-requires : goal.mark_bytes-count-requires
-mark_bytes-count-requires c = c.requires.states_le_most_states.0
-
 pub loop-b-init : goal.loop-b-init
-loop-b-init c =
-    let start = c in
-    (omega arith, wrote_none start.args.out.now start.args.at (omega (arith, start.requires.states_le_most_states.1)))
-
-pub mark_byte-byte-requires : goal.mark_byte-byte-requires
-mark_byte-byte-requires c =
-    let told = c in
-    let start = told in record {
-      valid_property = start.requires.valid_property;
-      b_bound = omega (arith, c.loop-b-test.true, told.mark_bytes-count.ensures, start.requires.states_le_most_states.0);
-    }
-
-pub overflow_cast-byte : goal.overflow_cast-byte
-overflow_cast-byte c = omega (arith, c.mark_byte-byte.ensures.1)
+loop-b-init c = wrote_none c.args.out.now c.args.at (omega (arith, c.requires.states_le_most_states.1))
 
 pub write_byte-next-requires : goal.write_byte-next-requires
 write_byte-next-requires c =
-    let in-loop = c in
-    let at_loop = in-loop in
-    let told = at_loop in
-    let start = told in
-    let w = at_loop.loop-b.invariant.1 in
-    let f = pair_mark_byte start.args.property.now start.args.states in
-    omega (
-      arith,
-      w.place,
-      wrote_length w,
-      map-below-length f at_loop.loop-b.b,
-      in-loop.loop-b-test.true,
-      told.mark_bytes-count.ensures,
-      start.requires.states_le_most_states.1,
-    )
+    let w = c.loop-b.invariant in
+    let bytes = map-below-length (pair_mark_byte c.args.property.now c.args.states) c.loop-b.b in
+    omega (arith, w.place, wrote_length w, bytes, c.mark_bytes-count.ensures, c.requires.states_le_most_states.1)
 
 pub loop-b-preserved : goal.loop-b-preserved
 loop-b-preserved c =
-    let wrote = c in
-    let byte = wrote in
-    let at_loop = byte in
-    let start = at_loop in
-    let f = pair_mark_byte start.args.property.now start.args.states in (
-      omega arith,
-      wrote_as (sym (map-below_next f at_loop.loop-b.b))
-          (wrote_then at_loop.loop-b.invariant.1
-          (wrote_as (ap (λ (x : ℕ). x ∷ []) byte.mark_byte-byte.ensures.0) wrote.write_byte-next.ensures)),
-    )
-
-pub shape_of-out : goal.shape_of-out
-shape_of-out c = wrote_length c.loop-b.invariant.1
-
-pub returns : goal.returns
-returns c =
-    let at_loop = c in
-    let start = at_loop in
-    let f = pair_mark_byte start.args.property.now start.args.states in
-    let all : at_loop.loop-b.b ≡ at_loop.mark_bytes-count.result = omega (arith, c.loop-b-test.false, at_loop.loop-b.invariant.0) in
-    wrote_as (ap (λ (n : ℕ). map f (below n)) (all ∙ at_loop.mark_bytes-count.ensures)) at_loop.loop-b.invariant.1
+    let bytes = map-below_next (pair_mark_byte c.args.property.now c.args.states) c.loop-b.b in
+    wrote_as (sym bytes)
+    (wrote_then c.loop-b.invariant (wrote_as (ap (λ (x : ℕ). x ∷ []) c.mark_byte-byte.ensures.0) c.write_byte-next.ensures))

@@ -1,5 +1,4 @@
 -- `write_marks` meets its contract: the mark bytes below b are written one after the other.
-use Prim.Native.Nat.{◌-◌, ◌≤◌}
 use mathlib.Core.List.{map}
 use Rattle.lists.specs.Lists.{below}
 use Rattle.text.specs.Writing.{Wrote}
@@ -7,8 +6,4 @@ use Rattle.combine_graph.specs.Combined.{pair_mark_byte}
 use Rattle.combine_marks.proofs.write_marks.Given as goal
 
 abbrev pub invariant-loop-b : goal.invariant-loop-b
-invariant-loop-b l =
-    (l.b ≤ l.count) × Wrote l.initial.out l.at (map (pair_mark_byte l.property l.states) (below l.b)) l.out l.next
-
-abbrev pub decreases-loop-b : goal.decreases-loop-b
-decreases-loop-b l = l.count - l.b
+invariant-loop-b l = Wrote l.initial.out l.at (map (pair_mark_byte l.property l.states) (below l.b)) l.out l.next

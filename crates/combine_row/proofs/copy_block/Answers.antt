@@ -3,9 +3,7 @@ use mathlib.Core.Path.{◌≡◌, ap, ◌∙◌}
 use native.Mathlib.Omega.{arith}
 use lib.ListN.{length}
 use Rattle.format.specs.Bytes.{word}
-use Rattle.text.proofs.WroteLaws.{wrote_length, wrote_none, wrote_as}
-use Rattle.writer.specs.File.{words16}
-use Rattle.combine_row.specs.Row.{copied}
+use Rattle.text.proofs.WroteLaws.{wrote_length}
 use Rattle.combine_row.proofs.CopyLaws.{word_before, copied_bytes, wrote_copied}
 use Rattle.combine_row.proofs.copy_block.Goals as goal
 use Rattle.combine_row.proofs.copy_block.Goals.{After-word-entry, In-loop-j}
@@ -31,18 +29,6 @@ room c =
     let w = c.loop-j.invariant.1 in
     omega (arith, w.place, wrote_length w, copied_bytes a.out.now a.from a.base a.other c.loop-j.j)
 
-pub loop-j-init : goal.loop-j-init
-loop-j-init c = (omega arith, wrote_none c.args.out.now c.args.at (omega arith))
-
-pub word-entry-requires : goal.word-entry-requires
-word-entry-requires c = omega (arith, room c)
-
-pub overflow_sub-entry : goal.overflow_sub-entry
-overflow_sub-entry c = omega (arith, entry (goal.at.overflow_sub-entry c).After-word-entry)
-
-pub overflow_add-other : goal.overflow_add-other
-overflow_add-other c = omega (arith, entry (goal.at.overflow_add-other c).After-word-entry)
-
 pub write_word-next-requires : goal.write_word-next-requires
 write_word-next-requires c =
     record {
@@ -59,12 +45,3 @@ loop-j-preserved c =
     let x = a.other + (read.word-entry.result - a.base) in
     let e = ap (λ t. a.other + (t - a.base)) (entry read).0 in
     (omega arith, wrote_copied a.out.now a.from a.base a.other at_loop.loop-j.j x e at_loop.loop-j.invariant.1 done.write_word-next.ensures)
-
-pub shape_of-out : goal.shape_of-out
-shape_of-out c = wrote_length c.loop-j.invariant.1
-
-pub returns : goal.returns
-returns c =
-    let a = c.args in
-    let all : c.loop-j.j ≡ a.count = omega (arith, c.loop-j-test.false, c.loop-j.invariant.0) in
-    wrote_as (ap (λ n. words16 (copied a.out.now a.from n a.base a.other)) all) c.loop-j.invariant.1

@@ -1,5 +1,5 @@
 -- `copy_block` meets its contract. The loop's invariant: the first j numbers are copied.
-use Prim.Native.Nat.{◌-◌, ◌≤◌}
+use Prim.Native.Nat.{◌≤◌}
 use Rattle.text.specs.Writing.{Wrote}
 use Rattle.writer.specs.File.{words16}
 use Rattle.combine_row.specs.Row.{copied}
@@ -7,6 +7,3 @@ use Rattle.combine_row.proofs.copy_block.Given as goal
 
 abbrev pub invariant-loop-j : goal.invariant-loop-j
 invariant-loop-j l = (l.j ≤ l.count) × Wrote l.initial.out l.at (words16 (copied l.initial.out l.from l.j l.base l.other)) l.out l.next
-
-abbrev pub decreases-loop-j : goal.decreases-loop-j
-decreases-loop-j l = l.count - l.j

@@ -4,7 +4,6 @@ use native.Mathlib.Omega.{arith}
 use lib.ListN.{length, get_or}
 use Rattle.format.specs.Bytes.{word, words, bitb}
 use Rattle.format.proofs.Words.{words-length, words_at}
-use Rattle.text.proofs.WroteLaws.{wrote_length, wrote_none}
 use Rattle.combine_row.proofs.BlockLaws.{held_room, wrote_held, wrote_passed, wrote_block}
 use Rattle.combine_row.proofs.write_block.Goals as goal
 use Rattle.combine_row.proofs.write_block.Goals.{After-mask_holds, After-word, In-loop-k, then-mask_holds, else-mask_holds}
@@ -48,11 +47,6 @@ number c r e =
     let less = (within (goal.at.After-mask_holds c).In-loop-k).1 in
     (e ∙ sym (words_at c.args.targets.now c.loop-k.k less), c.requires.targets_fit c.loop-k.k less)
 
-pub loop-k-init : goal.loop-k-init
-loop-k-init c =
-    let start = c in
-    (omega arith, wrote_none start.args.out.now start.args.at (omega arith))
-
 pub word-requires : goal.word-requires
 word-requires c = omega (arith, words-length c.args.masks.now, (within c).0)
 
@@ -90,9 +84,6 @@ loop-k-preserved c =
           let passed = wrote_passed a.letter a.base ms ts k inside.0 inside.1 (turn at ∙ w.if-mask_holds.false) so_far in
           (omega arith, rw (w.out-is, w.next-is) passed)
     ]
-
-pub shape_of-out : goal.shape_of-out
-shape_of-out c = wrote_length c.loop-k.invariant.1
 
 pub returns : goal.returns
 returns c =

@@ -1,198 +1,83 @@
-use Prim.Native.Nat.{ℕ, zero, suc, ◌+◌, ◌*◌, ◌-◌, ◌/◌, ◌≤◌, ◌<◌}
-use mathlib.Core.Path.{◌≡◌, refl, sym, ap, subst, ◌∙◌}
-use mathlib.Core.List.{List, [], ◌∷◌}
+-- `write_row` meets its contract: the first block is written from the masks, each further one from the first.
+use Prim.Native.Nat.{ℕ, ◌+◌, ◌*◌, ◌-◌, ◌/◌, ◌≤◌, ◌<◌}
+use mathlib.Core.Path.{◌≡◌, ap}
+use mathlib.Core.List.{List}
 use native.Mathlib.Omega.{arith}
-use lib.ListN.{length, get_or, take, drop, length-drop}
+use lib.ListN.{length, get_or, take}
 use Rattle.format.specs.Bytes.{words}
-use Rattle.model.specs.Model.{steps_of}
-use Rattle.model.proofs.Steps.{steps_behind_first}
 use Rattle.text.specs.Writing.{Wrote}
-use Rattle.text.proofs.WroteLaws.{wrote_length, wrote_none}
 use Rattle.writer.specs.File.{words16}
 use Rattle.property.specs.Property.{chosen}
-use Rattle.combine_row.specs.Row.{row_of, RowFits}
+use Rattle.combine_row.specs.Row.{row_of}
 use Rattle.combine_row.proofs.BlockLaws.{block_bytes_lem, chosen-below}
 use Rattle.combine_row.proofs.RowLaws.{first_before, block_room, wrote_first_block, copy_fits, wrote_copied-block, wrote_row, wrote_empty_row}
 use Rattle.combine_row.proofs.write_row.Goals as goal
-use Rattle.combine_row.proofs.write_row.Goals.{After-edge_target, After-successor-first, After-write_block-next, At-loop-k, Else-degree-eq0, Start}
-
--- after the first entry stand the list's own
-behind_first : (x : ℕ) (xs : List ℕ) (k : ℕ) → 1 ≤ k → get_or (x ∷ drop 1 xs) k 0 ≡ get_or xs k 0
-behind_first x xs zero l = absurd (omega arith)
-behind_first x [] (suc k) l = refl
-behind_first x (y ∷ ys) (suc k) l = refl
-
--- the successors of s
-abbrev steps : Start → List ℕ
-steps s = steps_of s.args.h s.args.s s.args.part.now
+use Rattle.combine_row.proofs.write_row.Goals.{After-write_block-next, After-target-in-loop-k, At-loop-k, Start}
 
 -- the targets whose masks hold the letter
 abbrev picked : Start → List ℕ
 picked s = chosen s.args.letter (words s.args.masks.now) (words s.args.targets.now)
 
--- there is a successor where the degree is not zero
-has_successor : (c : Else-degree-eq0) → 0 < length (steps (goal.at.Else-degree-eq0 c).Start)
-has_successor c = omega (arith, c.if-degree-eq0.false, c.degree.ensures)
-
--- the function's start, from where the first successor is known
-abbrev start : After-successor-first → Start
-start c = (goal.at.After-successor-first c).Start
-
--- the first successor, and where the edges after the first lead
-abbrev found : After-successor-first → List ℕ
-found c = c.successor-first.result ∷ drop 1 (words (start c).args.part.now)
-
--- these are the successors
-found_all : (c : After-successor-first) → steps (start c) ≡ found c
-found_all c =
-    let a = (start c).args in
-    steps_behind_first a.h a.s a.part.now (has_successor (goal.at.After-successor-first c).Else-degree-eq0)
-    ∙ ap (λ (x : ℕ). x ∷ drop 1 (words a.part.now)) (sym c.successor-first.ensures)
-
--- they form pairs below 4,096 with the targets
-fits : (c : After-successor-first) → RowFits (start c).args.size (found c) (words (start c).args.targets.now)
-fits c =
-    let a = (start c).args in
-    subst (λ (ss : List ℕ). RowFits a.size ss (words a.targets.now)) (found_all c) (start c).requires.row_fits
-
--- their blocks have room
-room : (c : After-successor-first) →
-    let a = (start c).args in
-    a.at + 2 * length (row_of a.size (found c) (picked (start c))) ≤ length a.out.now
-room c =
-    let a = (start c).args in
-    subst (λ (ss : List ℕ). a.at + 2 * length (row_of a.size ss (picked (start c))) ≤ length a.out.now) (found_all c) (start c).requires.targets_in_bounds
-
--- the first block's base fits
-first_fits : (c : After-successor-first) → c.successor-first.result * (start c).args.size + (start c).args.size ≤ 4096
-first_fits c = (fits c).successors_fit 0 (omega arith)
-
--- where the first successor is known, from where its block is written
-abbrev known : After-write_block-next → After-successor-first
-known c = (goal.at.After-write_block-next c).After-successor-first
-
--- where the first block is written, from the loop
-abbrev wrote : At-loop-k → After-write_block-next
-wrote c = (goal.at.At-loop-k c).After-write_block-next
+-- once the first block is written, count is its number of entries
+counted : (c : After-write_block-next) →
+    (c.args.at ≤ c.write_block-next.result) × ((c.write_block-next.result - c.args.at) / 2 ≡ length (picked (goal.at.After-write_block-next c).Start))
+counted c =
+    omega (arith, c.write_block-next.ensures.place, block_bytes_lem (c.target.result * c.args.size) (picked (goal.at.After-write_block-next c).Start))
 
 -- the blocks of the first k successors are written to the output of the start
 so_far : (c : At-loop-k) →
-    let f = known (wrote c) in
-    let a = (start f).args in
-    Wrote a.out.now a.at (words16 (row_of a.size (take c.loop-k.k (found f)) (picked (start f)))) c.loop-k.out c.loop-k.next
+    Wrote c.args.out.now c.args.at (words16 (row_of c.args.size (take c.loop-k.k c.args.successors.now) (picked (goal.at.At-loop-k c).Start))) c.loop-k.out c.loop-k.next
 so_far c =
-    let f = known (wrote c) in
-    let a = (start f).args in
-    c.loop-k.invariant.1 a.out.now (wrote_first_block a.size (found f) (picked (start f)) _ (omega arith) refl (wrote c).write_block-next.ensures)
-
--- once the first block is written, count is its number of entries
-counted : (c : After-write_block-next) →
-    let at = (start (known c)).args.at in
-    (at ≤ c.write_block-next.result) × ((c.write_block-next.result - at) / 2 ≡ length (picked (start (known c))))
-counted c =
-    omega (arith, c.write_block-next.ensures.place, block_bytes_lem ((known c).successor-first.result * (start (known c)).args.size) (picked (start (known c))))
+    let a = c.args in
+    c.loop-k.invariant.1 a.out.now
+    (wrote_first_block a.size a.successors.now (picked (goal.at.At-loop-k c).Start) _ (omega (arith, c.len-d.ensures, c.if-d-eq0.false))
+    (ap (λ x. x * a.size) c.target.ensures) c.write_block-next.ensures)
 
 -- the next block's base is the successor at place k times the size, and fits
-further : (c : After-edge_target) →
-    let at_loop = (goal.at.After-edge_target c).At-loop-k in
-    let f = known (wrote at_loop) in
-    let size = (start f).args.size in
-    let x = get_or (found f) at_loop.loop-k.k 0 in
-    (c.edge_target.result * size ≡ x * size) × (x * size + size ≤ 4096) × (at_loop.loop-k.k < length (found f))
+further : (c : After-target-in-loop-k) →
+    let x = get_or c.args.successors.now c.loop-k.k 0 in
+    (c.target-in-loop-k.result * c.args.size ≡ x * c.args.size) × (x * c.args.size + c.args.size ≤ 4096) × (c.loop-k.k < length c.args.successors.now)
 further c =
-    let at_loop = (goal.at.After-edge_target c).At-loop-k in
-    let f = known (wrote at_loop) in
-    let a = (start f).args in
-    let ws : List ℕ = words a.part.now in
-    let less : at_loop.loop-k.k < length (found f) =
-    omega (arith, at_loop.loop-k.invariant.0, c.loop-k-test.true, at_loop.edge_count-edges.ensures, length-drop 1 ws) in
-    let here = c.edge_target.ensures ∙ sym (behind_first f.successor-first.result ws at_loop.loop-k.k at_loop.loop-k.invariant.0) in
-    (ap (λ x. x * a.size) here, (fits f).successors_fit at_loop.loop-k.k less, less)
-
-pub returns-then-degree-eq0 : goal.returns-then-degree-eq0
-returns-then-degree-eq0 c =
-    let begun = (goal.at.returns-then-degree-eq0 c).Start in
-    let a = begun.args in
-    wrote_row a.size (steps begun) (picked begun) 0 (omega (arith, c.if-degree-eq0.true, c.degree.ensures)) (wrote_none a.out.now a.at (omega arith))
-
-pub successor-first-requires : goal.successor-first-requires
-successor-first-requires c = has_successor c
-
-pub overflow_mul-base : goal.overflow_mul-base
-overflow_mul-base c = omega (arith, first_fits c)
-
-pub write_block-next-requires : goal.write_block-next-requires
-write_block-next-requires c =
-    let f = (goal.at.write_block-next-requires c).After-successor-first in
-    let a = (start f).args in
-    let free = block_room a.size (found f) (picked (start f)) 0 (omega arith) (room f) (wrote_none a.out.now a.at (omega arith)) in record {
-      letter_le_highest_letter = (start f).requires.letter_le_highest_letter;
-      masks_len = (start f).requires.masks_len;
-      targets_fit = (λ k less. omega (arith, first_fits f, (fits f).targets_fit k less));
-      targets_in_bounds = free;
-    }
-
-pub overflow_sub-count : goal.overflow_sub-count
-overflow_sub-count c = (counted (goal.at.overflow_sub-count c).After-write_block-next).0
-
-pub shape_of-out-then-count-eq0 : goal.shape_of-out-then-count-eq0
-shape_of-out-then-count-eq0 c = wrote_length c.write_block-next.ensures
+    let less : c.loop-k.k < length c.args.successors.now = omega (arith, c.loop-k-test.true, c.len-d.ensures) in
+    (ap (λ x. x * c.args.size) c.target-in-loop-k.ensures, c.requires.row_fits.successors_fit c.loop-k.k less, less)
 
 pub returns-then-count-eq0 : goal.returns-then-count-eq0
 returns-then-count-eq0 c =
     let w = (goal.at.returns-then-count-eq0 c).After-write_block-next in
-    let f = known w in
-    let a = (start f).args in
-    wrote_empty_row a.size (steps (start f)) (picked (start f)) (f.successor-first.result * a.size) (omega (arith, (counted w).1, c.if-count-eq0.true)) w.write_block-next.ensures
-
-pub loop-k-init : goal.loop-k-init
-loop-k-init c = (omega arith, λ w₀ w. w)
-
-pub edge_target-requires : goal.edge_target-requires
-edge_target-requires c = omega (arith, c.loop-k-test.true, c.edge_count-edges.ensures)
-
-pub overflow_mul-other : goal.overflow_mul-other
-overflow_mul-other c = omega (arith, further c)
+    let s = (goal.at.returns-then-count-eq0 c).Start in
+    wrote_empty_row c.args.size c.args.successors.now (picked s) (c.target.result * c.args.size)
+    (omega (arith, (counted w).1, c.if-count-eq0.true)) c.write_block-next.ensures
 
 pub copy_block-next-requires : goal.copy_block-next-requires
 copy_block-next-requires c =
-    let at_loop = (goal.at.copy_block-next-requires c).At-loop-k in
-    let f = known (wrote at_loop) in
-    let a = (start f).args in
-    let k = at_loop.loop-k.k in
-    let n = (counted (wrote at_loop)).1 in
-    let more = further (goal.at.copy_block-next-requires c).After-edge_target in
-    let small = chosen-below a.letter a.size (words a.masks.now) (words a.targets.now) (fits f).targets_fit in
-    let w = so_far at_loop in record {
+    let here = goal.at.copy_block-next-requires c in
+    let a = c.args in
+    let k = c.loop-k.k in
+    let ss : List ℕ = a.successors.now in
+    let qs = picked here.Start in
+    let n = (counted here.After-write_block-next).1 in
+    let more = further here.After-target-in-loop-k in
+    let small = chosen-below a.letter a.size (words a.masks.now) (words a.targets.now) c.requires.row_fits.targets_fit in
+    let w = so_far here.At-loop-k in record {
       count_bound = (
-        omega (arith, n, first_before a.size (found f) (picked (start f)) k at_loop.loop-k.invariant.0 (omega arith) w),
-        omega (arith, n, block_room a.size (found f) (picked (start f)) k more.2 (room f) w),
+        omega (arith, n, first_before a.size ss qs k c.loop-k.invariant.0 (omega arith) w),
+        omega (arith, n, block_room a.size ss qs k more.2 c.requires.targets_in_bounds w),
       );
-      block_fits = copy_fits a.size (found f) (picked (start f)) k _ _ _ at_loop.loop-k.invariant.0 more.2 n refl more.0 w small more.1;
+      block_fits = copy_fits a.size ss qs k _ _ _ c.loop-k.invariant.0 more.2 n (ap (λ x. x * a.size) c.target.ensures) more.0 w small more.1;
     }
 
 pub loop-k-preserved : goal.loop-k-preserved
 loop-k-preserved c =
-    let Copied-next = c in
-    let further-on = (goal.at.loop-k-preserved Copied-next).After-edge_target in
-    let at_loop = (goal.at.After-edge_target further-on).At-loop-k in
-    let f = known (wrote at_loop) in
-    let more = further further-on in (
+    let here = goal.at.loop-k-preserved c in
+    let a = c.args in
+    let more = further here.After-target-in-loop-k in (
       omega arith,
       λ w₀ w.
-          wrote_copied-block (start f).args.size (found f) (picked (start f)) at_loop.loop-k.k _ _ _ at_loop.loop-k.invariant.0 more.2
-          (counted (wrote at_loop)).1 refl more.0 (at_loop.loop-k.invariant.1 w₀ w) Copied-next.copy_block-next.ensures,
+          wrote_copied-block a.size a.successors.now (picked here.Start) c.loop-k.k _ _ _ c.loop-k.invariant.0 more.2
+          (counted here.After-write_block-next).1 (ap (λ x. x * a.size) c.target.ensures) more.0 (c.loop-k.invariant.1 w₀ w) c.copy_block-next.ensures,
     )
-
-pub shape_of-out : goal.shape_of-out
-shape_of-out c = wrote_length (so_far (goal.at.shape_of-out c).At-loop-k)
 
 pub returns : goal.returns
 returns c =
-    let at_loop = (goal.at.returns c).At-loop-k in
-    let f = known (wrote at_loop) in
-    let a = (start f).args in
-    let all : length (found f) ≤ at_loop.loop-k.k =
-    omega (arith, at_loop.loop-k.invariant.0, c.loop-k-test.false, at_loop.edge_count-edges.ensures, length-drop 1 (words a.part.now)) in
-    subst (λ (ss : List ℕ). Wrote a.out.now a.at (words16 (row_of a.size ss (picked (start f)))) at_loop.loop-k.out at_loop.loop-k.next)
-    (sym (found_all f)) (wrote_row a.size (found f) (picked (start f)) at_loop.loop-k.k all (so_far at_loop))
+    let here = goal.at.returns c in
+    wrote_row c.args.size c.args.successors.now (picked here.Start) c.loop-k.k (omega (arith, c.loop-k-test.false, c.len-d.ensures)) (so_far here.At-loop-k)

@@ -1,7 +1,7 @@
 -- `write_row` meets its contract. The loop's invariant: with the first block, the blocks of the first k successors are written.
-use Prim.Native.Nat.{ℕ, ◌-◌, ◌≤◌}
-use mathlib.Core.List.{List, ◌∷◌}
-use lib.ListN.{take, drop}
+use Prim.Native.Nat.{ℕ, ◌≤◌}
+use mathlib.Core.List.{List}
+use lib.ListN.{take}
 use Rattle.format.specs.Bytes.{words}
 use Rattle.text.specs.Writing.{Wrote}
 use Rattle.writer.specs.File.{words16}
@@ -11,10 +11,7 @@ use Rattle.combine_row.proofs.write_row.Given as goal
 
 abbrev pub invariant-loop-k : goal.invariant-loop-k
 invariant-loop-k l =
-    let ss = l.first ∷ drop 1 (words l.part) in
+    let ss : List ℕ = l.successors in
     let qs = chosen l.letter (words l.masks) (words l.targets) in
     (1 ≤ l.k)
     × ((w₀ : List ℕ) → Wrote w₀ l.at (words16 (row_of l.size (take 1 ss) qs)) l.initial.out l.initial.next → Wrote w₀ l.at (words16 (row_of l.size (take l.k ss) qs)) l.out l.next)
-
-abbrev pub decreases-loop-k : goal.decreases-loop-k
-decreases-loop-k l = l.edges - l.k

@@ -1,55 +1,19 @@
-use mathlib.Core.Path.{◌≡◌}
-use lib.ListN.{length}
+use Prim.Native.Nat.{◌+◌, ◌*◌}
+use mathlib.Core.Path.{◌≡◌, ◌∙◌}
+use lib.ListN.{set}
 use native.Mathlib.Omega.{arith}
-use Rattle.model.specs.Model.{graph_in}
-use Rattle.model.proofs.Laws.{valid_sizes}
-use Rattle.ends.proofs.EndLaws.{marked_none, marked_more}
+use Rattle.ends.proofs.EndLaws.{marked_more, marked_pass}
 use Rattle.ends.proofs.flag_marked.Goals as goal
-use Rattle.ends.proofs.flag_marked.Goals.{After-slice_known-in-loop-s-1, At-loop-s, Start}
-
-abbrev start : At-loop-s → Start
-start c = (goal.at.At-loop-s c).Start
-
--- the table is as long as at first
-long : (c : At-loop-s) → length c.loop-s.work ≡ length (start c).args.work.now
-long c = c.loop-s.invariant.1.outside.same_length
-
-pub loop-s-init : goal.loop-s-init
-loop-s-init c = (omega arith, marked_none _ _ _)
-
-pub marked_flag-flag-requires : goal.marked_flag-flag-requires
-marked_flag-flag-requires c =
-    let l = (goal.at.marked_flag-flag-requires c).At-loop-s in record {
-      valid = l.requires.valid;
-      states_in_bounds = omega (arith, long l, l.requires.states_in_bounds);
-      s_lt_states = omega (arith, c.loop-s-test.true);
-    }
-
-pub overflow_mul-n : goal.overflow_mul-n
-overflow_mul-n c = omega (arith, (valid_sizes c.requires.valid).states_range)
-
-pub overflow_add-n : goal.overflow_add-n
-overflow_add-n c = omega (arith, (valid_sizes c.requires.valid).states_range)
-
-pub put-requires : goal.put-requires
-put-requires c =
-    let l = (goal.at.put-requires c).At-loop-s in record {
-      at_in_bounds = omega (arith, long l, l.requires.states_in_bounds);
-      value_bound = c.marked_flag-flag.ensures.small;
-    }
+use Rattle.ends.proofs.flag_marked.Goals.{then-is_marked_end, else-is_marked_end}
 
 pub loop-s-preserved : goal.loop-s-preserved
 loop-s-preserved c =
-    let f = c in
-    let l = f in
-    let s = (goal.at.After-slice_known-in-loop-s-1 l).Start in
-    (omega arith, rw c.put.ensures (marked_more (graph_in s.args.file.now s.args.h) s.args.h.states l.loop-s.s s.args.work.now l.loop-s.work f.marked_flag-flag.result (omega (arith, f.loop-s-test.true)) s.requires.states_in_bounds l.loop-s.invariant.1 f.marked_flag-flag.ensures.flag))
-
-pub shape_of-work : goal.shape_of-work
-shape_of-work c = long (goal.at.shape_of-work c).At-loop-s
-
-pub returns : goal.returns
-returns c =
-    let l = c in
-    let e : l.loop-s.s ≡ l.args.h.states = omega (arith, l.loop-s.invariant.0, c.loop-s-test.false) in
-    rw e at l.loop-s.invariant.1
+    let n = c.args.h.states in
+    elim c.if-is_marked_end.branch [
+      | then-is_marked_end w ↦
+          let e : c.if-is_marked_end.work ≡ set c.loop-s.work (4 * n + c.loop-s.s) 1 = w.work-is ∙ w.put.ensures in
+          rw e (marked_more (omega arith) c.requires.states_in_bounds c.loop-s.invariant (rw w.if-is_marked_end.true at c.is_marked_end.ensures))
+      | else-is_marked_end w ↦
+          let e : c.if-is_marked_end.work ≡ c.loop-s.work = w.work-is in
+          rw e (marked_pass (omega arith) c.loop-s.invariant (rw w.if-is_marked_end.false at c.is_marked_end.ensures))
+    ]

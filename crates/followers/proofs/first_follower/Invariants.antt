@@ -1,16 +1,12 @@
 -- `first_follower` meets its contract. The loop's invariant: of the successors of the list's last state the first
--- `tried` were tried, and one is left at least.
-use Prim.Native.Nat.{◌-◌, ◌<◌}
+-- k were tried.
 use Rattle.model.specs.Model.{graph_in}
 use Rattle.current.specs.Current.{list_in}
 use Rattle.passed.specs.Passed.{PassedAt}
 use Rattle.followers.proofs.TriedLaws.{Tried}
 use Rattle.followers.proofs.first_follower.Given as goal
 
-abbrev pub invariant-loop-tried : goal.invariant-loop-tried
-invariant-loop-tried l =
-    Tried (graph_in l.file l.h) l.h.states l.transitions.0 (list_in (graph_in l.file l.h).start l.initial.work l.place) 0 ((graph_in l.file l.h).succs l.s) l.initial.work l.work l.tried × (l.tried < l.d)
-    × PassedAt l.file l.h l.work l.transitions.0 l.place l.p
-
-abbrev pub decreases-loop-tried : goal.decreases-loop-tried
-decreases-loop-tried l = l.d - l.tried
+abbrev pub invariant-loop-k : goal.invariant-loop-k
+invariant-loop-k l =
+    Tried (graph_in l.file l.h) l.h.states l.transitions.0 (list_in (graph_in l.file l.h).start l.initial.work l.place) 0 ((graph_in l.file l.h).succs l.s) l.initial.work l.work l.k
+    × PassedAt l.file l.h l.work l.transitions.0 l.place l.passed

@@ -4,7 +4,7 @@ use mathlib.Core.List.{List}
 use native.Mathlib.Omega.{arith}
 use Rattle.frontier.specs.Regions.{queued}
 use Rattle.frontier.specs.Search.{State}
-use Rattle.table.proofs.Laws.{same_outside_refl, same_outside_trans}
+use Rattle.table.proofs.Laws.{same_outside_trans}
 use Rattle.frontier.proofs.PushLaws.{queue_room, reach_outside}
 use Rattle.frontier.proofs.AdmitLaws.{Admitting, admitting_start, admitting_falls, admitting_step, admitting_done}
 use Rattle.frontier.proofs.admit.Goals as goal
@@ -34,22 +34,13 @@ held c =
 abbrev head : After-get-cursor-in-loop-cursor → At-loop-cursor
 head c = (goal.at.After-get-cursor-in-loop-cursor c).At-loop-cursor
 
-pub loop-cursor-init : goal.loop-cursor-init
-loop-cursor-init c = (same_outside_refl _ _ _, omega arith, λ succs limit target origin at A. A)
+pub reach-end-requires-clause-t_lt_n : goal.reach-end-requires-clause-t_lt_n
+reach-end-requires-clause-t_lt_n c = omega (arith, (held (goal.at.reach-end-requires-clause-t_lt_n c).At-loop-cursor).within)
 
-pub reach-end-requires : goal.reach-end-requires
-reach-end-requires c =
-    let A = held (goal.at.reach-end-requires c).At-loop-cursor in record {
-      n_le_most_states = omega arith;
-      t_lt_n = omega (arith, A.within);
-      level_le_n = omega (arith, A.below, A.state.limited);
-      n_in_bounds = A.state.fits;
-      n_bound = omega arith;
-      tail_bound = queue_room (c.loop-cursor.cursor - 1) A.state.fits A.state.queue (omega (arith, A.within));
-    }
-
-pub overflow_add-n-in-loop-cursor : goal.overflow_add-n-in-loop-cursor
-overflow_add-n-in-loop-cursor c = omega (arith, (held (goal.at.overflow_add-n-in-loop-cursor c).At-loop-cursor).within)
+pub reach-end-requires-clause-tail_bound : goal.reach-end-requires-clause-tail_bound
+reach-end-requires-clause-tail_bound c =
+    let A = held (goal.at.reach-end-requires-clause-tail_bound c).At-loop-cursor in
+    queue_room (c.loop-cursor.cursor - 1) A.state.fits A.state.queue (omega (arith, A.within))
 
 pub get-cursor-requires-in-loop-cursor : goal.get-cursor-requires-in-loop-cursor
 get-cursor-requires-in-loop-cursor c = let A = held (goal.at.get-cursor-requires-in-loop-cursor c).At-loop-cursor in omega (arith, A.within, A.state.fits)
@@ -68,13 +59,5 @@ loop-cursor-preserved c = (
       (admitting_step ((head c).loop-cursor.cursor - 1) (omega arith) ((head c).loop-cursor.invariant.2 succs limit target origin at A) c.reach-end.ensures.change),
 )
 
-pub shape_of-work : goal.shape_of-work
-shape_of-work c = c.loop-cursor.invariant.0.same_length
-
-pub returns : goal.returns
-returns c =
-    record {
-      change = λ succs limit target origin at l S. admitting_done (omega arith) (walk (goal.at.returns c).At-loop-cursor succs limit target origin at l S);
-      grows = omega (arith, c.loop-cursor.invariant.1);
-      same = c.loop-cursor.invariant.0;
-    }
+pub returns-clause-change : goal.returns-clause-change
+returns-clause-change c = λ succs limit target origin at l S. admitting_done (omega arith) (walk (goal.at.returns-clause-change c).At-loop-cursor succs limit target origin at l S)

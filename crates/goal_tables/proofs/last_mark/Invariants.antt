@@ -1,5 +1,5 @@
--- `last_mark` meets its contract. The loop's invariant: no state from place k on is marked.
-use Prim.Native.Nat.{ℕ, ◌+◌, ◌≤◌}
+-- `last_mark` meets its contract. The loop's invariant: no state after place k is marked.
+use Prim.Native.Nat.{ℕ, ◌+◌}
 use mathlib.Core.List.{List}
 use lib.Dec.{T}
 use Rattle.model.specs.declared.Header.{Header}
@@ -13,7 +13,4 @@ abbrev pub Marked : List ℕ → Header → List ℕ → ℕ → Type 0
 Marked f h w k = T ((graph_in f h).marked (state_at h w k))
 
 abbrev pub invariant-loop-k : goal.invariant-loop-k
-invariant-loop-k l = (l.k ≤ l.place + 1) × NoneFrom (Marked l.file l.h l.work) l.place l.k
-
-abbrev pub decreases-loop-k : goal.decreases-loop-k
-decreases-loop-k l = l.k
+invariant-loop-k l = NoneFrom (Marked l.file l.h l.work) l.place (l.k + 1)

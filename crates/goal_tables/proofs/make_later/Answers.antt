@@ -1,7 +1,6 @@
 -- `make_later` meets its contract: step by step.
 use Prim.Native.Nat.{ℕ, ◌+◌, ◌-◌}
 use mathlib.Core.Path.{subst}
-use mathlib.Core.Logic.{inr}
 use native.Mathlib.Omega.{arith}
 use Rattle.model.specs.Model.{graph_in}
 use Rattle.current.specs.Current.{state_at}
@@ -84,20 +83,6 @@ keep_ways-requires c =
       valid = s.requires.prepared.valid;
       states_in_bounds = omega (arith, s.requires.prepared.room, (levels l).outside.same_length, (flags f).outside.same_length);
       queue = later_queue s.requires (levels l) (flags f);
-    }
-
-pub copy-requires : goal.copy-requires
-copy-requires c =
-    let k = c in
-    let f = (goal.at.copy-requires k).After-flag_closing in
-    let l = (goal.at.After-flag_closing f).After-later_levels-count in
-    let room = l.requires.prepared.room in
-    let searched = (levels l).outside.same_length in
-    let flagged = (flags f).outside.same_length in
-    let kept = k.keep_ways.ensures.outside.same_length in record {
-      fact = inr (omega arith);
-      n_in_bounds = omega arith;
-      n_in_bounds_2 = omega arith;
     }
 
 pub returns : goal.returns

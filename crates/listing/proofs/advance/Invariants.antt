@@ -9,6 +9,3 @@ use Rattle.listing.proofs.advance.Given as goal
 abbrev pub invariant-loop-place : goal.invariant-loop-place
 invariant-loop-place l =
     Retreating l.file l.h l.transitions.0 l.initial.work l.work l.place × ((j : ℕ) → l.place ≡ suc j → KnownFrom l.file l.h l.work l.transitions.0 j l.p)
-
-abbrev pub decreases-loop-place : goal.decreases-loop-place
-decreases-loop-place l = l.place

@@ -1,5 +1,5 @@
 -- `count_holding` meets its contract: the masks counted and those from place k on are all that hold the letter.
-use Prim.Native.Nat.{ℕ, ◌+◌, ◌-◌, ◌≤◌}
+use Prim.Native.Nat.{ℕ, ◌+◌, ◌≤◌}
 use mathlib.Core.Path.{◌≡◌}
 use mathlib.Core.List.{List}
 use lib.ListN.{length, drop}
@@ -14,6 +14,3 @@ holding_from masks letter k = length (keep (λ (m : ℕ). bitb m letter) (drop k
 abbrev pub invariant-loop-k : goal.invariant-loop-k
 invariant-loop-k l =
     (l.k ≤ l.count) × (l.held ≤ l.k) × (l.held + holding_from l.masks l.letter l.k ≡ holding_from l.masks l.letter 0)
-
-abbrev pub decreases-loop-k : goal.decreases-loop-k
-decreases-loop-k l = l.count - l.k

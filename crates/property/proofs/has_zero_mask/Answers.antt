@@ -3,10 +3,9 @@ use Prim.Native.Nat.{ℕ, ◌+◌, ◌*◌}
 use mathlib.Core.Path.{◌≡◌, sym, ap, ap₂, ◌∙◌}
 use borrow.Author.Tests.{eq-eqb, ne_eqb}
 use Rattle.format.specs.Bytes.{word}
-use Rattle.lists.proofs.Range.{left_below, left_found, left_next, left_none}
+use Rattle.lists.proofs.Range.{left_found, left_next}
 use Rattle.property.specs.Property.{masks_at, mask_at}
-use Rattle.property.proofs.PropertyLaws.{property_facts, property_length, property_numbers}
-use Rattle.property.proofs.has_zero_mask.Invariants.{is_zero}
+use Rattle.property.proofs.PropertyLaws.{property_numbers}
 use Rattle.property.proofs.has_zero_mask.Goals as goal
 use Rattle.property.proofs.has_zero_mask.Goals.{After-entry_at}
 
@@ -22,22 +21,6 @@ mask_read c =
     c.entry_at.ensures.0
     ∙ ap (λ (base : ℕ). word start.args.file.now (base + 2 * at.loop-e.e)) (told.total_of-masks.ensures ∙ ap₂ masks_at numbers.0 numbers.1)
 
-pub total_of-masks-requires : goal.total_of-masks-requires
-total_of-masks-requires c =
-    let v = c.requires in
-    omega (arith, property_numbers v, property_facts v)
-
-pub loop-e-init : goal.loop-e-init
-loop-e-init c =
-    let start = c in
-    rw (property_numbers start.requires).1 (left_below (is_zero start.args.file.now) _)
-
-pub entry_at-requires : goal.entry_at-requires
-entry_at-requires c =
-    let told = c in
-    let v = told.requires in
-    omega (arith, told.total_of-masks.ensures, property_numbers v, property_length v)
-
 pub returns-then-entry_at-eq0 : goal.returns-then-entry_at-eq0
 returns-then-entry_at-eq0 c =
     let at = c in
@@ -51,6 +34,3 @@ loop-e-preserved c =
     let file = at.args.file.now in
     left_next at.loop-e.invariant (omega (arith, c.loop-e-test.true))
     (ne_eqb (mask_at file at.loop-e.e) 0 (omega (arith, mask_read (goal.at.loop-e-preserved c).After-entry_at)))
-
-pub returns : goal.returns
-returns c = sym (left_none c.loop-e.invariant (omega (arith, c.loop-e-test.false)))

@@ -1,5 +1,5 @@
 -- `has_zero_mask` meets its contract: the masks from e on decide whether one is zero.
-use Prim.Native.Nat.{ℕ, ◌-◌}
+use Prim.Native.Nat.{ℕ}
 use mathlib.Core.Bool.{Bool}
 use mathlib.Core.List.{List}
 use lib.Dec.{eqb}
@@ -13,6 +13,3 @@ is_zero p e = eqb (mask_at p e) 0
 
 abbrev pub invariant-loop-e : goal.invariant-loop-e
 invariant-loop-e l = Left (is_zero l.file) (zero_mask l.file) l.m l.e
-
-abbrev pub decreases-loop-e : goal.decreases-loop-e
-decreases-loop-e l = l.m - l.e

@@ -1,8 +1,7 @@
 -- `mask_part` meets its contract: the masks of the row lie after the marks, within the file.
-use Prim.Native.Nat.{ℕ}
-use mathlib.Core.Path.{◌≡◌, ap, ap₂, ◌∙◌}
+use mathlib.Core.Path.{◌≡◌, ap₂, ◌∙◌}
 use native.Mathlib.Omega.{arith}
-use Rattle.format.specs.Layout.{states, edge_count, row_numbers}
+use Rattle.format.specs.Layout.{states, edge_count}
 use Rattle.property.specs.Property.{masks_at}
 use Rattle.property.proofs.PropertyLaws.{property_facts, property_length, property_numbers, masks_within}
 use Rattle.property.proofs.mask_part.Goals as goal
@@ -17,11 +16,6 @@ place c =
     let by-header : c.total_of.result ≡ masks_at h.states h.edges = c.total_of.ensures in
     by-header ∙ ap₂ masks_at numbers.0 numbers.1
 
-pub total_of-requires : goal.total_of-requires
-total_of-requires c =
-    let v = c.requires.valid_property in
-    omega (arith, property_numbers v, property_facts v)
-
 pub edge_part-requires : goal.edge_part-requires
 edge_part-requires c =
     let start = c in
@@ -31,8 +25,3 @@ edge_part-requires c =
     let numbers = property_numbers v in
     let less = start.requires.q_lt_states in
     omega (arith, place c, numbers, F, property_length v, masks_within v q (omega arith), F.rows_ascend q (omega arith))
-
-pub returns : goal.returns
-returns c =
-    let start = c in
-    c.edge_part.ensures ∙ ap (λ (base : ℕ). row_numbers start.args.file.now base start.args.q) (place (goal.at.returns c).After-total_of)

@@ -12,6 +12,3 @@ row-requires c =
     let F = property_facts v in
     let q = start.args.q in
     omega (arith, numbers, F, F.rows_ascend q (omega (arith, start.requires.q_lt_states)), row_end_le F q (omega (arith, start.requires.q_lt_states)))
-
-pub returns : goal.returns
-returns c = c.row.ensures

@@ -1,5 +1,5 @@
 -- `total_fits` meets its contract: the totals with further tables decide whether the total length is one of them.
-use Prim.Native.Nat.{ℕ, ◌+◌, ◌*◌, ◌-◌}
+use Prim.Native.Nat.{ℕ, ◌+◌, ◌*◌}
 use mathlib.Core.Bool.{Bool}
 use mathlib.Core.List.{List}
 use lib.Dec.{eqb}
@@ -15,6 +15,3 @@ total_with file total further = eqb (long file 20) (total + further * mark_bytes
 
 abbrev pub invariant-loop-further : goal.invariant-loop-further
 invariant-loop-further l = Left (total_with l.file l.total) (total_fits l.total l.tables l.file) l.tables l.further
-
-abbrev pub decreases-loop-further : goal.decreases-loop-further
-decreases-loop-further l = l.tables - l.further

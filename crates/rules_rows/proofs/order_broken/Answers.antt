@@ -7,8 +7,7 @@ use Rattle.lists.specs.Lists.{ascendingb}
 use Rattle.format.specs.Layout.{row_targets}
 use Rattle.format.specs.Rules.{bad_rows}
 use Rattle.format.proofs.Kept.{rows_ascend_kept, row_last_kept, row_end_within}
-use Rattle.lists.proofs.Range.{left_below, left_found, left_next, left_none}
-use Rattle.rules_rows.proofs.order_broken.Invariants.{unordered}
+use Rattle.lists.proofs.Range.{left_found, left_next}
 use Rattle.rules_rows.proofs.order_broken.Goals as goal
 use Rattle.rules_rows.proofs.order_broken.Goals.{After-ascends}
 
@@ -17,9 +16,6 @@ row_tested : (c : After-ascends) →
     let at = c in
     c.ascends.result ≡ ascendingb (row_targets at.args.file.now at.loop-s.s)
 row_tested c = c.ascends.ensures ∙ ap ascendingb c.row.ensures
-
-pub loop-s-init : goal.loop-s-init
-loop-s-init c = rw c.requires.has_tables.states_are (left_below (unordered c.args.file.now) _)
 
 pub row-requires : goal.row-requires
 row-requires c =
@@ -39,6 +35,3 @@ pub loop-s-preserved : goal.loop-s-preserved
 loop-s-preserved c =
     let at = c in
     left_next at.loop-s.invariant (search rules) (ap not (sym (row_tested (goal.at.loop-s-preserved c).After-ascends) ∙ c.if-not-ascends.false))
-
-pub returns : goal.returns
-returns c = sym (left_none c.loop-s.invariant c.loop-s-test.false)

@@ -1,5 +1,5 @@
 -- `order_broken` meets its contract: the rows from s on decide whether the targets of one do not ascend.
-use Prim.Native.Nat.{ℕ, ◌-◌}
+use Prim.Native.Nat.{ℕ}
 use mathlib.Core.Bool.{Bool, not}
 use mathlib.Core.List.{List}
 use Rattle.lists.specs.Lists.{ascendingb}
@@ -14,6 +14,3 @@ unordered f s = not (ascendingb (row_targets f s))
 
 abbrev pub invariant-loop-s : goal.invariant-loop-s
 invariant-loop-s l = Left (unordered l.file) (bad_order l.file) l.n l.s
-
-abbrev pub decreases-loop-s : goal.decreases-loop-s
-decreases-loop-s l = l.n - l.s

@@ -1,5 +1,5 @@
 -- `rows_broken` meets its contract: the row entries from s on decide whether one is less than the one before.
-use Prim.Native.Nat.{ℕ, ◌+◌, ◌-◌}
+use Prim.Native.Nat.{ℕ, ◌+◌}
 use mathlib.Core.Bool.{Bool}
 use mathlib.Core.List.{List}
 use lib.Dec.{ltb}
@@ -14,6 +14,3 @@ falls f s = ltb (row_entry f (s + 1)) (row_entry f s)
 
 abbrev pub invariant-loop-s : goal.invariant-loop-s
 invariant-loop-s l = Left (falls l.file) (anyb (falls l.file) (below (states l.file))) l.n l.s
-
-abbrev pub decreases-loop-s : goal.decreases-loop-s
-decreases-loop-s l = l.n - l.s

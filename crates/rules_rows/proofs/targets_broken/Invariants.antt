@@ -1,5 +1,5 @@
 -- `targets_broken` meets its contract: the targets from e on decide whether one is not below n.
-use Prim.Native.Nat.{ℕ, ◌-◌}
+use Prim.Native.Nat.{ℕ}
 use mathlib.Core.Bool.{Bool, not}
 use mathlib.Core.List.{List}
 use lib.Dec.{ltb}
@@ -14,6 +14,3 @@ outside f e = not (ltb (target f e) (states f))
 
 abbrev pub invariant-loop-e : goal.invariant-loop-e
 invariant-loop-e l = Left (outside l.file) (bad_targets l.file) l.m l.e
-
-abbrev pub decreases-loop-e : goal.decreases-loop-e
-decreases-loop-e l = l.m - l.e

@@ -1,5 +1,4 @@
 -- `spare_of_table` meets its contract: the spare bits of the table from s on decide whether one is set.
-use Prim.Native.Nat.{◌-◌}
 use Rattle.format.specs.Layout.{mark_bit}
 use Rattle.format.specs.Rules.{spare_set}
 use Rattle.lists.proofs.Range.{Left}
@@ -7,6 +6,3 @@ use Rattle.rules_spare.proofs.spare_of_table.Given as goal
 
 abbrev pub invariant-loop-s : goal.invariant-loop-s
 invariant-loop-s l = Left (mark_bit l.file l.t) (spare_set l.file l.t) l.end l.s
-
-abbrev pub decreases-loop-s : goal.decreases-loop-s
-decreases-loop-s l = l.end - l.s

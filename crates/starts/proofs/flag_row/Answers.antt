@@ -2,61 +2,42 @@ use Prim.Native.Nat.{◌+◌, ◌<◌}
 use mathlib.Core.Path.{◌≡◌, sym, ◌∙◌}
 use lib.ListN.{get_or, set}
 use native.Mathlib.Omega.{arith}
-use Rattle.model.specs.Model.{graph_in, steps_of}
-use Rattle.starts.specs.Flags.{Flagging}
+use Rattle.model.specs.Model.{graph_in}
 use Rattle.model.proofs.Laws.{row_state}
-use Rattle.starts.proofs.StartsFlags.{LowBefore, flagging_none, low_put, low_pass, row_flagged}
+use Rattle.starts.proofs.StartsFlags.{low_put, low_pass, row_flagged}
 use Rattle.starts.proofs.flag_row.Goals as goal
-use Rattle.starts.proofs.flag_row.Goals.{then-get-distance, else-get-distance, After-successor-t, At-loop-k, Joined-get-distance, Start}
-
-abbrev start : At-loop-k → Start
-start c = (goal.at.At-loop-k c).Start
+use Rattle.starts.proofs.flag_row.Goals.{then-get-distance, else-get-distance, After-target-t}
 
 -- the successor is a state
-successor_state : (c : After-successor-t) → c.successor-t.result < (start (goal.at.After-successor-t c).At-loop-k).args.h.states
+successor_state : (c : After-target-t) → c.target-t.result < c.args.h.states
 successor_state c =
-    let s = start (goal.at.After-successor-t c).At-loop-k in
-    row_state s.args.u c.loop-k.k s.requires.valid c.row_part-part.ensures (omega arith) c.successor-t.ensures
-
--- one more successor is passed
-successor_passed : (c : Joined-get-distance) →
-    let l = (goal.at.Joined-get-distance c).At-loop-k in
-    Flagging (start l).args.h.states (LowBefore (steps_of (start l).args.h (start l).args.u l.row_part-part.result.now) (start l).args.work.now l.get-distance.result (l.loop-k.k + 1)) (start l).args.work.now c.if-get-distance.work
-successor_passed c =
-    let l = (goal.at.Joined-get-distance c).At-loop-k in
-    let t = c.successor-t.result in
-    let at : get_or (steps_of (start l).args.h (start l).args.u l.row_part-part.result.now) l.loop-k.k 0 ≡ t = sym c.successor-t.ensures in
-    let state : t < (start l).args.h.states = successor_state (goal.at.Joined-get-distance c).After-successor-t in
-    elim c.if-get-distance.branch [
-      | then-get-distance w ↦
-          let e : c.if-get-distance.work ≡ set l.loop-k.work ((start l).args.h.states + t) 1 = w.work-is ∙ w.put.ensures in
-          rw e (low_put t at state (start l).requires.states_in_bounds l.loop-k.invariant.1)
-      | else-get-distance w ↦
-          let e : c.if-get-distance.work ≡ l.loop-k.work = w.work-is in
-          rw e (low_pass t at state (omega (arith, w.if-get-distance.false, c.get.ensures.value)) l.loop-k.invariant.1)
-    ]
-
-pub loop-k-init : goal.loop-k-init
-loop-k-init c = (omega arith, flagging_none _ _ (λ t l. omega (arith, l.before)))
+    row_state c.args.u c.loop-k.k c.requires.valid c.successors_of-successors.ensures (omega (arith, c.len-k-end.ensures)) c.target-t.ensures
 
 pub get-requires : goal.get-requires
-get-requires c = omega (arith, successor_state c, c.loop-k.invariant.1.same.same_length)
+get-requires c = omega (arith, successor_state c)
 
 pub overflow_add-n : goal.overflow_add-n
-overflow_add-n c = omega (arith, successor_state (goal.at.overflow_add-n c).After-successor-t, c.loop-k.invariant.1.same.same_length)
+overflow_add-n c = omega (arith, successor_state (goal.at.overflow_add-n c).After-target-t)
 
-pub put-requires : goal.put-requires
-put-requires c = omega (arith, successor_state (goal.at.put-requires c).After-successor-t, c.loop-k.invariant.1.same.same_length)
+pub put-requires-clause-at_in_bounds : goal.put-requires-clause-at_in_bounds
+put-requires-clause-at_in_bounds c = omega (arith, successor_state (goal.at.put-requires-clause-at_in_bounds c).After-target-t)
 
 pub loop-k-preserved : goal.loop-k-preserved
-loop-k-preserved c = (omega arith, successor_passed c)
-
-pub shape_of-work : goal.shape_of-work
-shape_of-work c = c.loop-k.invariant.1.same.same_length
+loop-k-preserved c =
+    let n = c.args.h.states in
+    let t = c.target-t.result in
+    let at : get_or (c.successors_of-successors.result) c.loop-k.k 0 ≡ t = sym c.target-t.ensures in
+    let state : t < n = successor_state (goal.at.loop-k-preserved c).After-target-t in
+    elim c.if-get-distance.branch [
+      | then-get-distance w ↦
+          let e : c.if-get-distance.work ≡ set c.loop-k.work (n + t) 1 = w.work-is ∙ w.put.ensures in
+          rw e (low_put t at state c.requires.states_in_bounds c.loop-k.invariant)
+      | else-get-distance w ↦
+          let e : c.if-get-distance.work ≡ c.loop-k.work = w.work-is in
+          rw e (low_pass t at state (omega (arith, w.if-get-distance.false, c.get.ensures.value)) c.loop-k.invariant)
+    ]
 
 pub returns : goal.returns
 returns c =
-    let s = (goal.at.returns c).Start in
-    let row = c.row_part-part.ensures in
-    let d = c.get-distance.ensures.value in
-    row_flagged (graph_in s.args.file.now s.args.h) s.args.u row (omega (arith, c.degree-d.ensures)) d c.loop-k.invariant.1
+    row_flagged (graph_in c.args.file.now c.args.h) c.args.u c.successors_of-successors.ensures (omega (arith, c.len-k-end.ensures))
+    c.get-distance.ensures.value c.loop-k.invariant

@@ -1,14 +1,9 @@
 -- `starts::flag_row` meets its contract. The loop's invariant: the first k successors are flagged where their
 -- entries in region 0 are no greater than that of u.
-use Prim.Native.Nat.{◌-◌, ◌≤◌}
-use Rattle.model.specs.Model.{steps_of}
 use Rattle.starts.specs.Flags.{Flagging}
 use Rattle.starts.proofs.StartsFlags.{LowBefore}
 use Rattle.starts.proofs.flag_row.Given as goal
 
 abbrev pub invariant-loop-k : goal.invariant-loop-k
 invariant-loop-k l =
-    (l.k ≤ l.d) × Flagging l.n (LowBefore (steps_of l.h l.u l.part) l.initial.work l.distance l.k) l.initial.work l.work
-
-abbrev pub decreases-loop-k : goal.decreases-loop-k
-decreases-loop-k l = l.d - l.k
+    Flagging l.n (LowBefore l.successors l.initial.work l.distance l.k) l.initial.work l.work

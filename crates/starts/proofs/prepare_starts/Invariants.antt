@@ -1,12 +1,8 @@
 -- `starts::prepare_starts` meets its contract. The loop's invariant: the entries of the first s states are in region 1, and
 -- among the others those that are not flagged start no loop.
-use Prim.Native.Nat.{◌-◌, ◌≤◌}
 use Rattle.model.specs.Model.{graph_in}
 use Rattle.starts.proofs.StartsFilling.{Filling}
 use Rattle.starts.proofs.prepare_starts.Given as goal
 
 abbrev pub invariant-loop-s : goal.invariant-loop-s
-invariant-loop-s l = (l.s ≤ l.n) × Filling (graph_in l.file l.h) l.transitions.0 l.s l.n l.initial.work l.work
-
-abbrev pub decreases-loop-s : goal.decreases-loop-s
-decreases-loop-s l = l.n - l.s
+invariant-loop-s l = Filling (graph_in l.file l.h) l.transitions.0 l.s l.n l.initial.work l.work

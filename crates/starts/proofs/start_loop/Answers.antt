@@ -4,6 +4,7 @@ use Prim.Native.Nat.{suc, ◌+◌, ◌-◌, ◌≤◌}
 use mathlib.Core.Option.{some}
 use mathlib.Core.Path.{◌≡◌, ap, ◌∙◌}
 use native.Mathlib.Omega.{arith}
+use mathlib.Core.Logic.{inl, inr}
 use borrow.Author.Tests.{eqb-true, eqb-false, ltb-true}
 use Rattle.lasso.specs.Graph.{Graph}
 use Rattle.lasso.specs.Distance.{dist}
@@ -56,15 +57,14 @@ loop_found c =
 
 pub returns-then-reached-eq0 : goal.returns-then-reached-eq0
 returns-then-reached-eq0 c =
-    record {
-      value = (start_loop_unreached (graph (goal.at.returns-then-reached-eq0 c).After-get-reached) c.args.transitions.0 c.args.s (omega (arith, eqb-true, the_distance_entry (goal.at.returns-then-reached-eq0 c).After-get-reached)), omega arith);
-      same = same_outside_refl _ _ _;
-    }
-
-pub returns-then-most-reached : goal.returns-then-most-reached
-returns-then-most-reached c =
-    let at = (goal.at.returns-then-most-reached c).After-get-reached in record {
-      value = (start_loop_far (valid_well_formed at.requires.rounds_ready.valid) _ _ (the_distance_entry at) (omega (arith, ltb-true, c.number-most.ensures)), omega arith);
+    let at = (goal.at.returns-then-reached-eq0 c).After-get-reached in record {
+      value = (
+        elim c.then-reached-eq0.either [
+          | inl none ↦ start_loop_unreached (graph at) c.args.transitions.0 c.args.s (omega (arith, eqb-true, none, the_distance_entry at))
+          | inr (reached, far) ↦ start_loop_far (valid_well_formed at.requires.rounds_ready.valid) _ _ (the_distance_entry at) (omega (arith, ltb-true, far, c.number-most.ensures))
+        ],
+        omega arith,
+      );
       same = same_outside_refl _ _ _;
     }
 

@@ -18,7 +18,7 @@ use Rattle.goal_tables.specs.Tables.{Tables}
 use Rattle.passed.specs.Passed.{PassedAt}
 use Rattle.tested.proofs.TestedLaws.{none_follows, ground_of, start_inside, place_says, last_says, passed_searched, passed_made}
 use Rattle.tested.proofs.may_follow.Goals as goal
-use Rattle.tested.proofs.may_follow.Goals.{Else-get-place, After-at_last, After-ensure_tables, After-get, After-slice_known-then-searches-lt-SEARCHES-1, Else-get-place, Else-place-number, Else-start-eq0, Start}
+use Rattle.tested.proofs.may_follow.Goals.{Else-get-place, After-at_last, After-ensure_tables, After-get, Else-get-place, Else-place-number, Else-start-eq0, Start}
 
 abbrev start : After-get → Start
 start c = (goal.at.After-get c).Start
@@ -28,7 +28,7 @@ asked : (s : Start) → let a = s.args in Asked a.file.now a.h a.work.now a.tran
 asked s = record { prepared = s.requires.prepared; within = s.requires.place_lt_transitions; path = s.requires.t }
 
 -- what is known of the list
-known : (s : Start) → let a = s.args in PassedAt a.file.now a.h a.work.now a.transitions.0 a.place a.passed
+known : (s : Start) → let a = s.args in PassedAt a.file.now a.h a.work.now a.transitions.0 a.place a.passed.now
 known s = s.requires.passed_at
 
 -- the entry read is that of t
@@ -46,11 +46,11 @@ abbrev start_of : Else-start-eq0 → Start
 start_of c = start (goal.at.Else-start-eq0 c).After-get
 
 -- its place is b
-start_is : (c : Else-start-eq0) → let a = (start_of c).args in a.passed.start ≡ suc (a.passed.start - 1)
+start_is : (c : Else-start-eq0) → let a = (start_of c).args in a.passed.now.start ≡ suc (a.passed.now.start - 1)
 start_is c = omega (arith, eqb-false, c.if-start-eq0.false)
 
 -- a loop start is passed, at place b
-last_start : (c : Else-start-eq0) → let a = (start_of c).args in LastStart (graph_in a.file.now a.h) a.transitions.0 (state_at a.h a.work.now) a.place (suc (a.passed.start - 1))
+last_start : (c : Else-start-eq0) → let a = (start_of c).args in LastStart (graph_in a.file.now a.h) a.transitions.0 (state_at a.h a.work.now) a.place (suc (a.passed.now.start - 1))
 last_start c =
     let s = start_of c in
     let a = s.args in
@@ -69,7 +69,7 @@ abbrev more_of : After-ensure_tables → Else-place-number
 more_of c = (goal.at.After-ensure_tables c).Else-place-number
 
 -- the tables
-tables : (c : After-ensure_tables) → let a = (start_of (passed_of (more_of c))).args in Tables (graph_in a.file.now a.h) a.transitions.0 (state_at a.h a.work.now) (a.passed.start - 1) c.ensure_tables.new.work
+tables : (c : After-ensure_tables) → let a = (start_of (passed_of (more_of c))).args in Tables (graph_in a.file.now a.h) a.transitions.0 (state_at a.h a.work.now) (a.passed.now.start - 1) c.ensure_tables.new.work
 tables c = c.ensure_tables.ensures.tables_2
 
 -- regions 2 to 5 alone changed
@@ -129,10 +129,10 @@ may_close-requires c =
       fact = no_stem (goal.at.Else-start-eq0 e).Else-get-place;
     }
 
-pub returns-then-searches-lt-SEARCHES : goal.returns-then-searches-lt-SEARCHES
-returns-then-searches-lt-SEARCHES c =
+pub returns-then-passed-lt-SEARCHES : goal.returns-then-passed-lt-SEARCHES
+returns-then-passed-lt-SEARCHES c =
     let m = c in
-    let s = (goal.at.After-slice_known-then-searches-lt-SEARCHES-1 m).Start in
+    let s = (goal.at.returns-then-passed-lt-SEARCHES m).Start in
     record {
       decides = m.may_close.ensures.decides;
       same = m.may_close.ensures.same;
@@ -144,8 +144,8 @@ ensure_tables-requires c =
     let e = (goal.at.ensure_tables-requires c).Else-start-eq0 in
     let s = (goal.at.Else-start-eq0 e).Start in
     let last = last_start e in record {
-      ground = ground_of (asked s) (s.args.passed.start - 1) (start_inside (asked s) last) (last.is (s.args.passed.start - 1) refl);
-      tables = λ m. (known s).tables m (s.args.passed.start - 1) (start_is e);
+      ground = ground_of (asked s) (s.args.passed.now.start - 1) (start_inside (asked s) last) (last.is (s.args.passed.now.start - 1) refl);
+      tables = λ m. (known s).tables m (s.args.passed.now.start - 1) (start_is e);
     }
 
 pub before_last-requires : goal.before_last-requires
@@ -171,5 +171,5 @@ returns c =
     record {
       decides = decides_iff both.0 both.1 c.before_last.result c.before_last.ensures;
       same = same r;
-      passed = passed_made (asked s) (known s) (same r) (s.args.passed.start - 1) (start_is e) (tables r) _;
+      passed = passed_made (asked s) (known s) (same r) (s.args.passed.now.start - 1) (start_is e) (tables r) _;
     }

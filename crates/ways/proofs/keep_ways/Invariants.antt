@@ -1,11 +1,7 @@
 -- `ways::keep_ways` meets its contract. The loop's invariant: the queue's states from place i on are settled.
-use Prim.Native.Nat.{◌≤◌}
 use Rattle.model.specs.Model.{graph_in}
 use Rattle.ways.proofs.BackLaws.{Settled}
 use Rattle.ways.proofs.keep_ways.Given as goal
 
 abbrev pub invariant-loop-i : goal.invariant-loop-i
-invariant-loop-i l = (l.i ≤ l.count) × Settled (graph_in l.file l.h) l.n l.count l.initial.work l.work l.i
-
-abbrev pub decreases-loop-i : goal.decreases-loop-i
-decreases-loop-i l = l.i
+invariant-loop-i l = Settled (graph_in l.file l.h) l.n l.count l.initial.work l.work l.i

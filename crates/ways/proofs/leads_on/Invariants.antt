@@ -1,10 +1,9 @@
 -- `ways::leads_on` meets its contract. The loop's invariant: none of the first k successors has the entry.
-use Prim.Native.Nat.{ℕ, ◌-◌, ◌≤◌}
+use Prim.Native.Nat.{ℕ}
 use mathlib.Core.Path.{◌≡◌}
 use mathlib.Core.List.{List}
 use Rattle.frontier.specs.Regions.{entry}
 use Rattle.lists.proofs.Tests.{NoneOf}
-use Rattle.model.specs.Model.{steps_of}
 use Rattle.ways.proofs.leads_on.Given as goal
 
 -- a state has the entry
@@ -12,7 +11,4 @@ abbrev pub Has : ℕ → List ℕ → ℕ → ℕ → Type 0
 Has n w next t = entry 2 n w t ≡ next
 
 abbrev pub invariant-loop-k : goal.invariant-loop-k
-invariant-loop-k l = (l.k ≤ l.d) × NoneOf (Has l.n l.work l.next) (steps_of l.h l.s l.part) l.k
-
-abbrev pub decreases-loop-k : goal.decreases-loop-k
-decreases-loop-k l = l.d - l.k
+invariant-loop-k l = NoneOf (Has l.n l.work l.next) l.successors l.k

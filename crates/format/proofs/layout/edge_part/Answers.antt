@@ -16,21 +16,6 @@ ends c =
     let a = c.args in
     subst (λ (n : ℕ). c.row_entry-2.result ≡ row_entry a.file.now n) (omega arith) c.row_entry-2.ensures.0
 
-pub overflow_mul-to : goal.overflow_mul-to
-overflow_mul-to c = search (rules, ends c)
-
-pub overflow_add-to : goal.overflow_add-to
-overflow_add-to c = search (rules, ends c)
-
-pub slice_bounds-result-count : goal.slice_bounds-result-count
-slice_bounds-result-count c = search (rules, ends c)
-
-pub slice_bounds-result-start : goal.slice_bounds-result-start
-slice_bounds-result-start c = search (rules, ends c)
-
-pub slice_bounds-result-end : goal.slice_bounds-result-end
-slice_bounds-result-end c = search (rules, ends c)
-
 pub returns : goal.returns
 returns c =
     let start = c in

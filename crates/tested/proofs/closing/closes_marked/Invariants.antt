@@ -1,5 +1,5 @@
 -- `closing::closes_marked` meets its contract. The loop goes from the last place back; its invariant: the flag tells if a state
--- from place k on is marked, and no place from k on passes the test.
+-- after place k is marked, and no place after it passes the test.
 use Prim.Native.Nat.{ℕ, suc, ◌+◌, ◌≤◌}
 use mathlib.Core.Path.{◌≡◌}
 use mathlib.Core.List.{List, ◌∷◌}
@@ -19,7 +19,4 @@ NotClosing f h w place left x =
 
 abbrev pub invariant-loop-k : goal.invariant-loop-k
 invariant-loop-k l =
-    (l.k ≤ l.place + 1) × Decides (MarkFrom (graph_in l.file l.h) l.h.start l.work l.place l.k) l.marked × ((x : ℕ) → l.k ≤ x → NotClosing l.file l.h l.work l.place l.left x)
-
-abbrev pub decreases-loop-k : goal.decreases-loop-k
-decreases-loop-k l = l.k
+    Decides (MarkFrom (graph_in l.file l.h) l.h.start l.work l.place (l.k + 1)) l.marked × ((x : ℕ) → l.k + 1 ≤ x → NotClosing l.file l.h l.work l.place l.left x)

@@ -1,6 +1,6 @@
 -- `closing::closes_start` meets its contract. The loop's invariant: no state at a place passed can start the loop and is reached
 -- soon enough.
-use Prim.Native.Nat.{ℕ, suc, ◌+◌, ◌-◌, ◌≤◌, ◌<◌}
+use Prim.Native.Nat.{ℕ, suc, ◌≤◌, ◌<◌}
 use mathlib.Core.Path.{◌≡◌}
 use mathlib.Core.List.{List, ◌∷◌}
 use lib.ListN.{get_or}
@@ -14,7 +14,4 @@ StartUnreached n start w left x =
     (a : ℕ) → Starts n w (get_or (start ∷ w) x 0) → entry 2 n w (get_or (start ∷ w) x 0) ≡ suc a → a ≤ left → ⊥
 
 abbrev pub invariant-loop-k : goal.invariant-loop-k
-invariant-loop-k l = (l.k ≤ l.place + 1) × ((x : ℕ) → x < l.k → StartUnreached l.h.states l.h.start l.work l.left x)
-
-abbrev pub decreases-loop-k : goal.decreases-loop-k
-decreases-loop-k l = l.place + 1 - l.k
+invariant-loop-k l = (x : ℕ) → x < l.k → StartUnreached l.h.states l.h.start l.work l.left x

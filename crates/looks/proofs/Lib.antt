@@ -1,2 +1,0 @@
--- The laws of a look.
-pub mod CaseLaws
