@@ -5,7 +5,8 @@ use harness::{Filling, entries, entry, first, holds};
 use script_commands::{Action, command_size};
 use script_player::play;
 
-// The kinds of answer in a log; what is below them is the number of a refusal.
+// The kinds of answer in a log; what is below them is the number of a refusal. They are numbers because the log is a table
+// that C reads.
 const KINDS_FROM: u16 = 100;
 
 const STOPPED: u16 = 101;
