@@ -8,7 +8,7 @@ ghost use Rattle.model.specs.Model.{graph_in};
 ghost use Rattle.model.specs.Values.{Valid};
 ghost use Rattle.grade_verdicts.specs.Verdict.{leastb};
 
-use begun::{AllRounds, all_rounds};
+use begun::all_rounds;
 use model::Header;
 
 // The list has the least length of an accepting path: all rounds are done.
@@ -19,8 +19,7 @@ pub fn is_least(file: &[u8], h: Header, list: &[u16], work: &mut [u16]) -> bool
     ensures tells { result ≡ leastb (least_length (graph_in file.now h)) (edges list.now) }
     ensures kept { length work.new ≡ length work.old }
 {
-    match all_rounds(file, h, work) {
-        AllRounds::None(_) => false,
-        AllRounds::Length(transitions, _) => list.len() == transitions.entries().0,
-    }
+    all_rounds(file, h, work)
+        .length
+        .is_some_and(|least| list.len() == least.entries().0)
 }

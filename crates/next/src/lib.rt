@@ -12,7 +12,7 @@ ghost use Rattle.gate.specs.Gate.{work_of};
 ghost use Rattle.candidates.specs.Promises.{RoundsReady};
 ghost use Rattle.next.specs.Next.{next_outcome_of, next_outcome, next_answer};
 
-use begun::{AllRounds, all_rounds};
+use begun::all_rounds;
 use cursor::{to_list, to_next, write_list};
 use gate::{enter, leave};
 use lasso::Transitions;
@@ -85,9 +85,9 @@ fn next_of_model(
         (length work.old) }
     ensures kept { length work.new ≡ length work.old }
 {
-    match all_rounds(file, h, work) {
-        AllRounds::None(_) => Err(Reason::NotShortest),
-        AllRounds::Length(transitions, _) => next_list(file, h, transitions, earlier, answer, work),
+    match all_rounds(file, h, work).length {
+        None => Err(Reason::NotShortest),
+        Some(transitions) => next_list(file, h, transitions, earlier, answer, work),
     }
 }
 
