@@ -64,7 +64,8 @@ fn number_of(given: Verdict) -> u64 {
 fn is_right(seen: Tried, right: Graded) -> bool {
     !seen.wrong
         && seen.answer.is_ok_and(|given| {
-            number_of(given.verdict) == number_of(verdict_of(right)) && given.first_break == right.place
+            number_of(given.verdict) == number_of(verdict_of(right))
+                && given.first_break == right.place
         })
 }
 
