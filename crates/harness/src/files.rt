@@ -1,17 +1,10 @@
-// The bytes of files: a part of them, writing them, and the numbers of a header.
-ghost use Rattle.std.specs.Prelude.{◌≤◌, ◌<◌, length};
-
-// A part of a file or of a text.
-pub fn part(words: &[u8], from: usize, to: usize) -> &[u8]
-    requires { (from ≤ to) × (to ≤ length words.now) }
-{
-    &words[from..to]
-}
+// The bytes of files: writing them, and the numbers of a header.
+ghost use Rattle.std.specs.Prelude.{◌≤◌, ◌<◌};
 
 // Writes the low byte of a number, where there is room.
 pub fn put_byte(file: &mut [u8], at: usize, value: usize) {
-    if at < file.len() {
-        file[at] = (value % 256) as u8;
+    if let Some(byte) = file.get_mut(at) {
+        *byte = (value % 256) as u8;
     }
 }
 
