@@ -5,12 +5,11 @@ use Rattle.lists.specs.Limit.{under}
 use Rattle.lasso.specs.Graph.{Graph}
 use Rattle.lasso.specs.Roll.{least_length}
 use Rattle.lasso.specs.Rounds.{candidates, after_rounds}
-use Rattle.lasso.specs.Values.{record_of}
+use Rattle.lasso.specs.Values.{record_of, length_of}
 use Rattle.lasso.specs.declared.RoundRecord.{RoundRecord}
 use Rattle.begun.specs.declared.Begun.{Begun}
 use Rattle.begun.specs.declared.Begun.TheVariants as Begins
 use Rattle.begun.specs.declared.AllRounds.{AllRounds}
-use Rattle.begun.specs.declared.AllRounds.TheVariants as ran
 
 -- the rounds were stopped: the allowance is less than the number of candidates, and the record is the one after so many
 pub record StoppedAfter (g : Graph) (ceiling allowance : ℕ) (r : RoundRecord) : Type 0 where
@@ -35,7 +34,6 @@ pub record RoundsDone (g : Graph) (rounds : ℕ) (least : Option ℕ) : Type 0 w
   pub rounds_are : rounds ≡ length (candidates g)
   pub least_is : least_length g ≡ least
 
--- what each answer of all rounds says
+-- what the answer of all rounds says
 abbrev pub AllRoundsSay : Graph → AllRounds → Type 0
-AllRoundsSay g (ran.None rounds) = RoundsDone g rounds none
-AllRoundsSay g (ran.Length l rounds) = RoundsDone g rounds (some l.0)
+AllRoundsSay g all = RoundsDone g all.rounds (length_of all.length)

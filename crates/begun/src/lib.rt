@@ -9,7 +9,7 @@ ghost use Rattle.candidates.specs.Promises.{RoundsReady};
 ghost use Rattle.begun.specs.Begun.{BegunSays, AllRoundsSay};
 
 use candidates::{count_candidates, start_distances};
-use lasso::{Best, RoundRecord, Transitions};
+use lasso::{RoundRecord, Transitions};
 use model::Header;
 use numbers::limit;
 use rounds::run_rounds;
@@ -26,9 +26,9 @@ pub enum Begun {
 // What all rounds of the whole model come to: the number of rounds, and the length of the shortest accepting paths, if there
 // is one.
 #[derive(Clone, Copy)]
-pub enum AllRounds {
-    None(u16),
-    Length(Transitions, u16),
+pub struct AllRounds {
+    pub rounds: u16,
+    pub length: Option<Transitions>,
 }
 
 // Does the rounds under a ceiling that the allowance admits.
@@ -53,10 +53,9 @@ pub fn begin(
         return Begun::Stopped(record);
     }
     let rounds = record.done;
-    let best = record.best;
-    match best {
-        Best::None => Begun::NoneWithin(rounds),
-        Best::Length(transitions) => Begun::Length(transitions, rounds),
+    match record.best {
+        None => Begun::NoneWithin(rounds),
+        Some(length) => Begun::Length(length, rounds),
     }
 }
 
@@ -77,8 +76,14 @@ pub fn all_rounds(file: &[u8], h: Header, work: &mut [u16]) -> AllRounds
         work,
     );
     match begun {
-        Begun::Stopped(_) => AllRounds::None(0),
-        Begun::NoneWithin(rounds) => AllRounds::None(rounds),
-        Begun::Length(transitions, rounds) => AllRounds::Length(transitions, rounds),
+        Begun::Stopped(_) => unreachable!(),
+        Begun::NoneWithin(rounds) => AllRounds {
+            rounds,
+            length: None,
+        },
+        Begun::Length(length, rounds) => AllRounds {
+            rounds,
+            length: Some(length),
+        },
     }
 }

@@ -1,27 +1,17 @@
 -- Candidates, counted while going up through the states: those from a state on, and how many are below it.
-use Prim.Native.Nat.{ℕ, suc, ◌+◌, ◌-◌, ◌≤◌, ◌<◌}
+use Prim.Native.Nat.{ℕ, suc, ◌+◌, ◌-◌, ◌<◌}
 use mathlib.Core.Path.{◌≡◌, ◌∙◌, ap}
-use mathlib.Core.Logic.{inl, inr}
 use mathlib.Core.Bool.{Bool, true, false}
-use mathlib.Core.List.{List, [], ◌∷◌}
+use mathlib.Core.List.{List, ◌∷◌}
 use native.Mathlib.Omega.{arith}
 use lib.ListN.{length, get_or}
 use Rattle.lists.specs.Lists.{keep, cons_if, up_from}
 use Rattle.lasso.specs.Graph.{Graph}
 use Rattle.lasso.specs.Rounds.{candidateb, candidates}
-use Rattle.lists.proofs.Tests.{lt_or_ge}
 
 -- the candidates from s on
 abbrev pub candidates_from : Graph → ℕ → List ℕ
 candidates_from g s = keep (candidateb g) (up_from s (g.size - s))
-
--- the candidates from 0 on are all candidates
-candidates_from_zero : (g : Graph) → candidates_from g 0 ≡ candidates g
-candidates_from_zero g = let e : g.size - 0 ≡ g.size = omega arith in ap (λ (n : ℕ). keep (candidateb g) (up_from 0 n)) e
-
--- from the number of states on there is none
-candidates_from_size : (g : Graph) (s : ℕ) → g.size ≤ s → candidates_from g s ≡ []
-candidates_from_size g s l = let e : g.size - s ≡ 0 = omega arith in ap (λ (n : ℕ). keep (candidateb g) (up_from s n)) e
 
 -- the candidates from s on are s, if it is one, and those from s + 1 on
 candidates_from_next : (g : Graph) (s : ℕ) → s < g.size
@@ -48,15 +38,6 @@ candidates_from_no g s l e =
 pub record Counted (g : Graph) (d s : ℕ) : Type 0 where
   pub lengths : d + length (candidates_from g s) ≡ length (candidates g)
   pub entries : (k : ℕ) → get_or (candidates g) (d + k) 0 ≡ get_or (candidates_from g s) k 0
-
--- no candidate is below 0
-pub counted_none : (g : Graph) → Counted g 0 0
-counted_none g =
-    let all = candidates_from_zero g in
-    record {
-      lengths = omega (arith, ap length all);
-      entries = λ k. let e : 0 + k ≡ k = omega arith in rw (e, all);
-    }
 
 -- a candidate counts
 pub counted_yes : {g : Graph} {d s : ℕ} → s < g.size → candidateb g s ≡ true → Counted g d s → Counted g (d + 1) (s + 1)
@@ -88,18 +69,3 @@ counted_at {g} {d} {s} l e c =
 -- a candidate's place is below the number of candidates
 pub counted_left : {g : Graph} {d s : ℕ} → s < g.size → candidateb g s ≡ true → Counted g d s → d < length (candidates g)
 counted_left {g} {d} {s} l e c = omega (arith, c.lengths, ap length (candidates_from_yes g s l e))
-
--- all candidates are below the number of states
-pub counted_all : {g : Graph} {d s : ℕ} → g.size ≤ s → Counted g d s → d ≡ length (candidates g)
-counted_all {g} {d} {s} l c = omega (arith, c.lengths, ap length (candidates_from_size g s l))
-
--- while a candidate is to come, the states are not passed
-pub counted_inside : {g : Graph} {d s : ℕ} → d < length (candidates g) → Counted g d s → s < g.size
-counted_inside {g} {d} {s} l c = elim (lt_or_ge s g.size) [
-  | inl less ↦ less
-  | inr past ↦ absurd (omega (arith, counted_all past c))
-]
-
--- no more candidates are below a state than there are
-pub counted_le : {g : Graph} {d s : ℕ} → Counted g d s → d ≤ length (candidates g)
-counted_le c = omega (arith, c.lengths)

@@ -1,23 +1,17 @@
 -- Laws of the distances from the start in region 0 of the working table: they are put there, they say which states are
 -- candidates, and a round keeps them.
 use Prim.Native.Nat.{ℕ, suc, ◌+◌, ◌*◌, ◌≤◌, ◌<◌}
-use mathlib.Core.Path.{◌≡◌, refl, sym, ◌∙◌, ap}
-use mathlib.Core.Bool.{Bool, true, false, ◌&&◌}
+use mathlib.Core.Path.{◌≡◌, sym, ◌∙◌, ap}
 use mathlib.Core.List.{List}
-use mathlib.Core.Option.{Option, some, none}
 use native.Mathlib.Omega.{arith}
 use lib.ListN.{length, get_or}
-use Rattle.lists.specs.Lists.{is_some}
 use Rattle.lasso.specs.Graph.{Graph}
 use Rattle.lasso.specs.Distance.{dist}
-use Rattle.lasso.specs.Rounds.{candidateb}
-use Rattle.lists.proofs.Tests.{and_true, and_false}
 use Rattle.lasso.proofs.Distance.{dist-below}
 use Rattle.model.specs.declared.Header.{Header}
 use Rattle.model.specs.Values.{Valid}
 use Rattle.model.specs.Model.{graph_in}
-use Rattle.model.proofs.Laws.{valid_sizes}
-use Rattle.table.specs.Changes.{SameOutside, Copied}
+use Rattle.table.specs.Changes.{Copied}
 use Rattle.frontier.specs.Regions.{entry, entry_of}
 use Rattle.lists.specs.Limit.{under}
 use Rattle.walks.specs.Through.{DistancesWithin}
@@ -53,46 +47,8 @@ pub start_entry : {g : Graph} {w : List ℕ} → StartDistances g w → (s : ℕ
     → get_or w s 0 ≡ entry_of (dist g g.start s)
 start_entry {g} {w} d s l = sym (entry_zero g.size w s) ∙ d.distances s l
 
--- there is a value if its entry is not zero
-is_some-entry : (a : Option ℕ) → 0 < entry_of a → is_some a ≡ true
-is_some-entry none h = absurd (omega arith)
-is_some-entry (some v) h = refl
-
--- there is no value if its entry is zero
-none_entry : (a : Option ℕ) → entry_of a ≡ 0 → is_some a ≡ false
-none_entry none e = refl
-none_entry (some v) e = absurd (omega arith)
-
--- a state that is not reached from the start is no candidate
-pub candidate_unreached : {g : Graph} {w : List ℕ} → StartDistances g w → (s : ℕ) → s < g.size
-    → get_or w s 0 ≡ 0 → candidateb g s ≡ false
-candidate_unreached {g} d s l e =
-    ap (λ (b : Bool). g.marked s && b) (none_entry (dist g g.start s) (sym (start_entry d s l) ∙ e))
-    ∙ and_false (g.marked s)
-
--- a state that is reached from the start is a candidate if it is marked
-pub candidate_reached : {g : Graph} {w : List ℕ} → StartDistances g w → (s : ℕ) → s < g.size
-    → 0 < get_or w s 0 → candidateb g s ≡ g.marked s
-candidate_reached {g} d s l p =
-    ap (λ (b : Bool). g.marked s && b) (is_some-entry (dist g g.start s) (omega (arith, start_entry d s l)))
-    ∙ and_true (g.marked s)
-
 -- with the distances from the start the table is ready
 pub ready_started : {f : List ℕ} {h : Header} {w w' : List ℕ} → Valid f h → 6 * h.states ≤ length w
     → StartDistancesPut (graph_in f h) w w' → RoundsReady f h w'
 ready_started v room s =
     record { valid = v; room = omega (arith, s.same_length); start_distances = s.start_distances }
-
--- a change inside regions 2 to 5 leaves the table ready
-pub ready_kept : {f : List ℕ} {h : Header} {w w' : List ℕ} → RoundsReady f h w
-    → SameOutside (2 * h.states) (6 * h.states) w w' → RoundsReady f h w'
-ready_kept {f} {h} {w} {w'} ready same =
-    let sizes = valid_sizes ready.valid in
-    record {
-      valid = ready.valid;
-      room = omega (arith, ready.room, same.same_length);
-      start_distances = record {
-        distances = λ t l.
-            same.same_before (0 * (graph_in f h).size + t) (omega arith) ∙ ready.start_distances.distances t l;
-      };
-    }

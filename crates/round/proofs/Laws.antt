@@ -1,6 +1,6 @@
 -- Laws of one round: entries and what they stand for, the start levels that a round searches from, and that a round's
 -- length is at least one.
-use Prim.Native.Nat.{ℕ, zero, suc, ◌+◌, ◌-◌, ◌≤◌, ◌<◌}
+use Prim.Native.Nat.{ℕ, suc, ◌≤◌, ◌<◌}
 use mathlib.Core.Path.{◌≡◌, refl, ◌∙◌, ap}
 use mathlib.Core.Option.{Option, some, none}
 use native.Mathlib.Omega.{arith}
@@ -9,7 +9,7 @@ use Rattle.lasso.specs.Distance.{dist}
 use Rattle.lists.specs.Least.{sum}
 use Rattle.lasso.specs.Rounds.{round_length}
 use Rattle.lists.proofs.Least.{is_least_has}
-use Rattle.frontier.specs.Regions.{entry_of, value_of}
+use Rattle.frontier.specs.Regions.{entry_of}
 use Rattle.lists.specs.Limit.{under}
 use Rattle.hits.specs.Hit.{hit_length}
 use Rattle.lists.proofs.UnderLaws.{under_ge}
@@ -19,18 +19,6 @@ use Rattle.hits.proofs.HitLaws.{hit_length_cong, hit_length-under, hit_length_le
 pub entry_of_le : (n : ℕ) (a : Option ℕ) → ((v : ℕ) → a ≡ some v → v < n) → entry_of a ≤ n
 entry_of_le n none h = omega arith
 entry_of_le n (some v) h = omega (arith, h v refl)
-
--- the entry for a sum with nothing stands for nothing
-pub sum-entry_none : (a b : ℕ) → b ≡ 0 → 0 ≡ entry_of (sum (value_of a) (value_of b))
-sum-entry_none zero b e = refl
-sum-entry_none (suc a) zero e = refl
-sum-entry_none (suc a) (suc b) e = absurd (omega arith)
-
--- the entry for a sum: one less than the sum of the entries for two values
-pub sum-entry : (a b : ℕ) → 0 < a → 0 < b → a + b - 1 ≡ entry_of (sum (value_of a) (value_of b))
-sum-entry zero b p q = absurd (omega arith)
-sum-entry (suc a) zero p q = absurd (omega arith)
-sum-entry (suc a) (suc b) p q = omega arith
 
 -- a search from start levels that are, below the limit, the sums of two distances finds the round's length
 pub round_found : (g : Graph) (limit r : ℕ) (source : ℕ → Option ℕ)

@@ -1,24 +1,18 @@
 -- Laws of the working table during a round: the distances from the start in region 0, and the start levels in region 2.
-use Prim.Native.Nat.{ℕ, suc, ◌+◌, ◌*◌, ◌≤◌, ◌<◌}
+use Prim.Native.Nat.{ℕ, suc, ◌+◌, ◌*◌, ◌<◌}
 use mathlib.Core.Path.{◌≡◌, sym, ◌∙◌, ap, ap₂}
-use mathlib.Core.Logic.{inl, inr}
 use mathlib.Core.List.{List}
-use mathlib.Core.Option.{Option, some, none}
+use mathlib.Core.Option.{some, none}
 use native.Mathlib.Omega.{arith}
-use lib.ListN.{length, get_or, set}
-use lib.Seq.{get_or-set_same, get_or-set_other}
-use Rattle.lasso.specs.Graph.{Graph}
 use Rattle.lasso.specs.Distance.{dist}
 use Rattle.lists.specs.Least.{sum}
 use Rattle.lasso.specs.Rounds.{round_length}
-use Rattle.lists.proofs.Tests.{lt_or_ge}
 use Rattle.lists.proofs.UnderLaws.{under-sum}
 use Rattle.lasso.proofs.Distance.{dist-below}
 use Rattle.model.specs.declared.Header.{Header}
 use Rattle.model.specs.Model.{graph_in}
 use Rattle.model.proofs.Laws.{valid_sizes}
 use Rattle.table.specs.Changes.{SameOutside}
-use Rattle.table.proofs.Laws.{same_outside_refl, same_outside_widen, same_outside_trans, same_outside_set}
 use Rattle.frontier.specs.Regions.{entry, entry_of, value_of}
 use Rattle.lists.specs.Limit.{under}
 use Rattle.hits.specs.Hit.{hit_length}
@@ -27,7 +21,6 @@ use Rattle.edge_search.specs.Promises.{FoundFrom, ExhaustedFrom}
 use Rattle.frontier.specs.Buckets.{sources}
 use Rattle.lists.proofs.UnderLaws.{under_some}
 use Rattle.candidates.specs.Promises.{RoundsReady}
-use Rattle.candidates.proofs.DistanceLaws.{entry_zero}
 use Rattle.round.specs.Promises.{SumsFit, SumsPut}
 use Rattle.spread.proofs.SearchLaws.{value_entry}
 use Rattle.round.proofs.Laws.{entry_of_le, round_found}
@@ -43,45 +36,6 @@ ready_start {f} {h} ready found s l =
 pub record Added (n s : ℕ) (w w' : List ℕ) : Type 0 where
   pub others : SameOutside (2 * n) (2 * n + s) w w'
   pub sums : SumsPut n s w w'
-
--- at first nothing is added
-pub added_none : (n : ℕ) (w : List ℕ) → Added n 0 w w
-added_none n w =
-    record {
-      others = same_outside_widen (2 * n) (2 * n + 0) (omega arith) (omega arith) (same_outside_refl (2 * n) (2 * n) w);
-      sums = λ t l. absurd (omega arith);
-    }
-
--- the entry of region 0 for a state is as before
-added_start : {n s : ℕ} {w w' : List ℕ} → s < n → Added n s w w' → get_or w' s 0 ≡ entry 0 n w s
-added_start {n} {s} {w} l a = a.others.same_before s (omega arith) ∙ sym (entry_zero n w s)
-
--- the entry of region 2 for the next state is as before
-added_level : {n s : ℕ} {w w' : List ℕ} → Added n s w w' → get_or w' (2 * n + s) 0 ≡ entry 2 n w s
-added_level {n} {s} a = a.others.same_after (2 * n + s) (omega arith)
-
--- the two entries for the next state are small enough to be added if they were at first
-pub added_fits : {n s : ℕ} {w w' : List ℕ} → s < n → entry 0 n w s + entry 2 n w s ≤ 65536 → Added n s w w'
-    → get_or w' s 0 + get_or w' (2 * n + s) 0 ≤ 65536
-added_fits l fits a = omega (arith, added_start l a, added_level a)
-
--- one more sum is added by storing its entry
-pub added_more : {n s x y v : ℕ} {w w' : List ℕ} → s < n → 3 * n ≤ length w → Added n s w w'
-    → x ≡ get_or w' s 0 → y ≡ get_or w' (2 * n + s) 0 → v ≡ entry_of (sum (value_of x) (value_of y))
-    → Added n (s + 1) w (set w' (2 * n + s) v)
-added_more {n} {s} {x} {y} {v} {w} {w'} l room a ex ey e =
-    record {
-      others = same_outside_set (2 * n + s) v (omega arith) (omega arith) (same_outside_widen (2 * n) (2 * n + (s + 1)) (omega arith) (omega arith) a.others);
-      sums = λ t m. elim (lt_or_ge t s) [
-        | inl less ↦ get_or-set_other w' (2 * n + s) (2 * n + t) v 0 (omega arith) ∙ a.sums t less
-        | inr more ↦ let q : t ≡ s = omega arith in rw q here
-      ];
-    }
-  where
-    here : get_or (set w' (2 * n + s) v) (2 * n + s) 0 ≡ entry_of (sum (value_of (entry 0 n w s)) (value_of (entry 2 n w s)))
-    here =
-        get_or-set_same w' (2 * n + s) v 0 (omega (arith, a.others.same_length)) ∙ e
-        ∙ ap₂ (λ (i j : ℕ). entry_of (sum (value_of i) (value_of j))) (ex ∙ added_start l a) (ey ∙ added_level a)
 
 -- a distance from the start and one from r, in regions 0 and 2, are small enough to be added
 pub round_fits : {f : List ℕ} {h : Header} {w w₁ : List ℕ} {r limit reached : ℕ} → RoundsReady f h w
@@ -118,12 +72,6 @@ round_length_lem {f} {h} {r = r} {limit} w₂ ready found sums =
     sym (round_found (graph_in f h) limit r (sources (graph_in f h).size limit w₂)
     (round_sources w₂ ready found sums))
 
--- a length that the search finds is at most the limit
-pub found_le : {g : Graph} {source : ℕ → Option ℕ} {limit target l : ℕ} {w w' : List ℕ}
-    → FoundFrom g source limit target w w' l → l ≤ limit
-found_le {g} {source} {limit} {target} {l} searched =
-    omega (arith, under_some (suc limit) (hit_length g source target) l searched.length)
-
 -- the length that the search finds is the round's
 pub round_some : {f : List ℕ} {h : Header} {w w₁ w₂ w₃ : List ℕ} {r limit reached l : ℕ} → RoundsReady f h w
     → DistancesWithin (graph_in f h) r limit w w₁ reached → SumsPut h.states h.states w₁ w₂
@@ -137,16 +85,3 @@ pub round_nothing : {f : List ℕ} {h : Header} {w w₁ w₂ w₃ : List ℕ} {r
     → ExhaustedFrom (graph_in f h) (sources (graph_in f h).size limit w₂) limit r w₂ w₃ count
     → under (suc limit) (round_length (graph_in f h) r) ≡ none
 round_nothing {w₂ = w₂} ready found sums searched = round_length_lem w₂ ready found sums ∙ searched.length
-
--- a round changes regions 2 to 5 only
-pub round_outside : {f : List ℕ} {h : Header} {w w₁ w₂ w₃ : List ℕ} {r limit reached : ℕ} → RoundsReady f h w
-    → DistancesWithin (graph_in f h) r limit w w₁ reached → SameOutside (2 * h.states) (3 * h.states) w₁ w₂
-    → SameOutside (2 * (graph_in f h).size) (6 * (graph_in f h).size) w₂ w₃
-    → SameOutside (2 * h.states) (6 * h.states) w w₃
-round_outside {f} {h} ready found added searched =
-    let sizes = valid_sizes ready.valid in
-    let from = 2 * h.states in
-    let to = 6 * h.states in
-    same_outside_trans (same_outside_widen from to (omega arith) (omega arith) found.outside)
-    (same_outside_trans (same_outside_widen from to (omega arith) (omega arith) added)
-    (same_outside_widen from to (omega arith) (omega arith) searched))

@@ -4,7 +4,7 @@
 ghost use Rattle.std.specs.Prelude.{◌≡◌, suc, ◌+◌, ◌*◌, ◌≤◌, ◌<◌, length};
 ghost use Rattle.lists.specs.Least.{sum};
 ghost use Rattle.lasso.specs.Rounds.{round_length};
-ghost use Rattle.lasso.specs.Values.{found_of};
+ghost use Rattle.lasso.specs.Values.{length_of};
 ghost use Rattle.model.specs.Model.{graph_in};
 ghost use Rattle.table.specs.Changes.{SameOutside};
 ghost use Rattle.frontier.specs.Regions.{entry_of, value_of};
@@ -13,7 +13,7 @@ ghost use Rattle.candidates.specs.Promises.{RoundsReady};
 ghost use Rattle.round.specs.Promises.{SumsFit, SumsPut};
 
 use edge_search::SpreadAnswer;
-use lasso::{LengthFound, Transitions};
+use lasso::Transitions;
 use model::Header;
 use spread::spread;
 use table::{get, put};
@@ -25,10 +25,7 @@ fn sum_entry(a: usize, b: usize) -> usize
     ensures value { result ≡ entry_of (sum (value_of a) (value_of b)) }
     ensures small { result < 65536 }
 {
-    if a == 0 {
-        return 0;
-    }
-    if b == 0 {
+    if a == 0 || b == 0 {
         return 0;
     }
     a + b - 1
@@ -41,36 +38,37 @@ fn add_start_distances(work: &mut [u16], n: usize)
     ensures sums { SumsPut n n work.old work.new }
     ensures same { SameOutside (2 * n) (3 * n) work.old work.new }
 {
-    let mut s = 0;
-    while s < n {
+    for s in 0..n {
         let from_start = get(work, s);
         let level = get(work, 2 * n + s);
         let both = sum_entry(from_start, level);
         put(work, 2 * n + s, both);
-        s += 1;
     }
 }
 
 // One round, for candidate r: its length, if it is at most the limit.
-pub fn round(file: &[u8], h: Header, work: &mut [u16], r: usize, limit: usize) -> LengthFound
+pub fn round(
+    file: &[u8],
+    h: Header,
+    work: &mut [u16],
+    r: usize,
+    limit: usize,
+) -> Option<Transitions>
     requires rounds_ready { RoundsReady file.now h work.old }
     requires r_lt_states { r < h.states }
     requires limit_le_states { limit ≤ h.states }
-    ensures result_value { found_of result ≡ under (suc limit) (round_length (graph_in file.now h) r) }
+    ensures result_value { length_of result ≡ under (suc limit) (round_length (graph_in file.now h) r) }
     ensures same { SameOutside (2 * h.states) (6 * h.states) work.old work.new }
 {
     if limit == 0 {
-        return LengthFound::None;
+        return None;
     }
     let n = h.states;
     distances_from(file, h, work, r, limit);
     add_start_distances(work, n);
     let answer = spread(file, h, work, limit, r);
     match answer {
-        SpreadAnswer::Length(level) => {
-            let edges = level as u16;
-            LengthFound::Length(Transitions(edges))
-        }
-        SpreadAnswer::Nothing(_) => LengthFound::None,
+        SpreadAnswer::Length(length) => Some(Transitions(length as u16)),
+        SpreadAnswer::Nothing(_) => None,
     }
 }

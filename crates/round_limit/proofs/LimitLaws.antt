@@ -31,10 +31,6 @@ limit_le : (best : Option ℕ) (n limit : ℕ) → lesser best (some n) ≡ some
 limit_le none n limit e = let q : n ≡ limit = cc in omega arith
 limit_le (some b) n limit e = let q : min b n ≡ limit = cc in omega arith
 
--- so it is at most the number of states
-pub limit_below : (best : Option ℕ) (n ceiling limit : ℕ) → lesser best (some (min n ceiling)) ≡ some limit → limit ≤ n
-limit_below best n ceiling limit e = omega (arith, limit_le best (min n ceiling) limit e)
-
 -- lengths above that limit do not change the record, where no length is above n and those above the ceiling do not count
 pub with_round_limit : (rec : Record) (x : Option ℕ) (n ceiling limit : ℕ) → lesser (best_length rec) (some (min n ceiling)) ≡ some limit
     → ((l : ℕ) → x ≡ some l → l ≤ n) → with_round rec (under (suc limit) x) ≡ with_round rec (under (suc ceiling) x)

@@ -7,24 +7,16 @@ ghost use Rattle.lists.specs.Least.{lesser};
 ghost use Rattle.lasso.specs.Rounds.{best_length};
 ghost use Rattle.lasso.specs.Values.{record_of};
 
-use lasso::{Best, RoundRecord, Transitions};
-
-// The lesser of two numbers.
-fn lower(a: usize, b: usize) -> usize
-    ensures { result ≡ min a b }
-{
-    if a < b { a } else { b }
-}
+use lasso::{RoundRecord, Transitions};
 
 // The greatest length that a round needs to find: none above the ceiling counts, no accepting path is longer than the
 // number of states, and none that is longer than the best so far counts. No other function of the rounds acts on the ceiling.
 pub fn limit_of(so_far: RoundRecord, n: usize, ceiling: Transitions) -> usize
     ensures { lesser (best_length (record_of so_far)) (some (min n ceiling.0)) ≡ some result }
 {
-    let bound = lower(n, ceiling.number());
-    let best = so_far.best;
-    match best {
-        Best::None => bound,
-        Best::Length(length) => lower(length.number(), bound),
+    let bound = n.min(ceiling.number());
+    match so_far.best {
+        None => bound,
+        Some(length) => length.number().min(bound),
     }
 }

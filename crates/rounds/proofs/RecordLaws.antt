@@ -1,24 +1,17 @@
 -- The record of a search while it goes up through the states.
-use Prim.Native.Nat.{ℕ, suc, ◌+◌, ◌≤◌, ◌<◌, min}
-use mathlib.Core.Path.{◌≡◌, refl, ◌∙◌, ap}
+use Prim.Native.Nat.{ℕ, suc, ◌+◌, ◌≤◌, ◌<◌}
+use mathlib.Core.Path.{◌≡◌, ◌∙◌, ap}
 use mathlib.Core.Bool.{true, false}
-use mathlib.Core.Option.{none}
 use native.Mathlib.Omega.{arith}
-use lib.ListN.{length}
 use Rattle.lasso.specs.Graph.{Graph}
-use Rattle.lasso.specs.Rounds.{candidateb, candidates, Record, after_round, after_rounds, after_allowed}
-use Rattle.candidates.proofs.CandidateLaws.{Counted, counted_none, counted_yes, counted_no, counted_all, counted_le}
+use Rattle.lasso.specs.Rounds.{candidateb, Record, after_round, after_rounds}
+use Rattle.candidates.proofs.CandidateLaws.{Counted, counted_yes, counted_no}
 
 -- the rounds for the candidates below s are done, and there are no more of them than allowed
 pub record Underway (g : Graph) (ceiling allowance s : ℕ) (rec : Record) : Type 0 where
   pub allowed : rec.done ≤ allowance
   pub counted : Counted g rec.done s
   pub rounds : rec ≡ after_rounds g ceiling rec.done
-
--- at first no round is done
-pub underway_none : (g : Graph) (ceiling allowance : ℕ) → Underway g ceiling allowance 0 (record { done = 0; best = none })
-underway_none g ceiling allowance =
-    record { allowed = omega arith; counted = counted_none g; rounds = refl }
 
 -- the round for a candidate is done
 pub underway_yes : {g : Graph} {ceiling allowance s : ℕ} {rec rec' : Record} → s < g.size → candidateb g s ≡ true
@@ -37,18 +30,3 @@ pub underway_no : {g : Graph} {ceiling allowance s : ℕ} {rec : Record} → s <
     → Underway g ceiling allowance s rec → Underway g ceiling allowance (s + 1) rec
 underway_no l e u =
     record { allowed = omega arith; counted = counted_no l e u.counted; rounds = u.rounds }
-
--- the rounds done are all that the allowance admits
-rounds_admitted : {g : Graph} {ceiling allowance s : ℕ} {rec : Record} → Underway g ceiling allowance s rec
-    → rec.done ≡ min allowance (length (candidates g)) → rec ≡ after_allowed g ceiling allowance
-rounds_admitted {g} {ceiling} u e = u.rounds ∙ ap (after_rounds g ceiling) e
-
--- a search that has used up its allowance is over
-pub underway_stopped : {g : Graph} {ceiling allowance s : ℕ} {rec : Record} → allowance ≤ rec.done
-    → Underway g ceiling allowance s rec → rec ≡ after_allowed g ceiling allowance
-underway_stopped l u = rounds_admitted u (omega (arith, counted_le u.counted))
-
--- a search that has gone through all states is over
-pub underway_all : {g : Graph} {ceiling allowance s : ℕ} {rec : Record} → g.size ≤ s
-    → Underway g ceiling allowance s rec → rec ≡ after_allowed g ceiling allowance
-underway_all l u = rounds_admitted u (omega (arith, counted_all l u.counted))

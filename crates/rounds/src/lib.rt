@@ -10,7 +10,7 @@ ghost use Rattle.candidates.specs.Promises.{RoundsReady};
 
 use after_round::after_round;
 use candidates::{candidate_at, is_candidate};
-use lasso::{Best, RoundRecord, Transitions};
+use lasso::{RoundRecord, Transitions};
 use model::Header;
 
 // The record after one more round under a ceiling: the one for the candidate whose place is the count.
@@ -46,10 +46,9 @@ pub fn run_rounds(
     let n = h.states;
     let mut record = RoundRecord {
         done: 0,
-        best: Best::None,
+        best: None,
     };
-    let mut s = 0;
-    while s < n {
+    for s in 0..n {
         if is_candidate(file, h, work, s) {
             let done = record.done as usize;
             if allowance <= done {
@@ -57,7 +56,6 @@ pub fn run_rounds(
             }
             record = after_round(file, h, work, s, ceiling, record);
         }
-        s += 1;
     }
     record
 }

@@ -27,36 +27,6 @@ leads_reached : {g : Graph} {n : ℕ} {w : List ℕ} {s : ℕ} → Leads g n w s
 leads_reached (end r f) = r
 leads_reached (step r e a l) = r
 
--- at first no place is settled
-pub settled_none : (g : Graph) (n count : ℕ) (w : List ℕ) → Settled g n count w w count
-settled_none g n count w =
-    record {
-      outside = same_outside_refl (2 * n) (3 * n) w;
-      nothing = λ s h e. e;
-      before = λ j h l. refl;
-      kept = λ j h l. absurd (omega arith);
-      leads = λ j h l. absurd (omega arith);
-    }
-
--- once all are settled the levels are those of the states with a way on
-pub settled_all : {g : Graph} {n count i : ℕ} {w w' : List ℕ} → Queue n count w → i ≤ 0 → Settled g n count w w' i → KeptBack g n w w'
-settled_all {g} {n} {count} {i} {w} {w'} q z s =
-    record { outside = s.outside; kept = kept; leads = leads }
-  where
-    kept : (t : ℕ) → t < n → Leads g n w t → entry 2 n w' t ≡ entry 2 n w t
-    kept t h l =
-        let (j, b, e) = q.holds t h (leads_reached l) in
-        subst (λ (x : ℕ). entry 2 n w' x ≡ entry 2 n w x) e (s.kept j (omega arith) b (subst (λ (x : ℕ). Leads g n w x) (sym e) l))
-
-    leads : (t : ℕ) → t < n → 1 ≤ entry 2 n w' t → (entry 2 n w' t ≡ entry 2 n w t) × Leads g n w t
-    leads t h r =
-        elim (lt_or_ge 0 (entry 2 n w t)) [
-          | inl p ↦
-              let (j, b, e) = q.holds t h p in
-              subst (λ (x : ℕ). (entry 2 n w' x ≡ entry 2 n w x) × Leads g n w x) e (s.leads j (omega arith) b (subst (λ (x : ℕ). 1 ≤ entry 2 n w' x) (sym e) r))
-          | inr p ↦ absurd (omega (arith, s.nothing t h (omega arith)))
-        ]
-
 -- The state at place i of the queue, when those after it are settled.
 module _ {g : Graph} {n count i : ℕ} {w w' : List ℕ} (wf : WellFormed g) (size : g.size ≡ n) (q : Queue n count w) (inside : i < count) (s : Settled g n count w w' (i + 1)) where
   -- the state
