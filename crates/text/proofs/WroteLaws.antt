@@ -1,11 +1,12 @@
 -- Writers one after the other: what two of them write is what one would write that writes both.
 use Prim.Native.Nat.{ℕ, ◌+◌, ◌≤◌}
-use mathlib.Core.Path.{◌≡◌, sym, ◌∙◌, ap, subst}
+use mathlib.Core.Path.{◌≡◌, refl, sym, ◌∙◌, ap, subst}
 use mathlib.Core.List.{List, [], ◌++◌, append_assoc, append-nil}
 use native.Mathlib.Omega.{arith}
 use lib.ListN.{length, take, drop, length-append, length-take, length-drop, take-append-drop}
 use lib.Seq.{length-take-le, take_at, drop_at, drop-drop}
-use Rattle.text.specs.Writing.{Wrote, Within}
+use Rattle.text.specs.declared.Output.{Output}
+use Rattle.text.specs.Writing.{Wrote, Within, Adds}
 
 -- the text keeps its length
 pub wrote_length : {t : List ℕ} {at : ℕ} {bytes t' : List ℕ} {next : ℕ} → Wrote t at bytes t' next → length t' ≡ length t
@@ -53,3 +54,19 @@ pub wrote_within : {t bytes t' : List ℕ} {next : ℕ} → Wrote t 0 bytes t' n
 wrote_within {t' = t'} {next} w =
     let le : next ≤ length t' = omega (arith, w.place, w.room, wrote_length w) in
     (le, sym (length-take-le next t' le))
+
+-- an output with no bytes added is as it was
+pub adds_none : (o : Output) → o.at ≤ length o.bytes.now → Adds o [] o
+adds_none o fits = record { wrote = wrote_none o.bytes.now o.at fits; same = refl }
+
+-- bytes added one after the other
+pub adds_then : {o : Output} {b : List ℕ} {o' : Output} {b' : List ℕ} {o'' : Output} → Adds o b o' → Adds o' b' o'' → Adds o (b ++ b') o''
+adds_then w v = record { wrote = wrote_then w.wrote v.wrote; same = v.same ∙ w.same }
+
+-- the bytes added may be told otherwise
+pub adds_as : {o : Output} {b b' : List ℕ} {o' : Output} → b ≡ b' → Adds o b o' → Adds o b' o'
+adds_as {o} {o' = o'} e w = subst (λ (x : List ℕ). Adds o x o') e w
+
+-- the place after the bytes, and the length, which stays
+pub adds_length : {o : Output} {b : List ℕ} {o' : Output} → Adds o b o' → (o'.at ≡ o.at + length b) × (length o'.bytes.now ≡ length o.bytes.now)
+adds_length w = (w.wrote.place, wrote_length w.wrote)
