@@ -43,7 +43,7 @@ printing_first {o = o} here fits =
     record {
       here = here;
       few = omega arith;
-      lines = adds_none o fits;
+      lines = adds_none o (omega (arith, fits));
       answer_length = refl;
       answer_rest = refl;
       work_length = refl;
@@ -70,7 +70,7 @@ module _ {f : List ℕ} {h : Header} {l count : ℕ} {a₀ w₀ a w : List ℕ} 
       let sum : length (collect line (take (count + 1) (roll g))) ≡ n + m =
       ap length (collect_next line (roll g) count [] p.here.current.place_in) ∙ length-append (collect line (take count (roll g))) (line (get_or (roll g) count [])) in
       let same : length (line listed) ≡ m = ap (λ (xs : List ℕ). length (line xs)) listed_at in
-      omega (arith, lines_room (count + 1) (roll g) small, p.few, adds_length p.lines)
+      omega (arith, lines_room (count + 1) (roll g) small, p.few, p.lines.wrote.place, adds_length p.lines)
 
   -- what the writer of the list and its line asks
   pub listed_asks : l < length a₀ → HasRoom o₀ lists_room
@@ -115,7 +115,7 @@ module _ {f : List ℕ} {h : Header} {l count : ℕ} {a₀ w₀ a w : List ℕ} 
         let g : Graph = graph_in f h in
         let sizes = valid_sizes p.here.prepared.valid in
         let small = roll_room g (valid_well_formed p.here.prepared.valid) l p.here.prepared.least (omega arith) in
-        omega (arith, p.few, closing_room more (count + 1) (omega (arith, p.few)), lines_room (count + 1) (roll g) small, adds_length printed_lines)
+        omega (arith, p.few, closing_room more (count + 1) (omega (arith, p.few)), lines_room (count + 1) (roll g) small, printed_lines.wrote.place, adds_length printed_lines)
 
     -- before the following list
     pub printing_next : l < length a₀ → {w' : List ℕ} → At f h l (count + 1) w' → length w' ≡ length w → (count + 1 ≡ 20 → ⊥)

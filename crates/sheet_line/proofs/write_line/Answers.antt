@@ -27,14 +27,14 @@ write_states-requires-2 c =
     let s = (goal.at.write_states-requires-2 c).Start in
     let w = c.write_states.ensures in
     let v = c.write_byte.ensures in
-    rw c.number.ensures (omega (arith, room s, ap length (between_before (loop_of s)), adds_length w, adds_length v))
+    rw c.number.ensures (omega (arith, room s, ap length (between_before (loop_of s)), w.wrote.place, adds_length w, v.wrote.place, adds_length v))
 
 pub write_byte-requires-2 : goal.write_byte-requires-2
 write_byte-requires-2 c =
     let w = c.write_states.ensures in
     let v = c.write_byte.ensures in
     let u = loop_written (goal.at.write_byte-requires-2 c).After-write_states-2 in
-    omega (arith, room (goal.at.write_byte-requires-2 c).Start, adds_length w, adds_length v, adds_length u)
+    omega (arith, room (goal.at.write_byte-requires-2 c).Start, w.wrote.place, adds_length w, v.wrote.place, adds_length v, u.wrote.place, adds_length u)
 
 pub returns : goal.returns
 returns c =

@@ -29,13 +29,13 @@ write_bytes-requires c = omega (arith, room (goal.at.write_bytes-requires c).In-
 pub write_number-requires : goal.write_number-requires
 write_number-requires c =
     let w = c.write_bytes.ensures in
-    omega (arith, room (goal.at.write_number-requires c).In-loop-s, adds_length w)
+    omega (arith, room (goal.at.write_number-requires c).In-loop-s, w.wrote.place, adds_length w)
 
 pub write_bytes-requires-in-loop-s : goal.write_bytes-requires-in-loop-s
 write_bytes-requires-in-loop-s c =
     let w = c.write_bytes.ensures in
     let v = c.write_number.ensures in
-    omega (arith, room (goal.at.write_bytes-requires-in-loop-s c).In-loop-s, adds_length w, adds_length v)
+    omega (arith, room (goal.at.write_bytes-requires-in-loop-s c).In-loop-s, w.wrote.place, adds_length w, v.wrote.place, adds_length v)
 
 pub loop-s-preserved : goal.loop-s-preserved
 loop-s-preserved c =

@@ -16,7 +16,7 @@ write_number-requires t c = (omega arith, omega (arith, c.requires, decimal-leng
 pub write_byte-requires-2 : goal.write_byte-requires-2
 write_byte-requires-2 t c =
     let w = c.write_number.ensures in
-    omega (arith, c.requires, decimal-length c.args.n (omega arith), adds_length w)
+    omega (arith, c.requires, decimal-length c.args.n (omega arith), w.wrote.place, adds_length w)
 
 pub returns : goal.returns
 returns t c =
