@@ -13,7 +13,9 @@ pub struct Seen {
 
 // A search of a file by mark table 0, in print with at most eight entries of its list; answers how many of its tables were
 // found wrong.
-fn search(rt: &impl Print, file: &[u8]) -> u8 {
+fn search(rt: &impl Print, file: &[u8]) -> u8
+    ensures { result ≤ 15 }
+{
     let mut table = [0u16; 4097];
     let mut work = [0u16; 24576];
     let tried = finder_trials::search(file, 0, 4096, 65535, &mut table, &mut work);
@@ -34,7 +36,9 @@ fn show_bytes(rt: &impl Print, file: &[u8]) {
 
 // Prints what was written, if it is short, and what a search of it finds; answers how many of the search's tables were
 // found wrong.
-fn show_file(rt: &impl Print, file: &[u8]) -> u8 {
+fn show_file(rt: &impl Print, file: &[u8]) -> u8
+    ensures { result ≤ 15 }
+{
     if file.len() < 100 {
         let _ = print!(rt; ":");
         show_bytes(rt, file);
@@ -43,7 +47,9 @@ fn show_file(rt: &impl Print, file: &[u8]) -> u8 {
 }
 
 // Prints an answer, with what was written to an output; answers how many outputs and tables were found wrong.
-fn show(rt: &impl Print, answer: Result<usize, u16>, out: &[u8]) -> u8 {
+fn show(rt: &impl Print, answer: Result<usize, u16>, out: &[u8]) -> u8
+    ensures { result ≤ 15 }
+{
     match answer {
         Err(number) => {
             let _ = print!(rt; " refused {number}");
@@ -51,7 +57,10 @@ fn show(rt: &impl Print, answer: Result<usize, u16>, out: &[u8]) -> u8 {
         }
         Ok(size) => {
             let _ = print!(rt; " written {size}");
-            out.get(..size).map_or(1, |file| show_file(rt, file))
+            match out.get(..size) {
+                Some(file) => show_file(rt, file),
+                None => 1,
+            }
         }
     }
 }
@@ -75,6 +84,7 @@ pub fn run(
     expected: usize,
 ) -> Seen
     requires { space ≤ 25200 }
+    ensures { result.wrong ≤ 16 }
 {
     let mut out = [0u8; 25200];
     let tried = combine_trials::combine(rule, letters, property, &mut out, space);

@@ -1,4 +1,6 @@
 // What a call of the finder answered, and how many of its tables were found wrong after it.
+ghost use Rattle.std.specs.Prelude.{◌≤◌};
+
 use std::fmt;
 
 // An answer: of a step the rounds that are done and the best length; of a search the length, the k and the rounds of a
@@ -80,4 +82,5 @@ impl fmt::Display for Answer {
 pub struct Tried {
     pub answer: Answer,
     pub wrong: u8,
+    ghost few: { wrong ≤ 15 },
 }
