@@ -1,9 +1,8 @@
 -- The one figure of a combination: it has 16 bits.
-use Rattle.std.specs.Prelude.{◌<◌}
-use Rattle.combine.specs.declared.CombineAnswer.{CombineAnswer}
-use Rattle.combine.specs.declared.CombineAnswer.TheVariants.{Refused, Written}
+use Rattle.std.specs.Prelude.{ℕ, ◌<◌, Result, Ok, Err}
+use Rattle.numbers.specs.declared.reason.Reason.{Reason}
 
 -- a number of bytes written fits 16 bits
-abbrev pub FigureFits : CombineAnswer → Type 0
-FigureFits (Refused n) = Unit {0}
-FigureFits (Written bytes) = bytes < 65536
+abbrev pub FigureFits : Result ℕ Reason → Type 0
+FigureFits (Err reason) = Unit {0}
+FigureFits (Ok bytes) = bytes < 65536

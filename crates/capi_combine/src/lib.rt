@@ -7,22 +7,20 @@ ghost use Rattle.figures.specs.Kinds.{written_report, figures_in};
 ghost use Rattle.capi_combine.specs.Figures.{FigureFits};
 ghost use Rattle.capi_combine.specs.Call.{combine_call, output_after_combine};
 
-use combine::{CombineAnswer, combine};
-use figures::{OUT_TOO_SHORT, WRITTEN, too_few};
+use combine::combine;
+use figures::{Kind, report_figures, too_few};
+use numbers::Reason;
 
 // Reports the answer of a combination: its number of bytes is the one figure.
-fn report_combine(answer: CombineAnswer, out: &mut [u16]) -> u16
+fn report_combine(answer: Result<usize, Reason>, out: &mut [u16]) -> u16
     requires in_bounds { 4 ≤ length out.old }
     requires figure_fits { FigureFits answer }
     ensures kind { result ≡ (written_report (combine_outcome_of answer)).kind }
     ensures out { out.new ≡ figures_in out.old (written_report (combine_outcome_of answer)) }
 {
     match answer {
-        CombineAnswer::Refused(number) => number,
-        CombineAnswer::Written(bytes) => {
-            out[0] = bytes as u16;
-            WRITTEN
-        }
+        Err(reason) => reason.into(),
+        Ok(bytes) => report_figures(Kind::Written, &[bytes as u16], out),
     }
 }
 
@@ -42,7 +40,7 @@ pub fn combine_call(
         property.now output.old out.old }
 {
     if too_few(out.len()) {
-        return OUT_TOO_SHORT;
+        return Kind::OutTooShort.into();
     }
     let combined = combine(rule, letters, property, output);
     report_combine(combined, out)

@@ -7,22 +7,20 @@ ghost use Rattle.figures.specs.Kinds.{written_report, figures_in};
 ghost use Rattle.figures.specs.Short.{work_after_call};
 ghost use Rattle.capi_distances.specs.Call.{distances_call, output_after_distances};
 
-use distances::{DistancesAnswer, distances};
-use figures::{OUT_TOO_SHORT, WRITTEN, too_few};
+use distances::distances;
+use figures::{Kind, report_figures, too_few};
 use lasso::Transitions;
+use numbers::Reason;
 
 // Reports the answer of a distance call: the number of entries written is the one figure.
-fn report_distances(answer: DistancesAnswer, out: &mut [u16]) -> u16
+fn report_distances(answer: Result<u16, Reason>, out: &mut [u16]) -> u16
     requires { 1 ≤ length out.old }
     ensures kind { result ≡ (written_report (distances_outcome_of answer)).kind }
     ensures out { out.new ≡ figures_in out.old (written_report (distances_outcome_of answer)) }
 {
     match answer {
-        DistancesAnswer::Refused(number) => number,
-        DistancesAnswer::Written(entries) => {
-            out[0] = entries;
-            WRITTEN
-        }
+        Err(reason) => reason.into(),
+        Ok(entries) => report_figures(Kind::Written, &[entries], out),
     }
 }
 
@@ -44,7 +42,7 @@ pub fn distances_call(
         out.old }
 {
     if too_few(out.len()) {
-        return OUT_TOO_SHORT;
+        return Kind::OutTooShort.into();
     }
     let written = distances(file, Transitions(ceiling), output, work);
     report_distances(written, out)

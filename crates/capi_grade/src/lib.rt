@@ -6,7 +6,7 @@ ghost use Rattle.figures.specs.Kinds.{figures_in};
 ghost use Rattle.figures.specs.Short.{too_few};
 ghost use Rattle.capi_grade.specs.Call.{no_entry, grade_call, place_after_grade, work_after_grade};
 
-use figures::{OUT_TOO_SHORT, too_few};
+use figures::{Kind, too_few};
 use grade::grade;
 use grade_report::report_grade;
 
@@ -17,10 +17,7 @@ const PLACE_ENTRIES: usize = 1;
 fn tables_short(place: usize, out: usize) -> bool
     ensures { result ≡ (too_few out || no_entry place) }
 {
-    if too_few(out) {
-        return true;
-    }
-    place < PLACE_ENTRIES
+    too_few(out) || place < PLACE_ENTRIES
 }
 
 // The grade of a list with a claimed k; the first place where it breaks is written to the table for it.
@@ -43,7 +40,7 @@ pub fn grade_call(
         work.old out.old }
 {
     if tables_short(place.len(), out.len()) {
-        return OUT_TOO_SHORT;
+        return Kind::OutTooShort.into();
     }
     let graded = grade(file, mark_table, list, k, work);
     report_grade(graded, place, out)

@@ -7,7 +7,7 @@ ghost use Rattle.figures.specs.Short.{work_after_call};
 ghost use Rattle.capi_next.specs.Call.{next_call, answer_after_next};
 
 use answers::report_next;
-use figures::{OUT_TOO_SHORT, too_few};
+use figures::{Kind, too_few};
 use next::next;
 
 // The shortest accepting path that follows an earlier one, written to the answer table.
@@ -29,7 +29,7 @@ pub fn next_call(
         out.old }
 {
     if too_few(out.len()) {
-        return OUT_TOO_SHORT;
+        return Kind::OutTooShort.into();
     }
     let followed = next(file, mark_table, earlier, answer, work);
     report_next(followed, out)

@@ -8,7 +8,7 @@ ghost use Rattle.figures.specs.Short.{work_after_call};
 ghost use Rattle.capi_search.specs.Call.{search_call, answer_after_search};
 
 use answers::report_search;
-use figures::{OUT_TOO_SHORT, too_few};
+use figures::{Kind, too_few};
 use gate::Ask;
 use lasso::Transitions;
 use search::search;
@@ -34,7 +34,7 @@ pub fn search_call(
         out.old }
 {
     if too_few(out.len()) {
-        return OUT_TOO_SHORT;
+        return Kind::OutTooShort.into();
     }
     let ask = Ask {
         table: mark_table,

@@ -8,36 +8,31 @@ ghost use Rattle.figures.specs.Kinds.{record_given, figures_in};
 ghost use Rattle.figures.specs.Short.{work_after_call};
 ghost use Rattle.capi_step.specs.Call.{step_report, step_call};
 
-use figures::{ADVANCED, FINISHED, OUT_TOO_SHORT, report_record, too_few};
-use lasso::{Best, RoundRecord, Transitions};
+use figures::{Kind, report_record, too_few};
+use lasso::{RoundRecord, Transitions};
+use numbers::Reason;
 use step::{StepAnswer, step};
 
 // The record that three figures stand for.
 fn record_given(done: u16, has_best: u8, best: u16) -> RoundRecord
     ensures { record_of result ≡ record_given done has_best best }
 {
-    if has_best == 0 {
-        return RoundRecord {
-            done: done,
-            best: Best::None,
-        };
-    }
     RoundRecord {
-        done: done,
-        best: Best::Length(Transitions(best)),
+        done,
+        best: (has_best != 0).then_some(Transitions(best)),
     }
 }
 
 // Reports the answer of a step.
-fn report_step(answer: StepAnswer, out: &mut [u16]) -> u16
+fn report_step(answer: Result<StepAnswer, Reason>, out: &mut [u16]) -> u16
     requires { 3 ≤ length out.old }
     ensures kind { result ≡ (step_report (step_outcome_of answer)).kind }
     ensures out { out.new ≡ figures_in out.old (step_report (step_outcome_of answer)) }
 {
     match answer {
-        StepAnswer::Refused(number) => number,
-        StepAnswer::Finished(r) => report_record(FINISHED, r, out),
-        StepAnswer::Advanced(r) => report_record(ADVANCED, r, out),
+        Err(reason) => reason.into(),
+        Ok(StepAnswer::Finished(r)) => report_record(Kind::Finished, r, out),
+        Ok(StepAnswer::Advanced(r)) => report_record(Kind::Advanced, r, out),
     }
 }
 
@@ -60,7 +55,7 @@ pub fn step_call(
         out.old }
 {
     if too_few(out.len()) {
-        return OUT_TOO_SHORT;
+        return Kind::OutTooShort.into();
     }
     let so_far = record_given(done, has_best, best);
     let stepped = step(file, mark_table, Transitions(ceiling), so_far, work);

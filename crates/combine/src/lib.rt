@@ -12,37 +12,30 @@ use checking::check;
 use combine_file::{count_edges, write_product};
 use combine_letters::letters_broken;
 use format::total_of;
-use model::{Checked, Header};
-use numbers::{limit, reason};
+use model::Header;
+use numbers::{Reason, limit};
 use property::{check_property, has_zero_mask};
-
-// The answer of a combination: the number of the reason to refuse it, or the number of bytes written.
-#[derive(Clone, Copy)]
-pub enum CombineAnswer {
-    Refused(u16),
-    Written(usize),
-}
 
 // Combines a rule, whose states have the letters, with a property, and writes the combination as a model file from the
 // first byte of the output on. The rule has one mark table or two, which are not used, the property and the combination
 // have one. Refused: the rule's 1 to 11, 16 for the letters, 17 for the property, 18 for a result that is too large, 15
-// for an output that is too short.
-pub fn combine(rule: &[u8], letters: &[u8], property: &[u8], output: &mut [u8]) -> CombineAnswer
+// for an output that is too short. The answer is the number of bytes written.
+pub fn combine(
+    rule: &[u8],
+    letters: &[u8],
+    property: &[u8],
+    output: &mut [u8],
+) -> Result<usize, Reason>
     ensures outcome { combine_outcome_of result ≡ combine_outcome rule.now letters.now
         property.now (length output.old) }
     ensures output { output.new ≡ combine_output rule.now letters.now
         property.now output.old }
 {
-    let checked = check(rule);
-    match checked {
-        Checked::Refused(n) => CombineAnswer::Refused(n),
-        Checked::Accept(h) => {
-            if letters_broken(letters, h.states) {
-                return CombineAnswer::Refused(reason::BAD_LETTERS);
-            }
-            with_property(rule, h, letters, property, output)
-        }
+    let h = check(rule)?;
+    if letters_broken(letters, h.states) {
+        return Err(Reason::BadLetters);
     }
+    with_property(rule, h, letters, property, output)
 }
 
 // From reason 17 on: an accepted rule with its letters.
@@ -52,7 +45,7 @@ fn with_property(
     letters: &[u8],
     property: &[u8],
     output: &mut [u8],
-) -> CombineAnswer
+) -> Result<usize, Reason>
     requires valid { Valid rule.now h }
     requires letters_value { bad_letters (states rule.now) letters.now ≡ false }
     ensures outcome { combine_outcome_of result ≡ combine_outcome rule.now letters.now
@@ -60,16 +53,13 @@ fn with_property(
     ensures output { output.new ≡ combine_output rule.now letters.now
         property.now output.old }
 {
-    let checked = check_property(property);
-    match checked {
-        Checked::Refused(_) => CombineAnswer::Refused(reason::BAD_PROPERTY),
-        Checked::Accept(k) => {
-            if has_zero_mask(property, k) {
-                return CombineAnswer::Refused(reason::BAD_PROPERTY);
-            }
-            within_limits(rule, h, letters, property, k, output)
-        }
+    let Ok(k) = check_property(property) else {
+        return Err(Reason::BadProperty);
+    };
+    if has_zero_mask(property, k) {
+        return Err(Reason::BadProperty);
     }
+    within_limits(rule, h, letters, property, k, output)
 }
 
 // From reason 18 on: both files and the letters are as they should be.
@@ -80,7 +70,7 @@ fn within_limits(
     property: &[u8],
     k: Header,
     output: &mut [u8],
-) -> CombineAnswer
+) -> Result<usize, Reason>
     requires valid { Valid rule.now h }
     requires letters_value { bad_letters (states rule.now) letters.now ≡ false }
     requires valid_property { ValidProperty property.now k }
@@ -92,16 +82,16 @@ fn within_limits(
 {
     let states = h.states * k.states;
     if limit::MOST_STATES < states {
-        return CombineAnswer::Refused(reason::TOO_LARGE);
+        return Err(Reason::TooLarge);
     }
     let edges = count_edges(rule, h, letters, property, k);
     if limit::MOST_EDGES < edges {
-        return CombineAnswer::Refused(reason::TOO_LARGE);
+        return Err(Reason::TooLarge);
     }
     let total = total_of(states, edges);
     if output.len() < total {
-        return CombineAnswer::Refused(reason::NO_ROOM);
+        return Err(Reason::NoRoom);
     }
     let written = write_product(output, rule, h, letters, property, k, edges);
-    CombineAnswer::Written(written)
+    Ok(written)
 }

@@ -23,7 +23,6 @@ use Rattle.reading.specs.Reading.{FirstBytes}
 use Rattle.input_sizes.proofs.CutLaws.{cut_refused}
 use Rattle.combine.specs.Combine.{bad_letters, combined_file, combine_outcome}
 use Rattle.combine.proofs.ReasonLaws.{CombineIs, refused_rule, refused_16, refused_17}
-use Rattle.combine.specs.declared.CombineAnswer.TheVariants.{Refused}
 use Rattle.desk_combining.specs.Combining.{combining, file_told, line_told, output_text, error_text}
 use Rattle.desk_combining.specs.Sizes.{FirstBytesOfEachDecide}
 
@@ -36,7 +35,7 @@ abbrev pub output : List ℕ
 output = replicate output_bytes 0
 
 -- a refusal, with an output of that size
-pub refused_told : (f letters p : List ℕ) (n : ℕ) → CombineIs f letters p output (Refused n) output → combining f letters p ≡ refused n
+pub refused_told : (f letters p : List ℕ) (n : ℕ) → CombineIs f letters p output (refused n) output → combining f letters p ≡ refused n
 refused_told f letters p n is =
     ap (λ (k : ℕ). combine_outcome f letters p k) (sym (length-replicate {A = ℕ} output_bytes 0)) ∙ sym is.0
 

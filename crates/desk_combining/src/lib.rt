@@ -10,8 +10,8 @@ ghost use Rattle.combine.specs.Combine.{combine_outcome_of};
 ghost use Rattle.desk_combining.specs.Combining.{refusal_room, NumberFits, bytes_told, line_told, output_text, error_text};
 ghost use Rattle.desk_combining.specs.Printed.{CombinationPrinted};
 
-use combine::{CombineAnswer, combine};
-use numbers::limit;
+use combine::combine;
+use numbers::{Reason, limit};
 use reading::{Opened, input_bytes, open_named, read_letters, read_model, read_property};
 use sheet_head::write_refusal;
 use std::env::FillError;
@@ -47,7 +47,7 @@ pub struct Told {
 }
 
 // Writes the line of a refusal, and answers how many bytes there are to be told.
-fn tell(answer: CombineAnswer, line: &mut [u8]) -> Told
+fn tell(answer: Result<usize, Reason>, line: &mut [u8]) -> Told
     requires number_fits { NumberFits (combine_outcome_of answer) }
     requires refusal_room_in_bounds { refusal_room ≤ length line.old }
     ensures output { result.output ≡ bytes_told (combine_outcome_of answer) }
@@ -55,14 +55,12 @@ fn tell(answer: CombineAnswer, line: &mut [u8]) -> Told
         result.errors }
 {
     match answer {
-        CombineAnswer::Refused(number) => {
+        Err(reason) => {
+            let number = u16::from(reason);
             let errors = write_refusal(line, number as usize);
-            Told {
-                output: 0,
-                errors: errors,
-            }
+            Told { output: 0, errors }
         }
-        CombineAnswer::Written(bytes) => Told {
+        Ok(bytes) => Told {
             output: bytes,
             errors: 0,
         },
@@ -130,12 +128,9 @@ fn has_argument<R: Env>(rt: &R, place: usize) -> bool {
 
 // How many arguments the program was started with, its own name among them.
 pub fn argument_count<R: Env>(rt: &R) -> usize {
-    for count in 0..usize::MAX {
-        if !has_argument(rt, count) {
-            return count;
-        }
-    }
-    usize::MAX
+    (0..usize::MAX)
+        .take_while(|place| has_argument(rt, *place))
+        .count()
 }
 
 // Writes an argument to the front of a text, and answers its length: 0 if it is missing or longer than the text.
@@ -168,13 +163,10 @@ pub fn print_combination<R: Read, W: Write, E: Write>(
 {
     let mut rule = [0u8; RULE_ROOM];
     let rule_read = read_model(rule_from, &mut rule);
-    let rule_count = rule_read.count;
     let mut letters = [0u8; LETTERS_ROOM];
     let letters_read = read_letters(letters_from, &mut letters);
-    let letters_count = letters_read.count;
     let mut property = [0u8; PROPERTY_ROOM];
     let property_read = read_property(property_from, &mut property);
-    let property_count = property_read.count;
     let failed = Failures {
         rule: rule_read.failed,
         letters: letters_read.failed,
@@ -183,15 +175,13 @@ pub fn print_combination<R: Read, W: Write, E: Write>(
     let mut out = [0u8; OUTPUT_ROOM];
     let mut line = [0u8; LINE_ROOM];
     let told = desk_combine(
-        &rule[..rule_count],
-        &letters[..letters_count],
-        &property[..property_count],
+        &rule[..rule_read.count],
+        &letters[..letters_read.count],
+        &property[..property_read.count],
         failed,
         &mut out,
         &mut line,
     );
-    let output = told.output;
-    let errors = told.errors;
-    let _ = errors_to.write_all(&line[..errors]);
-    to.write_all(&out[..output]).is_ok()
+    let _ = errors_to.write_all(&line[..told.errors]);
+    to.write_all(&out[..told.output]).is_ok()
 }

@@ -18,10 +18,8 @@ use Rattle.gate.proofs.GateLaws.{ceiling_high, ceiling_low, clear_common}
 use Rattle.outcomes.specs.Outcome.{Outcome, refused, answered}
 use Rattle.outcomes.specs.Tables.{written}
 use Rattle.outcomes.proofs.OutcomeLaws.{call_answer, call_broken, call_kept}
-use Rattle.outcomes.proofs.ReadBack.{loses_nothing}
-use Rattle.distances.specs.declared.DistancesAnswer.{DistancesAnswer}
-use Rattle.distances.specs.declared.DistancesAnswer.TheVariants as DistancesAnswers
-use Rattle.distances.specs.Distances.{distances_outcome_of, DistancesLoseNothing, distance_table, distance_reasons, distances_outcome, distances_output}
+use Rattle.outcomes.proofs.ReadBack.{result_loses_nothing}
+use Rattle.distances.specs.Distances.{DistancesLoseNothing, distance_table, distance_reasons, distances_outcome, distances_output}
 
 -- the reason 15 of a distance call
 abbrev room_reason : List ℕ → ℕ → Reason
@@ -83,16 +81,6 @@ module _ (f : List ℕ) (ceiling : ℕ) (d : List ℕ) (workRoom : ℕ) where
       let is = call_kept (distance_reasons f ceiling (length d) workRoom) (states f) n t t e (sym q) refl in
       (sym is.outcome_is, all ∙ sym (call_answer d is))
 
--- the answer of a distance call with a given outcome
-abbrev read_distances : Outcome ℕ → DistancesAnswer
-read_distances (refused n) = DistancesAnswers.Refused n
-read_distances (answered entries) = DistancesAnswers.Written entries
-
--- a distance call's answer is read off its outcome
-read_distances_outcome : (a : DistancesAnswer) → read_distances (distances_outcome_of a) ≡ a
-read_distances_outcome (DistancesAnswers.Refused n) = refl
-read_distances_outcome (DistancesAnswers.Written entries) = refl
-
--- equal outcomes of a distance call are of equal answers
+-- equal outcomes of a distance call are of equal results
 pub distances_lose_nothing : DistancesLoseNothing
-distances_lose_nothing = loses_nothing distances_outcome_of read_distances read_distances_outcome
+distances_lose_nothing = result_loses_nothing (λ (entries : ℕ). entries) (λ a b e. e)

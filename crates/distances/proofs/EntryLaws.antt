@@ -1,19 +1,17 @@
 -- The entry for a distance under a ceiling: from what the working table holds for a state, and in the table of all
 -- states, which is written entry by entry to the front of the output.
-use Prim.Native.Nat.{ℕ, zero, suc, ◌+◌, ◌-◌, ◌≤◌, ◌<◌}
+use Prim.Native.Nat.{ℕ, suc, ◌+◌, ◌<◌}
 use mathlib.Core.Path.{◌≡◌, sym, ◌∙◌, ap, subst}
 use mathlib.Core.List.{List, ◌++◌}
 use mathlib.Core.Option.{Option, some, none}
 use native.Mathlib.Omega.{arith}
 use native.Mathlib.Numerals.{add-one}
 use lib.ListN.{length, get_or, set, drop}
-use lib.Seq.{take_all, paste, paste-suc, length-paste}
+use lib.Seq.{take_all, paste, paste-suc}
 use Rattle.lists.specs.Limit.{under}
 use Rattle.lasso.specs.Graph.{Graph}
 use Rattle.lasso.specs.Distance.{dist}
-use Rattle.lists.proofs.UnderLaws.{under_lt, under_ge}
 use Rattle.lists.proofs.BelowLaws.{map-below_at, map-below-length}
-use Rattle.numbers.specs.Limits.{not_reached}
 use Rattle.model.specs.declared.Header.{Header}
 use Rattle.model.specs.Values.{Valid}
 use Rattle.model.specs.Model.{graph_in, graph_of}
@@ -28,21 +26,6 @@ use Rattle.distances.specs.Distances.{entry_for, distance_entry, distance_table}
 -- the entry from what the working table holds for a state
 abbrev pub from_stored : ℕ → ℕ → ℕ
 from_stored ceiling stored = entry_for (under (suc ceiling) (value_of stored))
-
--- a state without a distance is not reached
-pub stored_none : (ceiling stored : ℕ) → stored ≡ 0 → not_reached ≡ from_stored ceiling stored
-stored_none ceiling stored e = sym (ap (from_stored ceiling) e)
-
--- a distance that is not above the ceiling is the entry
-pub stored_within : (ceiling stored : ℕ) → 0 < stored → stored - 1 ≤ ceiling → stored - 1 ≡ from_stored ceiling stored
-stored_within ceiling zero some-distance low = absurd (omega arith)
-stored_within ceiling (suc d) some-distance low =
-    let e : suc d - 1 ≡ d = omega arith in e ∙ sym (ap entry_for (under_lt (suc ceiling) d (omega arith)))
-
--- a state whose distance is above the ceiling has the entry of one that is not reached
-pub stored_above : (ceiling stored : ℕ) → 0 < stored → ceiling < stored - 1 → not_reached ≡ from_stored ceiling stored
-stored_above ceiling zero some-distance high = absurd (omega arith)
-stored_above ceiling (suc d) some-distance high = sym (ap entry_for (under_ge (suc ceiling) d (omega arith)))
 
 -- what the working table holds for a distance gives the entry for it
 stored_entry : (ceiling stored : ℕ) (a : Option ℕ) → stored ≡ entry_of a
@@ -96,10 +79,3 @@ written_all g ceiling d d' s e all =
     all
     ∙ ap (λ (r : List ℕ). r ++ drop (0 + s) d) (take_all s t (omega arith))
     ∙ ap (λ (i : ℕ). t ++ drop i d) at
-
--- the output keeps its length
-pub written-length : (g : Graph) (ceiling : ℕ) (d d' : List ℕ) (s : ℕ) → s ≤ g.size → s ≤ length d
-    → Written g ceiling d d' s → length d' ≡ length d
-written-length g ceiling d d' s l room before =
-    ap length before
-    ∙ length-paste d 0 (distance_table g ceiling) s (omega arith) (omega (arith, table_length g ceiling))

@@ -1,5 +1,6 @@
 -- The distance call: for each state its distance from the initial state, up to a ceiling.
-use Rattle.std.specs.Prelude.{ℕ, suc, List, [], ◌∷◌, ◌++◌, map, length, ltb}
+use Rattle.std.specs.Prelude.{ℕ, suc, List, [], ◌∷◌, ◌++◌, map, length, ltb, Result}
+use Rattle.numbers.specs.declared.reason.Reason as code
 use Rattle.std.proofs.Math.Option.{Option, some, none}
 use Rattle.numbers.specs.Reasons as reason
 use Rattle.lists.specs.Lists.{below}
@@ -11,15 +12,12 @@ use Rattle.format.specs.Layout.{states}
 use Rattle.format.specs.Rules.{Reason, first_broken}
 use Rattle.model.specs.Model.{graph_of}
 use Rattle.gate.specs.Gate.{common_rules, ceiling_reason}
-use Rattle.outcomes.specs.Outcome.{Outcome, refused, answered, outcome, LosesNothing}
+use Rattle.outcomes.specs.Outcome.{Outcome, outcome, outcome_of, LosesNothing}
 use Rattle.outcomes.specs.Tables.{unless_refused, written}
-use Rattle.distances.specs.declared.DistancesAnswer.{DistancesAnswer}
-use Rattle.distances.specs.declared.DistancesAnswer.TheVariants as DistancesAnswers
 
--- which outcome each answer of the code's distance call is: refused, or the number of entries written
-abbrev pub distances_outcome_of : DistancesAnswer → Outcome ℕ
-distances_outcome_of (DistancesAnswers.Refused n) = refused n
-distances_outcome_of (DistancesAnswers.Written entries) = answered entries
+-- which outcome each result of the code's distance call is: refused, or the number of entries written
+abbrev pub distances_outcome_of : Result ℕ code.Reason → Outcome ℕ
+distances_outcome_of = outcome_of (λ entries. entries)
 
 -- no figure of a distance call's answer is lost in its outcome
 abbrev pub DistancesLoseNothing : Type 0

@@ -12,15 +12,8 @@ ghost use Rattle.distances.specs.Distances.{entry_for, distances_outcome_of, dis
 use candidates::start_distances;
 use gate::{ceiling_too_high, enter, leave};
 use lasso::Transitions;
-use model::{Checked, Header};
-use numbers::{limit, reason};
-
-// The answer of a distance call: refused with a number, or the number of entries written.
-#[derive(Clone, Copy)]
-pub enum DistancesAnswer {
-    Refused(u16),
-    Written(u16),
-}
+use model::Header;
+use numbers::{Reason, limit};
 
 // The mark table of a call that names none. Distances do not depend on marks.
 const TABLE_NOT_NAMED: u16 = 0;
@@ -47,7 +40,7 @@ fn distances_model(
     ceiling: Transitions,
     output: &mut [u16],
     work: &mut [u16],
-) -> DistancesAnswer
+) -> Result<u16, Reason>
     requires valid { Valid file.now h × (h.table ≡ 0) }
     requires states_in_bounds { 6 * h.states ≤ length work.old }
     ensures outcome { distances_outcome_of result
@@ -58,30 +51,27 @@ fn distances_model(
     ensures kept { length work.new ≡ length work.old }
 {
     let n = h.states;
-    let high = ceiling_too_high(ceiling);
-    if high {
-        return DistancesAnswer::Refused(reason::HIGH_CEILING);
+    if ceiling_too_high(ceiling) {
+        return Err(Reason::HighCeiling);
     }
     if output.len() < n {
-        return DistancesAnswer::Refused(reason::NO_ROOM);
+        return Err(Reason::NoRoom);
     }
     start_distances(file, h, work);
-    let mut s: usize = 0;
-    while s < n {
+    for s in 0..n {
         output[s] = entry_for(work[s], ceiling);
-        s += 1;
     }
-    let entries = n as u16;
-    DistancesAnswer::Written(entries)
+    Ok(n as u16)
 }
 
-// Writes the distance of each state from the initial state, or 65,535 if there is none up to the ceiling.
+// Writes the distance of each state from the initial state, or 65,535 if there is none up to the ceiling, and answers the
+// number of entries written.
 pub fn distances(
     file: &[u8],
     ceiling: Transitions,
     output: &mut [u16],
     work: &mut [u16],
-) -> DistancesAnswer
+) -> Result<u16, Reason>
     ensures outcome { distances_outcome_of result
         ≡ distances_outcome file.now ceiling.0
         (length output.old) (length work.old) }
@@ -89,13 +79,8 @@ pub fn distances(
         ≡ distances_output file.now ceiling.0 output.old (length work.old) }
     ensures work { work.new ≡ work_of file.now 0 work.old }
 {
-    let checked = enter(file, TABLE_NOT_NAMED, work);
-    match checked {
-        Checked::Refused(number) => DistancesAnswer::Refused(number),
-        Checked::Accept(h) => {
-            let written = distances_model(file, h, ceiling, output, work);
-            leave(work);
-            written
-        }
-    }
+    let h = enter(file, TABLE_NOT_NAMED, work)?;
+    let written = distances_model(file, h, ceiling, output, work);
+    leave(work);
+    written
 }

@@ -1,17 +1,17 @@
 -- The grader: what it says of a list with a claimed k, by the marks of the table that it names.
-use Rattle.std.specs.Prelude.{ℕ, List}
+use Rattle.std.specs.Prelude.{ℕ, List, Result}
+use Rattle.numbers.specs.declared.reason.Reason as code
 use Rattle.std.proofs.Math.Option.{Option}
 use Rattle.lasso.specs.Graph.{Graph}
 use Rattle.model.specs.Model.{graph_of}
 use Rattle.format.specs.Rules.{first_broken}
 use Rattle.paths.specs.Breaks.{first_break, break_of}
-use Rattle.outcomes.specs.Outcome.{Outcome, refused, answered, outcome, LosesNothing}
+use Rattle.outcomes.specs.Outcome.{Outcome, outcome, outcome_of, LosesNothing}
 use Rattle.gate.specs.Gate.{named_rules}
 pub use Rattle.grade_verdicts.specs.Verdict.{Said, accepting, shortest, verdict}
 use Rattle.grade.specs.declared.Verdict.{Verdict}
 use Rattle.grade.specs.declared.Verdict.TheVariants as Verdicts
-use Rattle.grade.specs.declared.GradeAnswer.{GradeAnswer}
-use Rattle.grade.specs.declared.GradeAnswer.TheVariants as GradeAnswers
+use Rattle.grade.specs.declared.Graded.{Graded}
 
 -- which of them each verdict of the code is
 abbrev pub verdict_of : Verdict → Said
@@ -24,10 +24,13 @@ pub record Grade : Type 0 where
   pub verdict : Said
   pub place : Option ℕ
 
--- which outcome each answer of the code's grader is
-abbrev pub grade_outcome_of : GradeAnswer → Outcome Grade
-grade_outcome_of (GradeAnswers.Refused n) = refused n
-grade_outcome_of (GradeAnswers.Graded v b) = answered (record { verdict = verdict_of v; place = break_of b })
+-- which grade each answer of the code's grader is
+abbrev pub graded_of : Graded → Grade
+graded_of graded = record { verdict = verdict_of graded.verdict; place = break_of graded.first_break }
+
+-- which outcome each result of the code's grader is
+abbrev pub grade_outcome_of : Result Graded code.Reason → Outcome Grade
+grade_outcome_of = outcome_of graded_of
 
 -- no figure of the grader's answer is lost in its outcome
 abbrev pub GradeLosesNothing : Type 0

@@ -9,13 +9,14 @@ ghost use Rattle.model.specs.Values.{Valid};
 ghost use Rattle.paths.specs.Breaks.{first_break};
 ghost use Rattle.gate.specs.Gate.{work_of};
 ghost use Rattle.grade_verdicts.specs.Verdict.{verdict};
-ghost use Rattle.grade.specs.Grade.{verdict_of, grade_outcome_of, grade_outcome};
+ghost use Rattle.grade.specs.Grade.{verdict_of, graded_of, grade_of, grade_outcome_of, grade_outcome};
 
 use gate::{enter, leave};
 use grade_accepts::accepts;
 use grade_least::is_least;
-use model::{Checked, Header};
-use paths::{FirstBreak, first_break};
+use model::Header;
+use numbers::Reason;
+use paths::first_break;
 
 // What the grader says of a list with a claimed k: it is no accepting path, it is one, it is one of least length.
 #[derive(Clone, Copy)]
@@ -25,11 +26,11 @@ pub enum Verdict {
     Shortest,
 }
 
-// The answer of the grader: refused with a number, or the verdict and the first place where the list breaks.
+// The grade of a list: the verdict, and the first place where the list breaks, if any.
 #[derive(Clone, Copy)]
-pub enum GradeAnswer {
-    Refused(u16),
-    Graded(Verdict, FirstBreak),
+pub struct Graded {
+    pub verdict: Verdict,
+    pub first_break: Option<usize>,
 }
 
 // The verdict on a list that breaks nowhere. The rounds are done only if it is an accepting path.
@@ -50,36 +51,37 @@ fn verdict_of(file: &[u8], h: Header, list: &[u16], k: u16, work: &mut [u16]) ->
 }
 
 // The grade of a list where no reason holds: a list that breaks is false.
-fn grade_of_model(file: &[u8], h: Header, list: &[u16], k: u16, work: &mut [u16]) -> GradeAnswer
+fn grade_of_model(file: &[u8], h: Header, list: &[u16], k: u16, work: &mut [u16]) -> Graded
     requires valid { Valid file.now h }
     requires states_in_bounds { 6 * h.states ≤ length work.old }
-    ensures outcome { grade_outcome_of result
-        ≡ grade_outcome file.now h.table list.now k (length work.old) }
+    ensures grade { graded_of result ≡ grade_of (graph_in file.now h) list.now k }
     ensures kept { length work.new ≡ length work.old }
 {
-    let broken = first_break(file, h, list);
-    match broken {
-        FirstBreak::At(_) => GradeAnswer::Graded(Verdict::False, broken),
-        FirstBreak::None => {
-            let given = verdict_of(file, h, list, k, work);
-            GradeAnswer::Graded(given, broken)
-        }
+    let first_break = first_break(file, h, list);
+    let verdict = match first_break {
+        Some(_) => Verdict::False,
+        None => verdict_of(file, h, list, k, work),
+    };
+    Graded {
+        verdict,
+        first_break,
     }
 }
 
 // Grades a list with a claimed k: false, accepting or shortest, and the first place where the list breaks.
-pub fn grade(file: &[u8], mark_table: u16, list: &[u16], k: u16, work: &mut [u16]) -> GradeAnswer
+pub fn grade(
+    file: &[u8],
+    mark_table: u16,
+    list: &[u16],
+    k: u16,
+    work: &mut [u16],
+) -> Result<Graded, Reason>
     ensures outcome { grade_outcome_of result
         ≡ grade_outcome file.now mark_table list.now k (length work.old) }
     ensures work { work.new ≡ work_of file.now mark_table work.old }
 {
-    let checked = enter(file, mark_table, work);
-    match checked {
-        Checked::Refused(number) => GradeAnswer::Refused(number),
-        Checked::Accept(h) => {
-            let graded = grade_of_model(file, h, list, k, work);
-            leave(work);
-            graded
-        }
-    }
+    let h = enter(file, mark_table, work)?;
+    let graded = grade_of_model(file, h, list, k, work);
+    leave(work);
+    Ok(graded)
 }

@@ -10,7 +10,7 @@ ghost use Rattle.model.specs.Values.{Valid};
 ghost use Rattle.paths.specs.Breaks.{first_break, AllBelow};
 ghost use Rattle.grade_verdicts.specs.Verdict.{accepts_at};
 
-use lasso::{Entries, Transitions};
+use lasso::Transitions;
 use model::Header;
 use paths::loops_at;
 use table::{clear, get, put};
@@ -26,14 +26,12 @@ fn all_different(list: &[u16], n: usize, work: &mut [u16]) -> bool
 {
     clear(work, 0, n);
     let end = list.len() - 1;
-    let mut j = 0;
-    while j < end {
-        let s = get(list, j);
+    for state in &list[..end] {
+        let s = usize::from(*state);
         if get(work, s) != 0 {
             return false;
         }
         put(work, s, 1);
-        j += 1;
     }
     true
 }
@@ -47,18 +45,8 @@ pub fn accepts(file: &[u8], h: Header, list: &[u16], k: u16, work: &mut [u16]) -
     ensures tells { result ≡ accepts_at (graph_in file.now h) list.now k }
     ensures kept { length work.new ≡ length work.old }
 {
-    let given = Entries(list.len());
-    let up_to_k = Transitions(k).entries();
-    if given.0 <= up_to_k.0 {
-        return false;
-    }
-    let first = get(list, 0);
-    if first != h.start {
-        return false;
-    }
-    if !all_different(list, h.states, work) {
-        return false;
-    }
-    let place = k as usize;
-    loops_at(file, h, list, place)
+    Transitions(k).entries().0 < list.len()
+        && get(list, 0) == h.start
+        && all_different(list, h.states, work)
+        && loops_at(file, h, list, usize::from(k))
 }

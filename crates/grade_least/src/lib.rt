@@ -8,8 +8,7 @@ ghost use Rattle.model.specs.Model.{graph_in};
 ghost use Rattle.model.specs.Values.{Valid};
 ghost use Rattle.grade_verdicts.specs.Verdict.{leastb};
 
-use begun::{AllRounds, all_rounds};
-use lasso::Entries;
+use begun::all_rounds;
 use model::Header;
 
 // The list has the least length of an accepting path: all rounds are done.
@@ -20,16 +19,7 @@ pub fn is_least(file: &[u8], h: Header, list: &[u16], work: &mut [u16]) -> bool
     ensures tells { result ≡ leastb (least_length (graph_in file.now h)) (edges list.now) }
     ensures kept { length work.new ≡ length work.old }
 {
-    let completed = all_rounds(file, h, work);
-    match completed {
-        AllRounds::None(_) => false,
-        AllRounds::Length(transitions, _) => {
-            let entries = transitions.entries();
-            let given = Entries(list.len());
-            if given.0 != entries.0 {
-                return false;
-            }
-            true
-        }
-    }
+    all_rounds(file, h, work)
+        .length
+        .is_some_and(|least| list.len() == least.entries().0)
 }

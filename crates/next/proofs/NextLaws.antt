@@ -22,14 +22,15 @@ use Rattle.format.specs.Rules.{first_broken, Accepted}
 use Rattle.outcomes.specs.Outcome.{Outcome, refused, answered}
 use Rattle.outcomes.specs.Tables.{no_room, length_due, list_reasons}
 use Rattle.outcomes.proofs.OutcomeLaws.{CallIs, call_answer, call_broken, call_kept, never_too_long}
-use Rattle.outcomes.proofs.ReadBack.{transitions, loses_nothing}
+use Rattle.outcomes.proofs.ReadBack.{transitions, loses_nothing, result_loses_nothing}
 use Rattle.gate.specs.Gate.{named_rules}
 use Rattle.format.proofs.Reasons.{broken_append, clear_append}
 use Rattle.gate.proofs.GateLaws.{common_clear, named_one}
 use Rattle.paths.proofs.LoopTests.{lasso_of}
-use Rattle.next.specs.declared.NextAnswer.{NextAnswer}
-use Rattle.next.specs.declared.NextAnswer.TheVariants as NextAnswers
-use Rattle.next.specs.Next.{Followed, no_more, next_outcome_of, NextLosesNothing, not_shortest, followed, due_reasons, next_reasons, next_outcome, next_answer}
+use Rattle.std.specs.Prelude as code
+use Rattle.std.specs.Prelude.{None, Some}
+use Rattle.next.specs.declared.Listed.{Listed}
+use Rattle.next.specs.Next.{Followed, no_more, followed_of, NextLosesNothing, not_shortest, followed, due_reasons, next_reasons, next_outcome, next_answer}
 
 -- a list of the roll is a shortest accepting path
 pub shortest_mem : (g : Graph) (xs : List ℕ) → Memᴰ xs (roll g) → not_shortest g xs ≡ false
@@ -164,18 +165,16 @@ following-written f t accepted one workRoom room earlier a a' w s l k m at_start
       out ∙ ap (λ (n : ℕ). xs ++ drop n a) entries ∙ sym (call_answer a found),
     )
 
--- the answer of a next with a given outcome
-abbrev read_next : Outcome Followed → NextAnswer
-read_next (refused n) = NextAnswers.Refused n
-read_next (answered (Followed.found l k)) = NextAnswers.Found (transitions l) k
-read_next (answered no_more) = NextAnswers.NoMore
+-- the answer of a next that says this
+abbrev read_next : Followed → code.Option Listed
+read_next (Followed.found l k) = Some (record { length = transitions l; loop_start = k })
+read_next no_more = None
 
--- a next's answer is read off its outcome
-read_next_next_outcome_of : (a : NextAnswer) → read_next (next_outcome_of a) ≡ a
-read_next_next_outcome_of (NextAnswers.Refused n) = refl
-read_next_next_outcome_of (NextAnswers.Found l k) = refl
-read_next_next_outcome_of NextAnswers.NoMore = refl
+-- a next's answer is read off what it says
+read_next_followed_of : (a : code.Option Listed) → read_next (followed_of a) ≡ a
+read_next_followed_of (Some listed) = refl
+read_next_followed_of None = refl
 
--- equal outcomes of a next are of equal answers
+-- equal outcomes of a next are of equal results
 pub next_loses_nothing : NextLosesNothing
-next_loses_nothing = loses_nothing next_outcome_of read_next read_next_next_outcome_of
+next_loses_nothing = result_loses_nothing followed_of (loses_nothing followed_of read_next read_next_followed_of)

@@ -1,5 +1,7 @@
 -- "Next": the shortest accepting path that follows an earlier one, by the marks of the table that it names.
-use Rattle.std.specs.Prelude.{ℕ, Bool, not, List, ◌∷◌, ◌++◌, length}
+use Rattle.std.specs.Prelude as code
+use Rattle.std.specs.Prelude.{ℕ, Bool, not, List, ◌∷◌, ◌++◌, length, Result, None, Some}
+use Rattle.numbers.specs.declared.reason.Reason as reasons
 use Rattle.std.proofs.Math.Option.{Option, some, none}
 use Rattle.numbers.specs.Reasons as reason
 use Rattle.lists.specs.Lists.{anyb}
@@ -8,22 +10,24 @@ use Rattle.lasso.specs.Roll.{roll}
 use Rattle.lasso.specs.Following.{sameb, following}
 use Rattle.model.specs.Model.{graph_of}
 use Rattle.format.specs.Rules.{Reason, first_broken}
-use Rattle.outcomes.specs.Outcome.{Outcome, refused, answered, outcome, LosesNothing}
+use Rattle.outcomes.specs.Outcome.{Outcome, outcome, outcome_of, LosesNothing}
 use Rattle.outcomes.specs.Tables.{list_reasons, unless_refused, written}
 use Rattle.gate.specs.Gate.{named_rules}
-use Rattle.next.specs.declared.NextAnswer.{NextAnswer}
-use Rattle.next.specs.declared.NextAnswer.TheVariants as NextAnswers
+use Rattle.next.specs.declared.Listed.{Listed}
 
 -- A next not refused: found (L, k), or no more.
 pub data Followed : Type 0 where
   found : (l k : ℕ) → Followed
   no_more : Followed
 
--- which outcome each answer of the code's next is
-abbrev pub next_outcome_of : NextAnswer → Outcome Followed
-next_outcome_of (NextAnswers.Refused n) = refused n
-next_outcome_of (NextAnswers.Found l k) = answered (found l.0 k)
-next_outcome_of NextAnswers.NoMore = answered no_more
+-- what each answer of the code's next says
+abbrev pub followed_of : code.Option Listed → Followed
+followed_of (Some listed) = found listed.length.0 listed.loop_start
+followed_of None = no_more
+
+-- which outcome each result of the code's next is
+abbrev pub next_outcome_of : Result (code.Option Listed) reasons.Reason → Outcome Followed
+next_outcome_of = outcome_of followed_of
 
 -- no figure of next's answer is lost in its outcome
 abbrev pub NextLosesNothing : Type 0

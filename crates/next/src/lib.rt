@@ -12,20 +12,19 @@ ghost use Rattle.gate.specs.Gate.{work_of};
 ghost use Rattle.candidates.specs.Promises.{RoundsReady};
 ghost use Rattle.next.specs.Next.{next_outcome_of, next_outcome, next_answer};
 
-use begun::{AllRounds, all_rounds};
+use begun::all_rounds;
 use cursor::{to_list, to_next, write_list};
 use gate::{enter, leave};
-use lasso::{Entries, Transitions};
-use model::{Checked, Header};
-use numbers::{limit, reason};
+use lasso::Transitions;
+use model::Header;
+use numbers::{Reason, limit};
 use paths::is_lasso;
 
-// The answer of next: refused with a number, found with the length and the loop's start, or no more.
+// The list that was written: its length, and the place where its loop starts.
 #[derive(Clone, Copy)]
-pub enum NextAnswer {
-    Refused(u16),
-    Found(Transitions, u16),
-    NoMore,
+pub struct Listed {
+    pub length: Transitions,
+    pub loop_start: u16,
 }
 
 // Writes the shortest accepting path after the earlier one, where their length is known.
@@ -36,7 +35,7 @@ fn next_list(
     earlier: &[u16],
     answer: &mut [u16],
     work: &mut [u16],
-) -> NextAnswer
+) -> Result<Option<Listed>, Reason>
     requires rounds_ready { RoundsReady file.now h work.old }
     requires h_value { least_length (graph_in file.now h) ≡ some transitions.0 }
     ensures outcome { next_outcome_of result
@@ -49,23 +48,23 @@ fn next_list(
     ensures kept { length work.new ≡ length work.old }
 {
     if !is_lasso(file, h, earlier, transitions) {
-        return NextAnswer::Refused(reason::NOT_SHORTEST);
+        return Err(Reason::NotShortest);
     }
     if limit::LONGEST_PATH < transitions.0 {
-        return NextAnswer::Refused(reason::TOO_LONG);
+        return Err(Reason::TooLong);
     }
     to_list(file, h, transitions, earlier, work);
     if !to_next(file, h, transitions, work) {
-        return NextAnswer::NoMore;
+        return Ok(None);
     }
-    let entries = transitions.entries();
-    let room = Entries(answer.len());
-    if room.0 < entries.0 {
-        return NextAnswer::Refused(reason::NO_ROOM);
+    if answer.len() < transitions.entries().0 {
+        return Err(Reason::NoRoom);
     }
     let k = write_list(h, work, transitions, answer);
-    let loop_start = k as u16;
-    NextAnswer::Found(transitions, loop_start)
+    Ok(Some(Listed {
+        length: transitions,
+        loop_start: k as u16,
+    }))
 }
 
 // All rounds and then, if there is an accepting path, the one after the earlier list.
@@ -75,7 +74,7 @@ fn next_of_model(
     earlier: &[u16],
     answer: &mut [u16],
     work: &mut [u16],
-) -> NextAnswer
+) -> Result<Option<Listed>, Reason>
     requires valid { Valid file.now h }
     requires states_in_bounds { 6 * h.states ≤ length work.old }
     ensures outcome { next_outcome_of result
@@ -86,21 +85,20 @@ fn next_of_model(
         (length work.old) }
     ensures kept { length work.new ≡ length work.old }
 {
-    let completed = all_rounds(file, h, work);
-    match completed {
-        AllRounds::None(_) => NextAnswer::Refused(reason::NOT_SHORTEST),
-        AllRounds::Length(transitions, _) => next_list(file, h, transitions, earlier, answer, work),
+    match all_rounds(file, h, work).length {
+        None => Err(Reason::NotShortest),
+        Some(transitions) => next_list(file, h, transitions, earlier, answer, work),
     }
 }
 
-// The shortest accepting path that follows an earlier one, written to the answer table.
+// The shortest accepting path that follows an earlier one, written to the answer table; none if there is no more.
 pub fn next(
     file: &[u8],
     mark_table: u16,
     earlier: &[u16],
     answer: &mut [u16],
     work: &mut [u16],
-) -> NextAnswer
+) -> Result<Option<Listed>, Reason>
     ensures outcome { next_outcome_of result
         ≡ next_outcome file.now mark_table earlier.now (length answer.old)
         (length work.old) }
@@ -108,13 +106,8 @@ pub fn next(
         ≡ next_answer file.now mark_table earlier.now answer.old (length work.old) }
     ensures work { work.new ≡ work_of file.now mark_table work.old }
 {
-    let checked = enter(file, mark_table, work);
-    match checked {
-        Checked::Refused(number) => NextAnswer::Refused(number),
-        Checked::Accept(h) => {
-            let followed = next_of_model(file, h, earlier, answer, work);
-            leave(work);
-            followed
-        }
-    }
+    let h = enter(file, mark_table, work)?;
+    let followed = next_of_model(file, h, earlier, answer, work);
+    leave(work);
+    followed
 }

@@ -1,6 +1,6 @@
 -- The first place where a list breaks: what it says about the list, and how a loop finds it.
 use Prim.Native.Nat.{ℕ, zero, suc, ◌+◌, ◌-◌, ◌≤◌, ◌<◌}
-use mathlib.Core.Path.{◌≡◌, refl, sym, ◌∙◌, ap, subst}
+use mathlib.Core.Path.{◌≡◌, sym, ◌∙◌, subst}
 use mathlib.Core.Logic.{◌↔◌, inl, inr}
 use mathlib.Core.Bool.{Bool, true, false, ◌&&◌, not}
 use mathlib.Core.List.{List, [], ◌∷◌}
@@ -8,12 +8,14 @@ use mathlib.Core.Option.{some, none}
 use native.Mathlib.Omega.{arith}
 use lib.ListN.{length, get_or}
 use lib.Dec.{T, eqb→eq, leb, ltb, leb→le, le→leb, ltb→lt, nltb→le, T_not, not_T}
+use Rattle.std.specs.Prelude as code
+use Rattle.std.specs.Prelude.{None, Some, is_some}
 use Rattle.lasso.specs.Graph.{Graph, WellFormed, edgeb, pathb, lassob}
-use Rattle.lists.proofs.Tests.{fst, snd, both, either, or_l, or_r, parts, decide, T_false, lt_or_ge}
+use Rattle.lists.proofs.Tests.{fst, snd, both, either, or_l, or_r, parts, decide, T_false, T_true, lt_or_ge}
 use Rattle.lists.proofs.Least.{IsLeast, is_least_iff, is_least_unique, seek_least, Passes}
 use Rattle.lasso.proofs.Walk.{path_states}
 use Rattle.lasso.proofs.RollLaws.{accepting_lasso}
-use Rattle.paths.specs.Breaks.{breakb, first_break, AllBelow, Breaks, BreaksFirst, BreaksShown}
+use Rattle.paths.specs.Breaks.{breakb, break_of, first_break, AllBelow, Breaks, BreaksFirst, BreaksShown}
 
 -- a place of the list that breaks
 abbrev BreaksAt : Graph → List ℕ → ℕ → Type 0
@@ -131,6 +133,14 @@ pub broken_no_path : (g : Graph) → WellFormed g → (xs : List ℕ) → get_or
 broken_no_path g wf xs at j e =
     T_false (pathb g xs) (not_T (pathb g xs) (λ h. let z : some j ≡ none = sym e ∙ started_unbroken g wf xs at h in let q : ◌≡◌ {A = ℕ} 0 1 = cc in omega arith))
 
+-- a list from the start is a path exactly if no place is found that breaks
+pub none_path : (g : Graph) → WellFormed g → (xs : List ℕ) → get_or xs 0 0 ≡ g.start → (b : code.Option ℕ) (r : Bool)
+    → break_of b ≡ first_break g xs → is_some b ≡ not r → r ≡ pathb g xs
+none_path g wf xs at None true e q = sym (T_true (pathb g xs) (unbroken_path g xs (sym e)))
+none_path g wf xs at (Some j) false e q = sym (broken_no_path g wf xs at j (sym e))
+none_path g wf xs at None false e q = cc
+none_path g wf xs at (Some j) true e q = cc
+
 pub breaks_shown : BreaksShown
 breaks_shown g = record {
   some_exactly = λ xs j. (some_breaks g xs j, λ b. sym (first_break_some g xs j b));
@@ -141,60 +151,44 @@ breaks_shown g = record {
       started_unbroken g wf xs at (search parts);
 }
 
--- At place j of a list, whose entry there is a state: no place up to it breaks.
+-- Up to place j of a list, behind an entry that is a state, no place breaks.
 pub record Unbroken (g : Graph) (xs : List ℕ) (j : ℕ) : Type 0 where
-  pub within : j < length xs
-  pub state : get_or xs j 0 < g.size
-  pub unbroken : (i : ℕ) → i ≤ j → Breaks g xs i → ⊥
-
--- an empty list has no first place that breaks
-pub empty_unbroken : (g : Graph) (xs : List ℕ) → length xs ≡ 0 → none ≡ first_break g xs
-empty_unbroken g xs e = first_break_none g xs (λ j i b. omega arith)
+  pub past : 1 ≤ j
+  pub within : j ≤ length xs
+  pub state : get_or xs (j - 1) 0 < g.size
+  pub unbroken : (i : ℕ) → i < j → Breaks g xs i → ⊥
 
 module _ (g : Graph) (xs : List ℕ) (some_entry : 1 ≤ length xs) where
   -- an entry at place 0 that is no state breaks there
   pub broken_at_first : g.size ≤ get_or xs 0 0 → some 0 ≡ first_break g xs
   broken_at_first h = first_break_some g xs 0 (record { inside = some_entry; breaks = inl h; none_before = λ i l b. omega arith })
 
-  -- place 0 is tested for its range alone
-  pub unbroken_start : get_or xs 0 0 < g.size → Unbroken g xs 0
-  unbroken_start h = record { within = some_entry; state = h; unbroken = first }
-    where
-      first : (i : ℕ) → i ≤ 0 → Breaks g xs i → ⊥
-      first zero l (inl more) = omega arith
-      first zero l (inr (past, apart)) = omega arith
-      first (suc i) l b = omega arith
-
 module _ {g : Graph} {xs : List ℕ} {j : ℕ} (U : Unbroken g xs j) where
   -- an edge to the next entry leads on
-  pub unbroken_next : WellFormed g → j + 1 < length xs → edgeb g (get_or xs j 0) (get_or xs (j + 1) 0) ≡ true → Unbroken g xs (j + 1)
-  unbroken_next wf inside e = record { within = inside; state = next; unbroken = up_to }
+  pub unbroken_next : WellFormed g → j < length xs → edgeb g (get_or xs (j - 1) 0) (get_or xs j 0) ≡ true → Unbroken g xs (j + 1)
+  unbroken_next wf inside e =
+      let back : j + 1 - 1 ≡ j = omega arith in
+      record { past = omega arith; within = omega arith; state = rw back next; unbroken = up_to }
     where
-      edge : T (edgeb g (get_or xs j 0) (get_or xs (j + 1) 0))
+      edge : T (edgeb g (get_or xs (j - 1) 0) (get_or xs j 0))
       edge = rw e tt
 
-      next : get_or xs (j + 1) 0 < g.size
-      next = (wf.edge_states (get_or xs j 0) (get_or xs (j + 1) 0) edge).1
+      next : get_or xs j 0 < g.size
+      next = (wf.edge_states (get_or xs (j - 1) 0) (get_or xs j 0) edge).1
 
-      here : (i : ℕ) → i ≡ j + 1 → Breaks g xs i → ⊥
-      here i q (inl more) = omega (arith, next, ap (λ (m : ℕ). get_or xs m 0) q)
-      here i q (inr (past, apart)) =
-          apart ((edge_behind g xs i j q).1 (subst (λ (m : ℕ). T (edgeb g (get_or xs j 0) (get_or xs m 0))) (sym q) edge))
+      here : Breaks g xs j → ⊥
+      here (inl more) = omega (arith, next)
+      here (inr (past, apart)) = apart edge
 
-      up_to : (i : ℕ) → i ≤ j + 1 → Breaks g xs i → ⊥
-      up_to i l b = elim (lt_or_ge j i) [ inl m ↦ here i (omega arith) b | inr m ↦ U.unbroken i m b ]
+      up_to : (i : ℕ) → i < j + 1 → Breaks g xs i → ⊥
+      up_to i l b = elim (lt_or_ge i j) [ inl m ↦ U.unbroken i m b | inr m ↦ let q : i ≡ j = omega arith in here (subst (Breaks g xs) q b) ]
 
   -- without one the next place is the first that breaks
-  pub broken_next : j + 1 < length xs → edgeb g (get_or xs j 0) (get_or xs (j + 1) 0) ≡ false → some (j + 1) ≡ first_break g xs
+  pub broken_next : j < length xs → edgeb g (get_or xs (j - 1) 0) (get_or xs j 0) ≡ false → some j ≡ first_break g xs
   broken_next inside e =
-      first_break_some g xs (j + 1)
-      (record { inside = inside; breaks = inr (omega arith, no_edge); none_before = λ i l b. U.unbroken i (omega arith) b })
-    where
-      no_edge : T (edgeb g (get_or xs (j + 1 - 1) 0) (get_or xs (j + 1) 0)) → ⊥
-      no_edge t =
-          let edge : T (edgeb g (get_or xs j 0) (get_or xs (j + 1) 0)) = (edge_behind g xs (j + 1) j refl).0 t in
-          rw e at edge
+      first_break_some g xs j
+      (record { inside = inside; breaks = inr (U.past, λ t. rw e at t); none_before = U.unbroken })
 
-  -- at the last place none breaks
-  pub unbroken_end : length xs ≤ j + 1 → none ≡ first_break g xs
+  -- past the last place none breaks
+  pub unbroken_end : length xs ≤ j → none ≡ first_break g xs
   unbroken_end last = first_break_none g xs (λ i l b. U.unbroken i (omega arith) b)

@@ -1,17 +1,16 @@
 -- The tests of a list that loops make place by place: a closed walk with a mark from a place on, or from some place on; and
 -- the test of a lasso of a length.
-use Prim.Native.Nat.{ℕ, ◌+◌, ◌-◌, ◌≤◌, ◌<◌}
+use Prim.Native.Nat.{ℕ, ◌-◌, ◌≤◌, ◌<◌}
 use mathlib.Core.Path.{◌≡◌}
 use mathlib.Core.Bool.{Bool, false, ◌&&◌}
 use mathlib.Core.List.{List, Memᴰ}
 use native.Mathlib.Omega.{arith}
 use borrow.Author.Tests.{eq-eqb, ne_eqb}
-use lib.ListN.{length, get_or}
-use lib.Dec.{T, eqb, leb, eqb→eq, le→leb, not_T}
-use Rattle.lists.specs.Lists.{anyb, up_from, below}
-use Rattle.lasso.specs.Graph.{Graph, edges, pathb, loopsb, lassob}
-use Rattle.lists.proofs.Tests.{parts, join, same_tests, T_false, eq→eqb, anyb_some, some_anyb, up_from_range, range_up_from, below_lt}
-use Rattle.lasso.proofs.RollLaws.{lasso_edges}
+use lib.ListN.{get_or}
+use lib.Dec.{T, eqb}
+use Rattle.lists.specs.Lists.{anyb, up_from}
+use Rattle.lasso.specs.Graph.{Graph, edges, loopsb, lassob}
+use Rattle.lists.proofs.Tests.{parts, join, same_tests, eq→eqb, anyb_some, some_anyb, up_from_range, range_up_from}
 
 -- the state at a place of the list is marked
 abbrev pub mark_at : Graph → List ℕ → ℕ → Bool
@@ -54,44 +53,3 @@ module _ (g : Graph) (xs : List ℕ) (k : ℕ) where
 -- the list is a lasso with n transitions
 abbrev pub lasso_of : Graph → List ℕ → ℕ → Bool
 lasso_of g xs n = lassob g xs && eqb (edges xs) n
-
-module _ (g : Graph) (xs : List ℕ) (n : ℕ) where
-  -- a lasso with n transitions has n + 1 entries
-  pub lasso_of_length : T (lasso_of g xs n) → length xs ≡ n + 1
-  lasso_of_length h =
-      let lasso : T (lassob g xs) = search parts in
-      let long : edges xs ≡ n = search (parts, eqb→eq) in
-      omega (arith, lasso_edges g xs lasso)
-
-  -- a list of another length is none
-  pub lasso_of_other : (length xs ≡ n + 1 → ⊥) → lasso_of g xs n ≡ false
-  lasso_of_other d = T_false (lasso_of g xs n) (not_T (lasso_of g xs n) (λ h. d (lasso_of_length h)))
-
-  -- nor is one that is no path from the start
-  pub lasso_of_no_path : (eqb (get_or xs 0 0) g.start && pathb g xs) ≡ false → lasso_of g xs n ≡ false
-  lasso_of_no_path e = T_false (lasso_of g xs n) (not_T (lasso_of g xs n) (λ h. refuted h))
-    where
-      refuted : T (lasso_of g xs n) → ⊥
-      refuted h =
-          let starts : T (eqb (get_or xs 0 0) g.start) = search parts in
-          let path : T (pathb g xs) = search parts in
-          let walk : T (eqb (get_or xs 0 0) g.start && pathb g xs) = search join in
-          rw e at walk
-
-  -- a path from the start with n + 1 entries is one exactly if it closes a loop with a mark
-  pub lasso_of_closes : length xs ≡ n + 1 → T (eqb (get_or xs 0 0) g.start && pathb g xs)
-      → anyb (loopsb g xs) (below (edges xs)) ≡ lasso_of g xs n
-  lasso_of_closes long walk = same_tests (anyb (loopsb g xs) (below (edges xs))) (lasso_of g xs n) to back
-    where
-      to : T (anyb (loopsb g xs) (below (edges xs))) → T (lasso_of g xs n)
-      to closes =
-          let (k, in-k, at-k) = anyb_some (loopsb g xs) (below (edges xs)) closes in
-          let low : k < edges xs = below_lt (edges xs) {x = k} in-k in
-          let some-edge : T (leb 1 (edges xs)) = le→leb 1 (edges xs) (omega arith) in
-          let starts : T (eqb (get_or xs 0 0) g.start) = search parts in
-          let path : T (pathb g xs) = search parts in
-          let exact : T (eqb (edges xs) n) = eq→eqb (edges xs) n (omega arith) in
-          search join
-
-      back : T (lasso_of g xs n) → T (anyb (loopsb g xs) (below (edges xs)))
-      back h = search parts

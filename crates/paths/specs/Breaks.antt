@@ -1,10 +1,9 @@
 -- The first place where a given list leaves the model.
-use Rattle.std.specs.Prelude.{ℕ, ◌-◌, ◌≤◌, ◌<◌, ◌≡◌, ◌↔◌, ◌⊎◌, Bool, ◌&&◌, ◌||◌, not, List, length, get_or, T, ltb, leb}
+use Rattle.std.specs.Prelude as code
+use Rattle.std.specs.Prelude.{ℕ, ◌-◌, ◌≤◌, ◌<◌, ◌≡◌, ◌↔◌, ◌⊎◌, Bool, ◌&&◌, ◌||◌, not, List, length, get_or, T, ltb, leb, None, Some}
 use Rattle.std.proofs.Math.Option.{Option, some, none}
 use Rattle.lists.specs.Lists.{seek}
 use Rattle.lasso.specs.Graph.{Graph, WellFormed, edgeb, pathb, acceptingb}
-use Rattle.paths.specs.declared.FirstBreak.{FirstBreak}
-use Rattle.paths.specs.declared.FirstBreak.TheVariants.{None, At}
 
 -- the entry at place j is not below N or, past place 0, is not reached by an edge from the entry before it
 abbrev pub breakb : Graph → List ℕ → ℕ → Bool
@@ -16,9 +15,9 @@ abbrev pub first_break : Graph → List ℕ → Option ℕ
 first_break g xs = seek (breakb g xs) 0 (length xs)
 
 -- the place that a value of the code holds
-abbrev pub break_of : FirstBreak → Option ℕ
+abbrev pub break_of : code.Option ℕ → Option ℕ
 break_of None = none
-break_of (At j) = some j
+break_of (Some j) = some j
 
 -- every entry is below n
 abbrev pub AllBelow : ℕ → List ℕ → Type 0

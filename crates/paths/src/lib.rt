@@ -15,36 +15,27 @@ use model::{Header, is_marked};
 use model_edges::has_edge;
 use table::get;
 
-// The first place where a list breaks, counted from 0: none, or a place, which may be as great as a list is long.
-#[derive(Clone, Copy)]
-pub enum FirstBreak {
-    None,
-    At(usize),
-}
-
-// The first place whose entry is no state or, past place 0, is not reached by an edge from the entry before it.
-pub fn first_break(file: &[u8], h: Header, list: &[u16]) -> FirstBreak
+// The first place, counted from 0, whose entry is no state or, past place 0, is not reached by an edge from the entry before
+// it.
+pub fn first_break(file: &[u8], h: Header, list: &[u16]) -> Option<usize>
     requires { Valid file.now h }
     ensures { break_of result ≡ first_break (graph_in file.now h) list.now }
 {
-    if list.len() == 0 {
-        return FirstBreak::None;
+    if list.is_empty() {
+        return None;
     }
     let first = get(list, 0);
     if h.states <= first {
-        return FirstBreak::At(0);
+        return Some(0);
     }
-    let mut j = 0;
-    while j + 1 < list.len() {
-        let s = get(list, j);
-        let t = get(list, j + 1);
+    for j in 1..list.len() {
+        let s = get(list, j - 1);
+        let t = get(list, j);
         if !has_edge(file, h, s, t) {
-            let place = j + 1;
-            return FirstBreak::At(place);
+            return Some(j);
         }
-        j += 1;
     }
-    FirstBreak::None
+    None
 }
 
 // The list is a path from the start: each entry but the last has an edge to the next.
@@ -55,14 +46,7 @@ pub fn is_path(file: &[u8], h: Header, list: &[u16]) -> bool
         ≡ (eqb (get_or list.now 0 0) h.start
         && pathb (graph_in file.now h) list.now) }
 {
-    if get(list, 0) != h.start {
-        return false;
-    }
-    let broken = first_break(file, h, list);
-    match broken {
-        FirstBreak::None => true,
-        FirstBreak::At(_) => false,
-    }
+    get(list, 0) == h.start && first_break(file, h, list).is_none()
 }
 
 // From place k on a list that breaks nowhere is a closed walk with a mark: the last entry is the one at k, and one of
@@ -77,13 +61,11 @@ pub fn loops_at(file: &[u8], h: Header, list: &[u16], k: usize) -> bool
     if get(list, end) != get(list, k) {
         return false;
     }
-    let mut j: usize = k;
-    while j < end {
+    for j in k..end {
         let state = get(list, j);
         if is_marked(file, h, state) {
             return true;
         }
-        j += 1;
     }
     false
 }
@@ -99,12 +81,10 @@ pub fn closes(file: &[u8], h: Header, list: &[u16]) -> bool
 {
     let end = list.len() - 1;
     let last = get(list, end);
-    let mut k = 0;
-    while k < end {
+    for k in 0..end {
         if get(list, k) == last {
             return loops_at(file, h, list, k);
         }
-        k += 1;
     }
     false
 }
@@ -118,11 +98,5 @@ pub fn is_lasso(file: &[u8], h: Header, list: &[u16], transitions: Transitions) 
 {
     let entries = transitions.entries();
     let given = Entries(list.len());
-    if given.0 != entries.0 {
-        return false;
-    }
-    if !is_path(file, h, list) {
-        return false;
-    }
-    closes(file, h, list)
+    given.0 == entries.0 && is_path(file, h, list) && closes(file, h, list)
 }

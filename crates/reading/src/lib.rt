@@ -13,6 +13,7 @@ use std::rt::Files;
 use std::{fs, io, str};
 
 // What was read: so many bytes at the front of the buffer, and whether a read failed before the end of the input.
+// No `Result`: the clause `read` of the readers below tells how many bytes were taken where a read failed, too.
 #[derive(Clone, Copy)]
 pub struct Reading {
     pub count: usize,
@@ -36,21 +37,17 @@ impl<F: Read> Read for Opened<F> {
 
 // Opens the file of a name. A name that is no text names no file.
 pub fn open_named<R: Files>(rt: &R, name: &[u8]) -> Opened<R::File> {
-    let file = match str::from_utf8(name) {
-        Ok(path) => fs::open(rt, path).ok(),
-        Err(_) => None,
-    };
-    Opened { file: file }
+    let path = str::from_utf8(name).ok();
+    Opened {
+        file: path.and_then(|path| fs::open(rt, path).ok()),
+    }
 }
 
 // The read failed: its answer is an error.
 fn has_failed(got: &io::Result<usize>) -> bool
     ensures { result ≡ failed_read got.now }
 {
-    match got {
-        Ok(_) => false,
-        Err(_) => true,
-    }
+    got.is_err()
 }
 
 // Reads once. No bytes are read at the end of the input, or if the read fails.
@@ -63,10 +60,7 @@ fn read_once<R: Read>(from: &mut R, buffer: &mut [u8]) -> Reading
     let got = from.read(buffer);
     let failed = has_failed(&got);
     let count = got.unwrap_or(0);
-    Reading {
-        count: count,
-        failed: failed,
-    }
+    Reading { count, failed }
 }
 
 // Reads until the buffer is full, the input ends or a read fails.
@@ -81,17 +75,20 @@ fn read_input<R: Read>(from: &mut R, buffer: &mut [u8]) -> Reading
         let more = reading.count;
         if more == 0 {
             return Reading {
-                count: count,
+                count,
                 failed: reading.failed,
             };
         }
         count += more;
     }
     Reading {
-        count: count,
+        count,
         failed: false,
     }
 }
+
+// Three readers in place of one for any size: each promises to read no more than decides of its kind of input, and asks
+// for a buffer of that size; what they do is `read_input`.
 
 // Reads a model file.
 pub fn read_model<R: Read>(from: &mut R, buffer: &mut [u8]) -> Reading
@@ -128,11 +125,5 @@ pub fn input_bytes(read: &[u8], failed: bool, most: usize) -> usize
     ensures within { Within result read.now }
     ensures input { FirstBytes most (input_of failed read.now) (take result read.now) }
 {
-    if failed {
-        return 0;
-    }
-    if read.len() < most {
-        return read.len();
-    }
-    most
+    if failed { 0 } else { read.len().min(most) }
 }

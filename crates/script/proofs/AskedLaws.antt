@@ -1,5 +1,8 @@
 -- Laws of the call that a command asks for.
-use Prim.Native.Nat.{ℕ, ◌+◌, ◌-◌}
+use Prim.Native.Nat.{ℕ, ◌+◌, ◌-◌, ◌≤◌}
+use Rattle.std.proofs.Common.{Option, Some, None}
+use Rattle.std.specs.Option.{unwrap_or}
+use Rattle.script_commands.specs.declared.Action.{Action}
 use mathlib.Core.Path.{◌≡◌, sym, ◌∙◌, ap}
 use mathlib.Core.Bool.{Bool}
 use mathlib.Core.List.{List}
@@ -12,8 +15,13 @@ use Rattle.gate.specs.Gate.{asking}
 use Rattle.sequence.specs.Calls.{Call, search, next}
 use Rattle.script_call.specs.Log.{Made}
 use Rattle.script_call.proofs.CallLaws.{made_as}
-use Rattle.script_commands.specs.Commands.{action, mark_table, third, allowance}
+use Rattle.script_commands.specs.Commands.{action, mark_table, third, allowance, number_of, Named}
 use Rattle.script.specs.Asked.{lent_list, call_of}
+
+-- the action that a command of a script that is not over names
+pub named : {n : ℕ} (o : Option Action) (a : Action) → Named n o → n ≤ 2 → number_of (unwrap_or o a) ≡ n
+named None a unknown known = absurd (omega (arith, unknown, known))
+named (Some b) a is known = is
 
 module _ (s : List ℕ) where
   module _ (copy a w : List ℕ) where

@@ -9,7 +9,7 @@ ghost use Rattle.script.specs.Asked.{call_of};
 use gate::Ask;
 use lasso::Transitions;
 use script_call::{play_next, play_search};
-use script_commands::number_at;
+use script_commands::{Action, number_at};
 
 // The call that the first command of a script asks for.
 pub fn play_one(
@@ -27,21 +27,24 @@ pub fn play_one(
         (call_of script.now copy.now answer.old work.old)
         place log.old answer.new work.new log.new result }
 {
-    let action = number_at(script, 0);
+    // A script that is not over has no unknown action.
+    let action = Action::of(number_at(script, 0)).unwrap_or(Action::NextOfList);
     let mark_table = number_at(script, 1);
     let third = number_at(script, 2);
-    if action == 0 {
-        let allowance = number_at(script, 3);
-        let ask = Ask {
-            table: mark_table,
-            ceiling: Transitions(third),
-            allowance,
-        };
-        return play_search(file, ask, answer, work, log, place);
+    match action {
+        Action::Search => {
+            let allowance = number_at(script, 3);
+            let ask = Ask {
+                table: mark_table,
+                ceiling: Transitions(third),
+                allowance,
+            };
+            play_search(file, ask, answer, work, log, place)
+        }
+        Action::NextOfCopy => play_next(file, mark_table, copy, answer, work, log, place),
+        Action::NextOfList => {
+            let end = 3 + third as usize;
+            play_next(file, mark_table, &script[3..end], answer, work, log, place)
+        }
     }
-    if action == 1 {
-        return play_next(file, mark_table, copy, answer, work, log, place);
-    }
-    let end = 3 + third as usize;
-    play_next(file, mark_table, &script[3..end], answer, work, log, place)
 }

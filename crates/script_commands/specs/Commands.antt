@@ -2,12 +2,24 @@
 -- and the mark table that the call names: 0, a search, with a ceiling and an allowance after them; 1, a next with the copy
 -- last received, which is the empty list at first; 2, a next with a list of its own, with a count and so many entries
 -- after them.
-use Rattle.std.specs.Prelude.{ℕ, ◌+◌, Bool, ◌||◌, List, length, get_or, eqb, ltb}
+use Rattle.std.specs.Prelude.{ℕ, ◌+◌, ◌<◌, ◌≡◌, Bool, ◌||◌, List, length, get_or, eqb, ltb, Option, Some, None, MatchOption}
 use Rattle.lists.specs.Lists.{pick}
+use Rattle.script_commands.specs.declared.Action.{Action}
+use Rattle.script_commands.specs.declared.Action.TheVariants.{Search, NextOfCopy, NextOfList}
 
 -- what the first command asks for
 abbrev pub action : List ℕ → ℕ
 action script = get_or script 0 0
+
+-- the number that names each action of the code
+abbrev pub number_of : Action → ℕ
+number_of Search = 0
+number_of NextOfCopy = 1
+number_of NextOfList = 2
+
+-- what is told of a number: the action that it names, or that it names none
+abbrev pub Named : ℕ → Option Action → Type 0
+Named n o = MatchOption o (2 < n) (λ a. number_of a ≡ n)
 
 -- the mark table that its call names
 abbrev pub mark_table : List ℕ → ℕ
@@ -30,9 +42,9 @@ command_length script = 2 + behind (action script) (third script)
 abbrev pub overb : List ℕ → Bool
 overb script = ltb (length script) (command_length script) || ltb 2 (action script)
 
--- how many numbers the command has that is to be played, 0 if the script is over
-abbrev pub size_of : List ℕ → ℕ
-size_of script = pick (overb script) 0 (command_length script)
+-- how many numbers the command has that is to be played, none if the script is over
+abbrev pub size_of : List ℕ → Option ℕ
+size_of script = pick (overb script) None (Some (command_length script))
 
 -- the allowance of a search
 abbrev pub allowance : List ℕ → ℕ

@@ -1,5 +1,4 @@
--- The laws of the player: the calls that a script asks for, the copy, the loop over the calls, and proper scripts.
+-- The laws of the player: the calls that a script asks for, the loop over the calls, and proper scripts.
 pub mod PlayedLaws
-pub mod CopyLaws
 pub mod PlayLaws
 pub mod ProperLaws

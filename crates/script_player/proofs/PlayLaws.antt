@@ -1,4 +1,5 @@
 -- Laws of the loop over the calls: what stands between two calls, one call more, and the end.
+use Rattle.std.proofs.Common.{Some, None}
 use Prim.Native.Nat.{ℕ, suc, ◌+◌, ◌*◌, ◌-◌, ◌/◌, ◌≤◌, ◌<◌}
 use mathlib.Core.Path.{◌≡◌, refl, sym, ◌∙◌, ap, subst}
 use mathlib.Core.Bool.{false}
@@ -152,79 +153,70 @@ module _ {f script a₀ w₀ log₀ a w log copy : List ℕ} {held at calls : �
   part_is : take (length script - at) (drop at script) ≡ drop at script
   part_is = rest_of script at p.at_in
 
-  module _ {size : ℕ} (at_size : size ≡ size_of (take (length script - at) (drop at script))) where
-    size_is : size ≡ size_of (drop at script)
-    size_is = at_size ∙ ap size_of part_is
+  -- the script is over
+  pub playing_over : size_of (take (length script - at) (drop at script)) ≡ None → Ended f script a₀ w₀ log₀ a w log calls
+  playing_over e =
+      playing_ended (calls_over f (drop at script) (take held copy) a w (length log₀ / 4 - calls) (size_over (drop at script) (sym (ap size_of part_is) ∙ e)))
 
-    -- the script is over
-    pub playing_over : size ≡ 0 → Ended f script a₀ w₀ log₀ a w log calls
-    playing_over e =
-        playing_ended (calls_over f (drop at script) (take held copy) a w (length log₀ / 4 - calls) (size_over (drop at script) (sym size_is ∙ e)))
+  module _ {size : ℕ} (at_size : size_of (take (length script - at) (drop at script)) ≡ Some size) where
+    goes_on : (overb (drop at script) ≡ false) × (size ≡ command_length (drop at script))
+    goes_on = size_goes_on (drop at script) size (sym (ap size_of part_is) ∙ at_size)
 
-    module _ (d : size ≡ 0 → ⊥) where
-      goes_on : (overb (drop at script) ≡ false) × (size_of (drop at script) ≡ command_length (drop at script))
-      goes_on = size_goes_on (drop at script) (λ e. d (size_is ∙ e))
+    -- the place after the command
+    next_place : at + size ≤ length script
+    next_place =
+        let there : command_length (drop at script) ≤ length (drop at script) = command_there (drop at script) goes_on.0 in
+        omega (arith, length-drop at script, goes_on.1, p.at_in)
 
-      -- what the call asks
-      pub call_asks : calls < length log₀ / 4
-          → (overb (take (length script - at) (drop at script)) ≡ false) × (4 * calls + 4 ≤ length log)
-      call_asks less = (ap overb part_is ∙ goes_on.0, omega (arith, p.log_length))
+    module _ (less : calls < length log₀ / 4) {a' w' log' : List ℕ} {got : ℕ}
+        (m : Made f (call_of (take (length script - at) (drop at script)) (take held copy) a w) (4 * calls) log a' w' log' got) where
+      -- the call, told by what is left of the script
+      call_made : Made f (call_of (drop at script) (take held copy) a w) (4 * calls) log a' w' log' got
+      call_made =
+          subst (λ (s : List ℕ). Made f (call_of s (take held copy) a w) (4 * calls) log a' w' log' got) part_is m
 
-      -- the place after the command
-      pub next_place : at + size ≤ length script
-      next_place =
-          let there : command_length (drop at script) ≤ length (drop at script) = command_there (drop at script) goes_on.0 in
-          omega (arith, length-drop at script, size_is, goes_on.1, p.at_in)
-
-      module _ (less : calls < length log₀ / 4) {a' w' log' : List ℕ} {got : ℕ}
-          (m : Made f (call_of (take (length script - at) (drop at script)) (take held copy) a w) (4 * calls) log a' w' log' got) where
-        -- the call, told by what is left of the script
-        call_made : Made f (call_of (drop at script) (take held copy) a w) (4 * calls) log a' w' log' got
-        call_made =
-            subst (λ (s : List ℕ). Made f (call_of s (take held copy) a w) (4 * calls) log a' w' log' got) part_is m
-
-        -- one call more
-        pub playing_next : {copy' : List ℕ} {held' : ℕ} → length a' ≡ length a → length w' ≡ length w → length log' ≡ length log
-            → length copy' ≡ length copy → held' ≤ length copy
-            → take held' copy' ≡ pick (eqb got 0) (take held copy) (take got a')
-            → Playing f script a₀ w₀ log₀ (length log₀ / 4) a' w' log' copy' held' (at + size) (calls + 1)
-        playing_next {copy'} {held'} same-a same_w same_log same_copy held_in kept =
-            let s : List ℕ = drop at script in
-            let c : Call = call_of s (take held copy) a w in
-            let r : Result = finder_at f c in
-            let left : length log₀ / 4 - calls ≡ suc (length log₀ / 4 - (calls + 1)) = omega arith in
-            let n : ℕ = length log₀ / 4 - (calls + 1) in
-            let more : calls_of f (length log₀ / 4 - calls) s (take held copy) a w
-            ≡ c ∷ calls_of f n (drop (command_length s) s) (keep_copy (received r) (take held copy)) r.table r.work
-            = ap (λ (k : ℕ). calls_of f k s (take held copy) a w) left ∙ calls_more f s (take held copy) a w n goes_on.0 in
-            let size-of : command_length s ≡ size = sym (size_is ∙ goes_on.1) in
-            let rest : drop (command_length s) s ≡ drop (at + size) script
-            = ap (λ (k : ℕ). drop k s) size-of ∙ drop-drop size at script in
-            let copy_is : keep_copy (received r) (take held copy) ≡ take held' copy' = sym (kept ∙ made_copy (take held copy) call_made) in
-            let told : calls_of f n (drop (command_length s) s) (keep_copy (received r) (take held copy)) r.table r.work
-            ≡ calls_of f n (drop (at + size) script) (take held' copy') a' w'
-            = ap (λ (x : List ℕ). calls_of f n x (keep_copy (received r) (take held copy)) r.table r.work) rest
-            ∙ ap (λ (x : List ℕ). calls_of f n (drop (at + size) script) x r.table r.work) copy_is
-            ∙ ap (λ (x : List ℕ). calls_of f n (drop (at + size) script) (take held' copy') x r.work) (sym call_made.answer)
-            ∙ ap (λ (x : List ℕ). calls_of f n (drop (at + size) script) (take held' copy') a' x) (sym call_made.work) in
-            record {
-              past = p.past ++ c ∷ [];
-              count = length-append p.past (c ∷ []) ∙ omega (arith, p.count);
-              others =
-                  p.others
-                  ∙ ap (λ (l : List Call). p.past ++ l) (more ∙ ap (λ (l : List Call). c ∷ l) told)
-                  ∙ sym (append_assoc p.past (c ∷ []) (calls_of f n (drop (at + size) script) (take held' copy') a' w'));
-              numbers =
-                  log_more (rows (map (finder_at f) p.past)) (call_row r) log₀ log log' calls
-                  (rows-length (finder_at f) p.past ∙ ap (λ (k : ℕ). 4 * k) p.count) p.numbers call_made.log_row
-                  ∙ ap (λ (x : List ℕ). x ++ drop (4 * (calls + 1)) log₀) (sym (rows_more (finder_at f) p.past c));
-              answer = call_made.answer ∙ sym (table_more (finder_at f) a₀ p.past c);
-              work = call_made.work ∙ sym (work_more (finder_at f) w₀ p.past c);
-              answer_length = same-a ∙ p.answer_length;
-              work_length = same_w ∙ p.work_length;
-              log_length = same_log ∙ p.log_length;
-              copy_length = same_copy ∙ p.copy_length;
-              held_in = omega (arith, p.copy_length);
-              at_in = next_place;
-              calls_in = omega arith;
-            }
+      -- one call more
+      pub playing_next : {copy' : List ℕ} {held' : ℕ} → length a' ≡ length a → length w' ≡ length w → length log' ≡ length log
+          → length copy' ≡ length copy → held' ≤ length copy
+          → take held' copy' ≡ pick (eqb got 0) (take held copy) (take got a')
+          → Playing f script a₀ w₀ log₀ (length log₀ / 4) a' w' log' copy' held' (at + size) (calls + 1)
+      playing_next {copy'} {held'} same-a same_w same_log same_copy held_in kept =
+          let s : List ℕ = drop at script in
+          let c : Call = call_of s (take held copy) a w in
+          let r : Result = finder_at f c in
+          let left : length log₀ / 4 - calls ≡ suc (length log₀ / 4 - (calls + 1)) = omega arith in
+          let n : ℕ = length log₀ / 4 - (calls + 1) in
+          let more : calls_of f (length log₀ / 4 - calls) s (take held copy) a w
+          ≡ c ∷ calls_of f n (drop (command_length s) s) (keep_copy (received r) (take held copy)) r.table r.work
+          = ap (λ (k : ℕ). calls_of f k s (take held copy) a w) left ∙ calls_more f s (take held copy) a w n goes_on.0 in
+          let size-of : command_length s ≡ size = sym goes_on.1 in
+          let rest : drop (command_length s) s ≡ drop (at + size) script
+          = ap (λ (k : ℕ). drop k s) size-of ∙ drop-drop size at script in
+          let copy_is : keep_copy (received r) (take held copy) ≡ take held' copy' = sym (kept ∙ made_copy (take held copy) call_made) in
+          let told : calls_of f n (drop (command_length s) s) (keep_copy (received r) (take held copy)) r.table r.work
+          ≡ calls_of f n (drop (at + size) script) (take held' copy') a' w'
+          = ap (λ (x : List ℕ). calls_of f n x (keep_copy (received r) (take held copy)) r.table r.work) rest
+          ∙ ap (λ (x : List ℕ). calls_of f n (drop (at + size) script) x r.table r.work) copy_is
+          ∙ ap (λ (x : List ℕ). calls_of f n (drop (at + size) script) (take held' copy') x r.work) (sym call_made.answer)
+          ∙ ap (λ (x : List ℕ). calls_of f n (drop (at + size) script) (take held' copy') a' x) (sym call_made.work) in
+          record {
+            past = p.past ++ c ∷ [];
+            count = length-append p.past (c ∷ []) ∙ omega (arith, p.count);
+            others =
+                p.others
+                ∙ ap (λ (l : List Call). p.past ++ l) (more ∙ ap (λ (l : List Call). c ∷ l) told)
+                ∙ sym (append_assoc p.past (c ∷ []) (calls_of f n (drop (at + size) script) (take held' copy') a' w'));
+            numbers =
+                log_more (rows (map (finder_at f) p.past)) (call_row r) log₀ log log' calls
+                (rows-length (finder_at f) p.past ∙ ap (λ (k : ℕ). 4 * k) p.count) p.numbers call_made.log_row
+                ∙ ap (λ (x : List ℕ). x ++ drop (4 * (calls + 1)) log₀) (sym (rows_more (finder_at f) p.past c));
+            answer = call_made.answer ∙ sym (table_more (finder_at f) a₀ p.past c);
+            work = call_made.work ∙ sym (work_more (finder_at f) w₀ p.past c);
+            answer_length = same-a ∙ p.answer_length;
+            work_length = same_w ∙ p.work_length;
+            log_length = same_log ∙ p.log_length;
+            copy_length = same_copy ∙ p.copy_length;
+            held_in = omega (arith, p.copy_length);
+            at_in = next_place;
+            calls_in = omega arith;
+          }

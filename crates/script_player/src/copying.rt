@@ -2,8 +2,6 @@
 ghost use Rattle.std.specs.Prelude.{◌≡◌, ◌≤◌, eqb, length, take};
 ghost use Rattle.lists.specs.Lists.{pick};
 
-use table::{get, put};
-
 // Takes the entries received, if any, into the copy; answers how many entries the copy has then.
 pub fn receive(answer: &[u16], got: usize, copy: &mut [u16], held: usize) -> usize
     requires got_in_bounds { got ≤ length answer.now }
@@ -16,11 +14,6 @@ pub fn receive(answer: &[u16], got: usize, copy: &mut [u16], held: usize) -> usi
     if got == 0 {
         return held;
     }
-    let mut i = 0;
-    while i < got {
-        let s = get(answer, i);
-        put(copy, i, s);
-        i += 1;
-    }
+    copy[..got].copy_from_slice(&answer[..got]);
     got
 }

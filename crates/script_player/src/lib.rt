@@ -33,15 +33,14 @@ pub fn play(
         answer.old work.old log.old log.new }
 {
     let room = log.len() / 4;
+    // A buffer with a length beside it: the copy is kept without a heap.
     let mut copy = [0u16; limit::ANSWER_ENTRIES];
     let mut held = 0;
     let mut at = 0;
-    let mut calls = 0;
-    while calls < room {
-        let size = command_size(&script[at..]);
-        if size == 0 {
+    for calls in 0..room {
+        let Some(size) = command_size(&script[at..]) else {
             return calls;
-        }
+        };
         let got = play_one(
             file,
             &script[at..],
@@ -53,7 +52,6 @@ pub fn play(
         );
         held = receive(answer, got, &mut copy, held);
         at += size;
-        calls += 1;
     }
-    calls
+    room
 }

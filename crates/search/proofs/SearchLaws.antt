@@ -22,13 +22,13 @@ use Rattle.format.specs.Rules.{first_broken, Accepted}
 use Rattle.outcomes.specs.Outcome.{Outcome, refused, answered}
 use Rattle.outcomes.specs.Tables.{no_room, length_due, list_reasons}
 use Rattle.outcomes.proofs.OutcomeLaws.{CallIs, call_answer, call_broken, call_kept, never_too_long}
-use Rattle.outcomes.proofs.ReadBack.{transitions, read_record, read_record_record_of, loses_nothing}
+use Rattle.outcomes.proofs.ReadBack.{transitions, read_record, read_record_record_of, loses_nothing, result_loses_nothing}
 use Rattle.gate.specs.Gate.{named_rules, ceiling_reason}
 use Rattle.format.proofs.Reasons.{broken_append}
 use Rattle.gate.proofs.GateLaws.{common_clear, named_one, ceiling_high, ceiling_low}
 use Rattle.search.specs.declared.SearchAnswer.{SearchAnswer}
 use Rattle.search.specs.declared.SearchAnswer.TheVariants as SearchAnswers
-use Rattle.search.specs.Search.{Searched, stopped, none_within, search_outcome_of, SearchLosesNothing, stopsb, first_of, searched, first_due, graph_asked, search_reasons, search_outcome, search_answer, WithEnough}
+use Rattle.search.specs.Search.{Searched, stopped, none_within, searched_of, SearchLosesNothing, stopsb, first_of, searched, first_due, graph_asked, search_reasons, search_outcome, search_answer, WithEnough}
 
 -- a search's outcome, and the list that it writes
 abbrev pub SearchIs : List ℕ → Ask → ℕ → ℕ → Outcome Searched → Option (List ℕ) → Type 0
@@ -172,20 +172,18 @@ first_written f t accepted one workRoom room a a' w s l k rounds at_start fits l
       out ∙ ap (λ (n : ℕ). xs ++ drop n a) entries ∙ sym (call_answer a found),
     )
 
--- the answer of a search with a given outcome
-abbrev read_search : Outcome Searched → SearchAnswer
-read_search (refused n) = SearchAnswers.Refused n
-read_search (answered (stopped r)) = SearchAnswers.Stopped (read_record r)
-read_search (answered (Searched.found l k rounds)) = SearchAnswers.Found (transitions l) k rounds
-read_search (answered (none_within rounds)) = SearchAnswers.NoneWithin rounds
+-- the answer of a search that says this
+abbrev read_search : Searched → SearchAnswer
+read_search (stopped r) = SearchAnswers.Stopped (read_record r)
+read_search (Searched.found l k rounds) = SearchAnswers.Found (transitions l) k rounds
+read_search (none_within rounds) = SearchAnswers.NoneWithin rounds
 
--- a search's answer is read off its outcome
-read_search_search_outcome_of : (a : SearchAnswer) → read_search (search_outcome_of a) ≡ a
-read_search_search_outcome_of (SearchAnswers.Refused n) = refl
-read_search_search_outcome_of (SearchAnswers.Stopped r) = ap SearchAnswers.Stopped (read_record_record_of r)
-read_search_search_outcome_of (SearchAnswers.Found l k rounds) = refl
-read_search_search_outcome_of (SearchAnswers.NoneWithin rounds) = refl
+-- a search's answer is read off what it says
+read_search_searched_of : (a : SearchAnswer) → read_search (searched_of a) ≡ a
+read_search_searched_of (SearchAnswers.Stopped r) = ap SearchAnswers.Stopped (read_record_record_of r)
+read_search_searched_of (SearchAnswers.Found l k rounds) = refl
+read_search_searched_of (SearchAnswers.NoneWithin rounds) = refl
 
--- equal outcomes of a search are of equal answers
+-- equal outcomes of a search are of equal results
 pub search_loses_nothing : SearchLosesNothing
-search_loses_nothing = loses_nothing search_outcome_of read_search read_search_search_outcome_of
+search_loses_nothing = result_loses_nothing searched_of (loses_nothing searched_of read_search read_search_searched_of)

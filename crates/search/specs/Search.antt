@@ -1,5 +1,6 @@
 -- A search: the first of the shortest accepting paths, if the allowance suffices and they are within the ceiling.
-use Rattle.std.specs.Prelude.{ℕ, ◌≤◌, ◌≡◌, Bool, length, ltb}
+use Rattle.std.specs.Prelude.{ℕ, ◌≤◌, ◌≡◌, Bool, length, ltb, Result}
+use Rattle.numbers.specs.declared.reason.Reason as code
 use mathlib.Core.List.{List, [], ◌∷◌, ◌++◌, head?}
 use Rattle.std.proofs.Math.Option.{Option, none}
 use Rattle.lists.specs.Lists.{pick}
@@ -11,7 +12,7 @@ use Rattle.numbers.specs.Limits.{highest_ceiling}
 use Rattle.gate.specs.declared.Ask.{Ask}
 use Rattle.model.specs.Model.{graph_of}
 use Rattle.format.specs.Rules.{Reason, first_broken}
-use Rattle.outcomes.specs.Outcome.{Outcome, refused, answered, outcome, LosesNothing}
+use Rattle.outcomes.specs.Outcome.{Outcome, outcome, outcome_of, LosesNothing}
 use Rattle.outcomes.specs.Tables.{list_reasons, unless_refused, written}
 use Rattle.gate.specs.Gate.{named_rules, ceiling_reason}
 use Rattle.search.specs.declared.SearchAnswer.{SearchAnswer}
@@ -23,12 +24,15 @@ pub data Searched : Type 0 where
   found : (l k rounds : ℕ) → Searched
   none_within : (rounds : ℕ) → Searched
 
--- which outcome each answer of the code's search is
-abbrev pub search_outcome_of : SearchAnswer → Outcome Searched
-search_outcome_of (SearchAnswers.Refused n) = refused n
-search_outcome_of (SearchAnswers.Stopped r) = answered (stopped (record_of r))
-search_outcome_of (SearchAnswers.Found l k rounds) = answered (found l.0 k rounds)
-search_outcome_of (SearchAnswers.NoneWithin rounds) = answered (none_within rounds)
+-- what each answer of the code's search says
+abbrev pub searched_of : SearchAnswer → Searched
+searched_of (SearchAnswers.Stopped r) = stopped (record_of r)
+searched_of (SearchAnswers.Found l k rounds) = found l.0 k rounds
+searched_of (SearchAnswers.NoneWithin rounds) = none_within rounds
+
+-- which outcome each result of the code's search is
+abbrev pub search_outcome_of : Result SearchAnswer code.Reason → Outcome Searched
+search_outcome_of = outcome_of searched_of
 
 -- no figure of a search's answer is lost in its outcome
 abbrev pub SearchLosesNothing : Type 0

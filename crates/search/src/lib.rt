@@ -17,15 +17,14 @@ ghost use Rattle.search.specs.Search.{search_outcome_of, search_outcome, search_
 use begun::{Begun, begin};
 use cursor::{to_first, write_list};
 use gate::{Ask, ceiling_too_high, enter, leave};
-use lasso::{Entries, RoundRecord, Transitions};
-use model::{Checked, Header};
-use numbers::{limit, reason};
+use lasso::{RoundRecord, Transitions};
+use model::Header;
+use numbers::{Reason, limit};
 
-// The answer of a search: refused with a number; stopped with the record after the rounds that the allowance admits;
-// found with the length, the loop's start and the rounds; or none within the ceiling with the rounds.
+// What a search that is not refused answers: stopped with the record after the rounds that the allowance admits; found with
+// the length, the loop's start and the rounds; or none within the ceiling with the rounds.
 #[derive(Clone, Copy)]
 pub enum SearchAnswer {
-    Refused(u16),
     Stopped(RoundRecord),
     Found(Transitions, u16, u16),
     NoneWithin(u16),
@@ -40,7 +39,7 @@ fn first_list(
     rounds: u16,
     answer: &mut [u16],
     work: &mut [u16],
-) -> SearchAnswer
+) -> Result<SearchAnswer, Reason>
     requires rounds_ready { RoundsReady file.now h work.old }
     requires h_value { least_length (graph_in file.now h) ≡ some transitions.0 }
     requires rounds_value { rounds ≡ length (candidates (graph_in file.now h)) }
@@ -52,17 +51,14 @@ fn first_list(
     ensures kept { length work.new ≡ length work.old }
 {
     if limit::LONGEST_PATH < transitions.0 {
-        return SearchAnswer::Refused(reason::TOO_LONG);
+        return Err(Reason::TooLong);
     }
-    let entries = transitions.entries();
-    let room = Entries(answer.len());
-    if room.0 < entries.0 {
-        return SearchAnswer::Refused(reason::NO_ROOM);
+    if answer.len() < transitions.entries().0 {
+        return Err(Reason::NoRoom);
     }
     to_first(file, h, transitions, work);
     let k = write_list(h, work, transitions, answer);
-    let loop_start = k as u16;
-    SearchAnswer::Found(transitions, loop_start, rounds)
+    Ok(SearchAnswer::Found(transitions, k as u16, rounds))
 }
 
 // The rounds that the allowance admits and, if it suffices, the first of the shortest accepting paths, if they are within
@@ -73,7 +69,7 @@ fn search_model(
     ask: Ask,
     answer: &mut [u16],
     work: &mut [u16],
-) -> SearchAnswer
+) -> Result<SearchAnswer, Reason>
     requires valid { Valid file.now h × (h.table ≡ ask.table) }
     requires states_in_bounds { 6 * h.states ≤ length work.old }
     ensures outcome { search_outcome_of result
@@ -83,12 +79,11 @@ fn search_model(
     ensures kept { length work.new ≡ length work.old }
 {
     if ceiling_too_high(ask.ceiling) {
-        return SearchAnswer::Refused(reason::HIGH_CEILING);
+        return Err(Reason::HighCeiling);
     }
-    let begun = begin(file, h, ask.ceiling, ask.allowance, work);
-    match begun {
-        Begun::Stopped(record) => SearchAnswer::Stopped(record),
-        Begun::NoneWithin(rounds) => SearchAnswer::NoneWithin(rounds),
+    match begin(file, h, ask.ceiling, ask.allowance, work) {
+        Begun::Stopped(record) => Ok(SearchAnswer::Stopped(record)),
+        Begun::NoneWithin(rounds) => Ok(SearchAnswer::NoneWithin(rounds)),
         Begun::Length(transitions, rounds) => first_list(
             file,
             h,
@@ -101,20 +96,20 @@ fn search_model(
 }
 
 // The first of the shortest accepting paths, written to the answer table if it is not longer than the ceiling.
-pub fn search(file: &[u8], ask: Ask, answer: &mut [u16], work: &mut [u16]) -> SearchAnswer
+pub fn search(
+    file: &[u8],
+    ask: Ask,
+    answer: &mut [u16],
+    work: &mut [u16],
+) -> Result<SearchAnswer, Reason>
     ensures outcome { search_outcome_of result
         ≡ search_outcome file.now ask (length answer.old) (length work.old) }
     ensures answer { answer.new
         ≡ search_answer file.now ask answer.old (length work.old) }
     ensures work { work.new ≡ work_of file.now ask.table work.old }
 {
-    let checked = enter(file, ask.table, work);
-    match checked {
-        Checked::Refused(number) => SearchAnswer::Refused(number),
-        Checked::Accept(h) => {
-            let searched = search_model(file, h, ask, answer, work);
-            leave(work);
-            searched
-        }
-    }
+    let h = enter(file, ask.table, work)?;
+    let searched = search_model(file, h, ask, answer, work);
+    leave(work);
+    searched
 }

@@ -23,10 +23,8 @@ pub fn write_head(text: &mut [u8], h: Header, rounds: usize) -> usize
     requires { length (head h.states h.edges rounds) ≤ length text.old }
     ensures { Wrote text.old 0 (head h.states h.edges rounds) text.new result }
 {
-    let states = h.states;
-    let edges = h.edges;
     let after_word = write_bytes(text, 0, b"model ");
-    let after_states = write_number(text, after_word, states);
-    let after_model = write_figure(text, after_states, b" ", edges);
+    let after_states = write_number(text, after_word, h.states);
+    let after_model = write_figure(text, after_states, b" ", h.edges);
     write_figure(text, after_model, b"rounds ", rounds)
 }

@@ -6,7 +6,6 @@ ghost use Rattle.text.specs.Writing.{Wrote};
 ghost use Rattle.sheet_line.specs.Line.{space_after, space_before, stem_loop};
 
 use lasso::Transitions;
-use table::get;
 use text::{write_byte, write_number};
 
 // Writes each state followed by a space.
@@ -15,12 +14,9 @@ fn write_stem(text: &mut [u8], at: usize, states: &[u16]) -> usize
     ensures { Wrote text.old at (space_after states.now) text.new result }
 {
     let mut next = at;
-    let mut i = 0;
-    while i < states.len() {
-        let s = get(states, i);
-        let after = write_number(text, next, s);
+    for s in states {
+        let after = write_number(text, next, *s as usize);
         next = write_byte(text, after, b' ');
-        i += 1;
     }
     next
 }
@@ -31,12 +27,9 @@ fn write_loop(text: &mut [u8], at: usize, states: &[u16]) -> usize
     ensures { Wrote text.old at (space_before states.now) text.new result }
 {
     let mut next = at;
-    let mut i = 0;
-    while i < states.len() {
-        let s = get(states, i);
+    for s in states {
         let after = write_byte(text, next, b' ');
-        next = write_number(text, after, s);
-        i += 1;
+        next = write_number(text, after, *s as usize);
     }
     next
 }

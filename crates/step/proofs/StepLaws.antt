@@ -1,6 +1,6 @@
 -- What a step answers: refused, finished, or the record after one more round; and that its outcome loses nothing.
 use Prim.Native.Nat.{ℕ, ◌≤◌, ◌<◌}
-use mathlib.Core.Path.{◌≡◌, refl, sym, ◌∙◌, ap}
+use mathlib.Core.Path.{◌≡◌, sym, ◌∙◌, ap}
 use mathlib.Core.Bool.{Bool}
 use mathlib.Core.List.{List, [], ◌∷◌}
 use mathlib.Core.Option.{Option, some, none}
@@ -11,14 +11,14 @@ use Rattle.lasso.specs.Graph.{Graph}
 use Rattle.lasso.specs.Rounds.{Record, candidates, after_round}
 use Rattle.model.specs.Model.{graph_of}
 use Rattle.format.specs.Rules.{first_broken}
-use Rattle.outcomes.specs.Outcome.{Outcome, refused, answered, outcome}
-use Rattle.outcomes.proofs.ReadBack.{read_record, read_record_record_of, loses_nothing}
+use Rattle.outcomes.specs.Outcome.{refused, answered, outcome}
+use Rattle.outcomes.proofs.ReadBack.{read_record, read_record_record_of, loses_nothing, result_loses_nothing}
 use Rattle.gate.specs.Gate.{named_rules, ceiling_reason}
 use Rattle.format.proofs.Reasons.{broken_append}
 use Rattle.gate.proofs.GateLaws.{ceiling_high, ceiling_low}
 use Rattle.step.specs.declared.StepAnswer.{StepAnswer}
 use Rattle.step.specs.declared.StepAnswer.TheVariants as StepAnswers
-use Rattle.step.specs.Step.{Stepped, finished, advanced, step_outcome_of, StepLosesNothing, stepped, step_reasons, step_outcome}
+use Rattle.step.specs.Step.{Stepped, finished, advanced, stepped_of, StepLosesNothing, stepped, step_reasons, step_outcome}
 
 module _ (f : List ℕ) (t ceiling : ℕ) (rec : Record) (workRoom : ℕ) where
   -- refused with the first reason that holds
@@ -55,18 +55,16 @@ module _ (f : List ℕ) (t ceiling : ℕ) (rec : Record) (workRoom : ℕ) where
         (ap (λ (b : Bool). pick b (finished rec) (advanced (after_round g ceiling rec))) (lt-leb (length (candidates g)) rec.done less)
         ∙ ap (λ (r : Record). advanced r) (sym q))
 
--- the answer of a step with a given outcome
-abbrev read_step : Outcome Stepped → StepAnswer
-read_step (refused n) = StepAnswers.Refused n
-read_step (answered (finished r)) = StepAnswers.Finished (read_record r)
-read_step (answered (advanced r)) = StepAnswers.Advanced (read_record r)
+-- the answer of a step that says this
+abbrev read_step : Stepped → StepAnswer
+read_step (finished r) = StepAnswers.Finished (read_record r)
+read_step (advanced r) = StepAnswers.Advanced (read_record r)
 
--- a step's answer is read off its outcome
-read_step_step_outcome_of : (a : StepAnswer) → read_step (step_outcome_of a) ≡ a
-read_step_step_outcome_of (StepAnswers.Refused n) = refl
-read_step_step_outcome_of (StepAnswers.Finished r) = ap StepAnswers.Finished (read_record_record_of r)
-read_step_step_outcome_of (StepAnswers.Advanced r) = ap StepAnswers.Advanced (read_record_record_of r)
+-- a step's answer is read off what it says
+read_step_stepped_of : (a : StepAnswer) → read_step (stepped_of a) ≡ a
+read_step_stepped_of (StepAnswers.Finished r) = ap StepAnswers.Finished (read_record_record_of r)
+read_step_stepped_of (StepAnswers.Advanced r) = ap StepAnswers.Advanced (read_record_record_of r)
 
--- equal outcomes of a step are of equal answers
+-- equal outcomes of a step are of equal results
 pub step_loses_nothing : StepLosesNothing
-step_loses_nothing = loses_nothing step_outcome_of read_step read_step_step_outcome_of
+step_loses_nothing = result_loses_nothing stepped_of (loses_nothing stepped_of read_step read_step_stepped_of)

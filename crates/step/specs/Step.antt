@@ -1,12 +1,13 @@
 -- One step: the record after one more round under a ceiling, by the marks of the table that it names.
-use Rattle.std.specs.Prelude.{ℕ, List, [], ◌∷◌, ◌++◌}
+use Rattle.std.specs.Prelude.{ℕ, List, [], ◌∷◌, ◌++◌, Result}
+use Rattle.numbers.specs.declared.reason.Reason as code
 use Rattle.lists.specs.Lists.{pick}
 use Rattle.lasso.specs.Graph.{Graph}
 use Rattle.lasso.specs.Rounds.{Record, finishedb, after_round}
 use Rattle.lasso.specs.Values.{record_of}
 use Rattle.model.specs.Model.{graph_of}
 use Rattle.format.specs.Rules.{Reason, first_broken}
-use Rattle.outcomes.specs.Outcome.{Outcome, refused, answered, outcome, LosesNothing}
+use Rattle.outcomes.specs.Outcome.{Outcome, outcome, outcome_of, LosesNothing}
 use Rattle.gate.specs.Gate.{named_rules, ceiling_reason}
 use Rattle.step.specs.declared.StepAnswer.{StepAnswer}
 use Rattle.step.specs.declared.StepAnswer.TheVariants as StepAnswers
@@ -16,11 +17,14 @@ pub data Stepped : Type 0 where
   finished : Record → Stepped
   advanced : Record → Stepped
 
--- which outcome each answer of the code's step is
-abbrev pub step_outcome_of : StepAnswer → Outcome Stepped
-step_outcome_of (StepAnswers.Refused n) = refused n
-step_outcome_of (StepAnswers.Finished r) = answered (finished (record_of r))
-step_outcome_of (StepAnswers.Advanced r) = answered (advanced (record_of r))
+-- what each answer of the code's step says
+abbrev pub stepped_of : StepAnswer → Stepped
+stepped_of (StepAnswers.Finished r) = finished (record_of r)
+stepped_of (StepAnswers.Advanced r) = advanced (record_of r)
+
+-- which outcome each result of the code's step is
+abbrev pub step_outcome_of : Result StepAnswer code.Reason → Outcome Stepped
+step_outcome_of = outcome_of stepped_of
 
 -- no figure of a step's answer is lost in its outcome
 abbrev pub StepLosesNothing : Type 0

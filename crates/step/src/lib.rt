@@ -11,14 +11,13 @@ ghost use Rattle.step.specs.Step.{step_outcome_of, step_outcome};
 use candidates::{count_candidates, start_distances};
 use gate::{ceiling_too_high, enter, leave};
 use lasso::{RoundRecord, Transitions};
-use model::{Checked, Header};
-use numbers::reason;
+use model::Header;
+use numbers::Reason;
 use rounds::next_round;
 
-// The answer of a step: refused with a number, or the record, the same or after one more round.
+// What a step that is not refused answers: the record, the same or after one more round.
 #[derive(Clone, Copy)]
 pub enum StepAnswer {
-    Refused(u16),
     Finished(RoundRecord),
     Advanced(RoundRecord),
 }
@@ -30,7 +29,7 @@ fn step_model(
     ceiling: Transitions,
     so_far: RoundRecord,
     work: &mut [u16],
-) -> StepAnswer
+) -> Result<StepAnswer, Reason>
     requires valid { Valid file.now h }
     requires states_in_bounds { 6 * h.states ≤ length work.old }
     ensures outcome { step_outcome_of result
@@ -38,16 +37,15 @@ fn step_model(
     ensures kept { length work.new ≡ length work.old }
 {
     if ceiling_too_high(ceiling) {
-        return StepAnswer::Refused(reason::HIGH_CEILING);
+        return Err(Reason::HighCeiling);
     }
     start_distances(file, h, work);
     let count = count_candidates(file, h, work);
-    let place = so_far.done as usize;
-    if count <= place {
-        return StepAnswer::Finished(so_far);
+    if count <= usize::from(so_far.done) {
+        return Ok(StepAnswer::Finished(so_far));
     }
     let after = next_round(file, h, work, ceiling, so_far);
-    StepAnswer::Advanced(after)
+    Ok(StepAnswer::Advanced(after))
 }
 
 // The record after one more round under a ceiling, for any record at all.
@@ -57,18 +55,13 @@ pub fn step(
     ceiling: Transitions,
     so_far: RoundRecord,
     work: &mut [u16],
-) -> StepAnswer
+) -> Result<StepAnswer, Reason>
     ensures outcome { step_outcome_of result
         ≡ step_outcome file.now mark_table ceiling.0 (record_of so_far) (length work.old) }
     ensures work { work.new ≡ work_of file.now mark_table work.old }
 {
-    let checked = enter(file, mark_table, work);
-    match checked {
-        Checked::Refused(number) => StepAnswer::Refused(number),
-        Checked::Accept(h) => {
-            let stepped = step_model(file, h, ceiling, so_far, work);
-            leave(work);
-            stepped
-        }
-    }
+    let h = enter(file, mark_table, work)?;
+    let stepped = step_model(file, h, ceiling, so_far, work);
+    leave(work);
+    stepped
 }

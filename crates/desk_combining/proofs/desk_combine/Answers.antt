@@ -9,15 +9,12 @@ use Rattle.desk_combining.proofs.desk_combine.Goals as goal
 
 pub returns : goal.returns
 returns c =
-    let third = c in
-    let second = third in
-    let first = second in
-    let a = first.args in
+    let a = c.args in
     let rule : List ℕ = input_of a.failed.rule a.rule.now in
     let letters : List ℕ = input_of a.failed.letters a.letters.now in
     let property : List ℕ = input_of a.failed.property a.property.now in
-    let same =
-    cut_told {f = rule} {letters = letters} {p = property} first.input_bytes-rule_bytes.ensures.input second.input_bytes-letter_bytes.ensures.input third.input_bytes-property_bytes.ensures.input (omega arith) (omega arith) (omega arith) in record {
+    let same = cut_told {f = rule} {letters = letters} {p = property}
+    c.input_bytes-rule_bytes.ensures.input c.input_bytes-letter_bytes.ensures.input c.input_bytes-property_bytes.ensures.input (omega arith) (omega arith) (omega arith) in record {
       output = wrote_as same.0 c.write_combination.ensures.output;
       errors = wrote_as same.1 c.write_combination.ensures.errors;
     }

@@ -1,13 +1,11 @@
--- `all_different` meets its contract. The loop's invariant: up to place j the entries are all different, and a flag is set
--- for each of them and for no other number.
-use Prim.Native.Nat.{◌-◌}
+-- `all_different` meets its contract. The loop's invariant: up to the place of the turn the entries are all different, and a
+-- flag is set for each of them and for no other number.
 use mathlib.Core.Path.{◌≡◌}
-use lib.ListN.{length}
+use lib.ListN.{length, take}
+use Rattle.lasso.specs.Graph.{edges}
 use Rattle.grade_accepts.proofs.FlagLaws.{Flags}
 use Rattle.grade_accepts.proofs.all_different.Given as goal
 
-abbrev pub invariant-loop-j : goal.invariant-loop-j
-invariant-loop-j l = Flags l.n l.list l.work l.j × (length l.work ≡ length l.initial.work)
-
-abbrev pub decreases-loop-j : goal.decreases-loop-j
-decreases-loop-j l = l.end - l.j
+abbrev pub invariant-loop-state : goal.invariant-loop-state
+invariant-loop-state l =
+    record { flags : Flags l.n (take (edges l.list) l.list) l.work l.state-index; same_length : length l.work ≡ length l.initial.work }

@@ -1,6 +1,5 @@
 -- `closes` meets its contract. The loop's invariant: some place starts a closed walk with a mark exactly if one from place k
 -- on does. The first place that holds the last entry decides.
-use Prim.Native.Nat.{◌-◌}
 use Rattle.lists.specs.Lists.{anyb, below}
 use Rattle.lasso.specs.Graph.{edges, loopsb}
 use Rattle.lists.proofs.Range.{Left}
@@ -10,6 +9,3 @@ use Rattle.paths.proofs.closes.Given as goal
 abbrev pub invariant-loop-k : goal.invariant-loop-k
 invariant-loop-k l =
     let loops = loopsb (graph_in l.file l.h) l.list in Left loops (anyb loops (below (edges l.list))) (edges l.list) l.k
-
-abbrev pub decreases-loop-k : goal.decreases-loop-k
-decreases-loop-k l = l.end - l.k

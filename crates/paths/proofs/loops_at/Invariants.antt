@@ -11,6 +11,3 @@ use Rattle.paths.proofs.loops_at.Given as goal
 abbrev pub invariant-loop-j : goal.invariant-loop-j
 invariant-loop-j l =
     let marks = mark_at (graph_in l.file l.h) l.list in Left marks (anyb marks (up_from l.k (edges l.list - l.k))) (edges l.list) l.j
-
-abbrev pub decreases-loop-j : goal.decreases-loop-j
-decreases-loop-j l = l.end - l.j

@@ -1,41 +1,41 @@
 -- `play_one` meets its contract: the call that is made is the one that the first command asks for.
-use native.Mathlib.Omega.{arith}
-use mathlib.Core.Path.{refl}
-use Rattle.script_commands.proofs.CommandLaws.{list_there}
-use Rattle.script.proofs.AskedLaws.{called_copy, called_list, made_search}
+use Rattle.std.proofs.Common.{refl, ap, ◌∙◌, ◌≡◌, arith}
+use Rattle.script_commands.specs.Commands.{number_of}
+use Rattle.script_commands.specs.declared.Action.TheVariants.{NextOfList}
+use Rattle.script_commands.proofs.CommandLaws.{action_known}
+use Rattle.script.proofs.AskedLaws.{called_copy, called_list, made_search, named}
 use Rattle.script_call.proofs.CallLaws.{made_as}
 use Rattle.script.proofs.play_one.Goals as goal
-use Rattle.script.proofs.play_one.Goals.{After-number_at-action, Else-action-eq1, Start}
+use Rattle.script.proofs.play_one.Goals.{After-unwrap_or-action}
 
--- the function's start
-abbrev start : After-number_at-action → Start
-start c = (goal.at.After-number_at-action c).Start
+-- the action is the one that the command names
+its_action : (c : After-unwrap_or-action) → number_of c.unwrap_or-action.result ≡ c.number_at.result
+its_action c =
+    let known = action_known c.args.script.now c.requires.script_value in
+    ap number_of c.unwrap_or-action.ensures ∙ named c.of.result NextOfList c.of.ensures (omega (arith, known, c.number_at.ensures))
 
-pub returns-then-action-eq0 : goal.returns-then-action-eq0
-returns-then-action-eq0 c =
+pub returns-in-Search : goal.returns-in-Search
+returns-in-Search c =
     let a = c.args in
-    made_search a.script.now a.copy.now a.answer.now a.work.now c.number_at-action.ensures
+    let e = rw c.in-Search.is at (its_action (goal.at.returns-in-Search c).After-unwrap_or-action) in
+    made_search a.script.now a.copy.now a.answer.now a.work.now c.number_at.ensures
     c.number_at-mark_table.ensures c.play_search.ensures refl c.number_at-third.ensures
-    c.number_at-allowance.ensures c.if-action-eq0.true
+    c.number_at-allowance.ensures (omega (arith, e))
 
-pub returns-then-action-eq1 : goal.returns-then-action-eq1
-returns-then-action-eq1 c =
+pub returns-in-NextOfCopy : goal.returns-in-NextOfCopy
+returns-in-NextOfCopy c =
     let a = c.args in
+    let e = rw c.in-NextOfCopy.is at (its_action (goal.at.returns-in-NextOfCopy c).After-unwrap_or-action) in
     made_as
-    (called_copy a.script.now a.copy.now a.answer.now a.work.now c.number_at-action.ensures
-    c.number_at-mark_table.ensures c.if-action-eq0.false (omega (arith, c.if-action-eq1.true)))
+    (called_copy a.script.now a.copy.now a.answer.now a.work.now c.number_at.ensures
+    c.number_at-mark_table.ensures (λ z. omega (arith, e, z)) (omega (arith, e)))
     c.play_next.ensures
 
-pub slice_bounds-play_next-end : goal.slice_bounds-play_next-end
-slice_bounds-play_next-end c =
-    let s = (goal.at.Else-action-eq1 c).Start in
-    let there = list_there s.args.script.now s.requires.script_value (λ e. omega (arith, c.if-action-eq0.false, c.number_at-action.ensures)) (λ e. omega (arith, c.if-action-eq1.false, c.number_at-action.ensures)) in
-    omega (arith, there, c.number_at-third.ensures)
-
-pub returns : goal.returns
-returns c =
+pub returns-in-NextOfList : goal.returns-in-NextOfList
+returns-in-NextOfList c =
     let a = c.args in
+    let e = rw c.in-NextOfList.is at (its_action (goal.at.returns-in-NextOfList c).After-unwrap_or-action) in
     made_as
-    (called_list a.script.now a.copy.now a.answer.now a.work.now c.number_at-action.ensures
-    c.number_at-mark_table.ensures c.number_at-third.ensures c.if-action-eq0.false c.if-action-eq1.false)
-    c.play_next-2.ensures
+    (called_list a.script.now a.copy.now a.answer.now a.work.now c.number_at.ensures
+    c.number_at-mark_table.ensures c.number_at-third.ensures (λ z. omega (arith, e, z)) (λ z. omega (arith, e, z)))
+    c.play_next-in-NextOfList.ensures

@@ -1,8 +1,9 @@
 -- `first_list` meets its contract: the length is never above 4,096; without room for the list the answer is 15
 -- and nothing is written; else the first of the roll is written with its figures.
-use mathlib.Core.Path.{◌≡◌, refl, sym, ap, subst}
+use mathlib.Core.Path.{◌≡◌, sym, ◌∙◌, ap, subst}
 use mathlib.Core.List.{head?}
 use mathlib.Core.Option.{some, none}
+use Prim.Native.Nat.{◌≤◌}
 use native.Mathlib.Omega.{arith}
 use lib.ListN.{length}
 use Rattle.lasso.specs.Graph.{Graph}
@@ -11,75 +12,63 @@ use Rattle.lasso.specs.Rounds.{candidates}
 use Rattle.lasso.proofs.RollLaws.{least_length_range}
 use Rattle.model.specs.Model.{graph_in, graph_of}
 use Rattle.model.proofs.Laws.{valid_graph, valid_sizes}
-use Rattle.outcomes.specs.Outcome.{refused}
+use Rattle.outcomes.specs.Outcome.{refused, answered}
 use Rattle.outcomes.proofs.OutcomeLaws.{call_answer}
 use Rattle.gate.proofs.GateLaws.{valid_room}
 use Rattle.current.specs.Current.{list_in}
 use Rattle.cursor.proofs.RollPlaces.{stands_head}
-use Rattle.search.specs.Search.{graph_asked, WithEnough}
+use Rattle.search.specs.Search.{Searched, WithEnough, search_outcome, search_answer}
 use Rattle.search.proofs.SearchLaws.{SearchIs, search_no_room, first_written}
 use Rattle.search.proofs.first_list.Goals as goal
-use Rattle.search.proofs.first_list.Goals.{After-entries-entries, Start, Then-room-entries}
+use Rattle.search.proofs.first_list.Goals.{Then-answer-entries, After-write_list-k}
 
--- the function's start, and what was done before the list was written
-abbrev start : After-entries-entries → Start
-start c = (goal.at.After-entries-entries c).Start
+-- without room for the list 15 is due, whatever of enough is asked
+refused_room : (c : Then-answer-entries) → let a = c.args in WithEnough a.h.table a.rounds a.transitions.0 (λ ask. SearchIs a.file.now ask (length a.answer.now) (length a.work.now) (refused 15) none)
+refused_room c ask asks =
+    let a = c.args in
+    let ready = c.requires.rounds_ready in
+    let v = ready.valid in
+    let asked = subst (λ (g : Graph). (least_length g ≡ some a.transitions.0) × (a.rounds ≡ length (candidates g)))
+    (valid_graph v ∙ ap (graph_of a.file.now) (sym asks.named)) (c.requires.h_value, c.requires.rounds_value) in
+    search_no_room a.file.now v.accepted ask (length a.answer.now) (length a.work.now) (valid_room v ready.room) (omega (arith, v.table_limit, asks.named)) asks.not_high
+    (omega (arith, asked.1, asks.allowed)) a.transitions.0 asked.0 asks.within (omega (arith, c.entries.ensures, c.if-answer-entries.true))
 
-pub returns-then-transitions-gt-LONGEST_PATH : goal.returns-then-transitions-gt-LONGEST_PATH
-returns-then-transitions-gt-LONGEST_PATH c =
-    let s = c in
-    let sizes = valid_sizes s.requires.rounds_ready.valid in
-    absurd (omega (arith, least_length_range (graph_in s.args.file.now s.args.h) s.args.transitions.0 s.requires.h_value, c.if-transitions-gt-LONGEST_PATH.true))
+-- the length is in range
+fits : (c : After-write_list-k) → c.args.transitions.0 ≤ length c.to_first.new.work
+fits c =
+    let ready = c.requires.rounds_ready in
+    let sizes = valid_sizes ready.valid in
+    omega (arith, least_length_range (graph_in c.args.file.now c.args.h) c.args.transitions.0 c.requires.h_value, ready.room, c.to_first.ensures.kept)
 
-pub returns-then-room-entries : goal.returns-then-room-entries
-returns-then-room-entries c =
-    let counted = c in
-    let s = (goal.at.Then-room-entries counted).Start in
-    let a = s.args in
-    let v = s.requires.rounds_ready.valid in
-    let least = subst (λ (g : Graph). least_length g ≡ some a.transitions.0) (valid_graph v) s.requires.h_value in
-    let rounds_are = subst (λ (g : Graph). a.rounds ≡ length (candidates g)) (valid_graph v) s.requires.rounds_value in
-    let asked : WithEnough a.h.table a.rounds a.transitions.0 (λ ask.
-    (least_length (graph_asked a.file.now ask) ≡ some a.transitions.0) × (a.rounds ≡ length (candidates (graph_asked a.file.now ask)))) =
-    λ ask asks. subst (λ (g : Graph). (least_length g ≡ some a.transitions.0) × (a.rounds ≡ length (candidates g)))
-    (ap (graph_of a.file.now) (sym asks.named)) (least, rounds_are) in
-    let is : WithEnough a.h.table a.rounds a.transitions.0 (λ ask. SearchIs a.file.now ask (length a.answer.now) (length a.work.now) (refused 15) none) =
-    λ ask asks. search_no_room a.file.now v.accepted ask (length a.answer.now) (length a.work.now) (valid_room v s.requires.rounds_ready.room) (omega (arith, v.table_limit, asks.named)) asks.not_high (omega (arith, (asked ask asks).1, asks.allowed)) a.transitions.0 (asked ask asks).0 asks.within (omega (arith, counted.entries-entries.ensures, c.if-room-entries.true)) in record {
-      outcome = λ ask asks. sym (is ask asks).outcome_is;
-      answer = λ ask asks. sym (call_answer a.answer.now (is ask asks));
-      kept = refl;
-    }
+pub returns-then-answer-entries-clause-outcome : goal.returns-then-answer-entries-clause-outcome
+returns-then-answer-entries-clause-outcome c ask asks =
+    sym (refused_room (goal.at.returns-then-answer-entries-clause-outcome c).Then-answer-entries ask asks).outcome_is
 
-pub write_list-k-requires : goal.write_list-k-requires
-write_list-k-requires c =
-    let listed = c in
-    let entered = listed in
-    let s = entered in
-    let sizes = valid_sizes s.requires.rounds_ready.valid in record {
-      transitions_in_bounds = omega (arith, least_length_range (graph_in s.args.file.now s.args.h) s.args.transitions.0 s.requires.h_value, s.requires.rounds_ready.room, listed.to_first.ensures.kept, entered.entries-entries.ensures, listed.if-room-entries.false);
-      transitions_in_bounds_2 = omega (arith, least_length_range (graph_in s.args.file.now s.args.h) s.args.transitions.0 s.requires.h_value, s.requires.rounds_ready.room, listed.to_first.ensures.kept, entered.entries-entries.ensures, listed.if-room-entries.false);
-      start_bound = omega (arith, least_length_range (graph_in s.args.file.now s.args.h) s.args.transitions.0 s.requires.h_value, s.requires.rounds_ready.room, listed.to_first.ensures.kept, entered.entries-entries.ensures, listed.if-room-entries.false);
-    }
+pub returns-then-answer-entries-clause-answer : goal.returns-then-answer-entries-clause-answer
+returns-then-answer-entries-clause-answer c ask asks =
+    sym (call_answer c.args.answer.now (refused_room (goal.at.returns-then-answer-entries-clause-answer c).Then-answer-entries ask asks))
 
-pub returns : goal.returns
-returns c =
-    let wrote = c in
-    let listed = wrote in
-    let entered = listed in
-    let s = entered in
-    let a = s.args in
-    let v = s.requires.rounds_ready.valid in
-    let sizes = valid_sizes v in
-    let range = least_length_range (graph_in a.file.now a.h) a.transitions.0 s.requires.h_value in
-    let kept = listed.to_first.ensures.kept in
-    let rounds_are = subst (λ (g : Graph). a.rounds ≡ length (candidates g)) (valid_graph v) s.requires.rounds_value in
-    let least = subst (λ (g : Graph). least_length g ≡ some a.transitions.0) (valid_graph v) s.requires.h_value in
-    let first = subst (λ (g : Graph). head? (roll g) ≡ some (list_in g.start listed.to_first.new.work a.transitions.0)) (valid_graph v) (stands_head listed.to_first.ensures.at.current) in
-    let both =
-    first_written a.file.now a.h.table v.accepted v.table_limit (length a.work.now) (valid_room v s.requires.rounds_ready.room) a.answer.now _ _ a.h.start a.transitions.0 wrote.write_list-k.result a.rounds
-    sizes.start_is (omega (arith, kept, s.requires.rounds_ready.room)) least first (omega (arith, entered.entries-entries.ensures, listed.if-room-entries.false))
-    wrote.write_list-k.ensures.start.0 rounds_are wrote.write_list-k.ensures.list in record {
-      outcome = λ ask asks. (both ask asks).0;
-      answer = λ ask asks. (both ask asks).1;
-      kept = kept;
-    }
+pub write_list-k-requires-clause-transitions_in_bounds : goal.write_list-k-requires-clause-transitions_in_bounds
+write_list-k-requires-clause-transitions_in_bounds c =
+    let ready = c.requires.rounds_ready in
+    let sizes = valid_sizes ready.valid in
+    omega (arith, least_length_range (graph_in c.args.file.now c.args.h) c.args.transitions.0 c.requires.h_value, ready.room, c.to_first.ensures.kept)
+
+-- the list was written with its figures, whatever of enough is asked
+found : (c : After-write_list-k)
+    → let a = c.args in WithEnough a.h.table a.rounds a.transitions.0 (λ ask. (answered (Searched.found a.transitions.0 c.write_list-k.result a.rounds) ≡ search_outcome a.file.now ask (length a.answer.now) (length a.work.now)) × (c.write_list-k.new.answer ≡ search_answer a.file.now ask a.answer.now (length a.work.now)))
+found c =
+    let a = c.args in
+    let v = c.requires.rounds_ready.valid in
+    let rounds_are = subst (λ (g : Graph). a.rounds ≡ length (candidates g)) (valid_graph v) c.requires.rounds_value in
+    let least = subst (λ (g : Graph). least_length g ≡ some a.transitions.0) (valid_graph v) c.requires.h_value in
+    let first = subst (λ (g : Graph). head? (roll g) ≡ some (list_in g.start c.to_first.new.work a.transitions.0)) (valid_graph v) (stands_head c.to_first.ensures.at.current) in
+    first_written a.file.now a.h.table v.accepted v.table_limit (length a.work.now) (valid_room v c.requires.rounds_ready.room) a.answer.now _ _ a.h.start a.transitions.0 c.write_list-k.result a.rounds
+    (valid_sizes v).start_is (fits c) least first (omega (arith, c.entries.ensures, c.if-answer-entries.false))
+    c.write_list-k.ensures.start.0 rounds_are c.write_list-k.ensures.list
+
+pub returns-clause-outcome : goal.returns-clause-outcome
+returns-clause-outcome c ask asks = (found (goal.at.returns-clause-outcome c).After-write_list-k ask asks).0
+
+pub returns-clause-answer : goal.returns-clause-answer
+returns-clause-answer c ask asks = (found (goal.at.returns-clause-answer c).After-write_list-k ask asks).1

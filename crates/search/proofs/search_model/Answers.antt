@@ -1,121 +1,78 @@
 -- `search_model` meets its contract: refused with 21 if the ceiling is too high; else what the rounds come to decides
 -- between stopped, none within the ceiling and the first of the shortest accepting paths.
-use mathlib.Core.Path.{◌≡◌, refl, sym, ◌∙◌, ap, subst}
+use mathlib.Core.Path.{◌≡◌, sym, ◌∙◌, ap, subst}
 use Prim.Native.Nat.{ℕ, ◌≤◌}
 use native.Mathlib.Omega.{arith}
 use mathlib.Core.Option.{none}
-use borrow.Author.Tests.{ltb-true, ltb-false}
+use borrow.Author.Tests.{ltb-false}
 use lib.ListN.{length}
 use Rattle.lasso.specs.Graph.{Graph}
 use Rattle.lasso.specs.Roll.{of_least}
 use Rattle.lasso.specs.Rounds.{Record}
-use Rattle.format.specs.Rules.{first_broken}
-use Rattle.gate.specs.Gate.{named_rules}
+use Rattle.lasso.specs.Values.{record_of}
 use Rattle.model.specs.Model.{graph_in}
 use Rattle.outcomes.proofs.OutcomeLaws.{call_answer, at_length}
-use Rattle.gate.proofs.GateLaws.{named_graph, valid_room, valid_clear}
+use Rattle.gate.proofs.GateLaws.{named_graph, valid_room}
 use Rattle.begun.specs.Begun.{BegunSays}
-use Rattle.begun.specs.declared.Begun.{Begun}
+use Rattle.begun.specs.declared.Begun.TheVariants as Begins
 use Rattle.begun.proofs.BegunLaws.{begun_least}
 use Rattle.outcomes.specs.Outcome.{answered}
 use Rattle.search.specs.Search.{stopped, none_within, graph_asked, search_outcome, search_answer, AsksEnough}
-use Rattle.search.proofs.SearchLaws.{search_too_high, search_stopped, search_none}
+use Rattle.search.proofs.SearchLaws.{SearchIs, search_stopped, search_none}
 use Rattle.search.proofs.search_model.Goals as goal
-use Rattle.search.proofs.search_model.Goals.{After-begin-begun, Else-ceiling_too_high, Start}
-
--- the function's start, and what the rounds came to
-abbrev low : After-begin-begun → Else-ceiling_too_high
-low c = (goal.at.After-begin-begun c).Else-ceiling_too_high
-
-abbrev start : After-begin-begun → Start
-start c = (goal.at.Else-ceiling_too_high (low c)).Start
+use Rattle.search.proofs.search_model.Goals.{After-begin, In-Stopped, In-NoneWithin, In-Length}
 
 -- the ceiling is not too high
-not_high : (c : After-begin-begun) → (start c).args.ask.ceiling.0 ≤ 4096
-not_high c = ltb-false 4096 _ (sym (low c).ceiling_too_high.ensures ∙ (low c).if-ceiling_too_high.false)
+not_high : (c : After-begin) → c.args.ask.ceiling.0 ≤ 4096
+not_high c = ltb-false 4096 c.args.ask.ceiling.0 (sym c.ceiling_too_high.ensures ∙ c.if-ceiling_too_high.false)
 
 -- the graph read by the header is the one that the search is about
-asked_graph : (s : Start) → graph_in s.args.file.now s.args.h ≡ graph_asked s.args.file.now s.args.ask
-asked_graph s = named_graph s.requires.valid.0 s.requires.valid.1
+asked_graph : (c : After-begin) → graph_in c.args.file.now c.args.h ≡ graph_asked c.args.file.now c.args.ask
+asked_graph c = named_graph c.requires.valid.0 c.requires.valid.1
 
--- the search names mark table 0 or 1
-asked_one : (s : Start) → s.args.ask.table ≤ 1
-asked_one s = omega (arith, s.requires.valid.0.table_limit, s.requires.valid.1)
+-- the rounds were stopped: what the search answers and writes
+stops : (c : In-Stopped) → let a = c.args in SearchIs a.file.now a.ask (length a.answer.now) (length a.work.now) (answered (stopped (record_of c.in-Stopped.record))) none
+stops c =
+    let a = c.args in
+    let begun = (goal.at.In-Stopped c).After-begin in
+    let stop = subst (λ (g : Graph). BegunSays g a.ask.ceiling.0 a.ask.allowance (Begins.Stopped c.in-Stopped.record)) (asked_graph begun) c.in-Stopped.ensures.says in
+    let is = search_stopped a.file.now c.requires.valid.0.accepted a.ask (length a.answer.now) (length a.work.now) (valid_room c.requires.valid.0 c.requires.states_in_bounds) (omega (arith, c.requires.valid.0.table_limit, c.requires.valid.1)) (not_high begun) stop.short in
+    record { outcome_is = is.outcome_is ∙ ap (λ (r : Record). answered (stopped r)) (sym stop.record_is); list_is = is.list_is }
 
--- what an answer of the rounds says, by its case
-says : (c : After-begin-begun) (r : Begun) → c.begin-begun.result ≡ r
-    → BegunSays (graph_in (start c).args.file.now (start c).args.h) (start c).args.ask.ceiling.0 (start c).args.ask.allowance r
-says c r e = rw e at c.begin-begun.ensures.says
-
--- the same of the graph of the file that the search is about
-says_file : (c : After-begin-begun) (r : Begun) → c.begin-begun.result ≡ r
-    → BegunSays (graph_asked (start c).args.file.now (start c).args.ask) (start c).args.ask.ceiling.0 (start c).args.ask.allowance r
-says_file c r e =
-    subst (λ (g : Graph). BegunSays g (start c).args.ask.ceiling.0 (start c).args.ask.allowance r) (asked_graph (start c)) (says c r e)
-
--- none of 22 and 1 to 12 holds
-asked_clear : (s : Start) → first_broken (named_rules s.args.file.now s.args.ask.table (length s.args.work.now)) ≡ none
-asked_clear s =
-    let work = length s.args.work.now in
-    subst (λ (t : ℕ). first_broken (named_rules s.args.file.now t work) ≡ none) s.requires.valid.1 (valid_clear s.requires.valid.0 work s.requires.states_in_bounds)
-
-pub returns-then-ceiling_too_high : goal.returns-then-ceiling_too_high
-returns-then-ceiling_too_high c =
-    let s = (goal.at.returns-then-ceiling_too_high c).Start in
-    let a = s.args in
-    let high = ltb-true 4096 _ (sym c.ceiling_too_high.ensures ∙ c.if-ceiling_too_high.true) in
-    let is = search_too_high a.file.now a.ask (length a.answer.now) (length a.work.now) (asked_clear s) high in record {
-      outcome = sym is.outcome_is;
-      answer = sym (call_answer a.answer.now is);
-      kept = refl;
-    }
-
-pub first_list-requires : goal.first_list-requires
-first_list-requires c =
-    let listed = c in
-    let begun = (goal.at.first_list-requires listed).After-begin-begun in
-    let all = says begun _ listed.in-Length.is in record {
-      rounds_ready = begun.begin-begun.ensures.ready;
-      h_value = (begun_least all).0;
-      rounds_value = all.rounds_are;
-    }
-
-pub returns-in-Stopped : goal.returns-in-Stopped
-returns-in-Stopped c =
-    let begun = (goal.at.returns-in-Stopped c).After-begin-begun in
-    let s = (goal.at.After-begin-begun begun).Start in
-    let a = s.args in
-    let stop = says_file begun _ c.in-Stopped.is in
-    let is = search_stopped a.file.now s.requires.valid.0.accepted a.ask (length a.answer.now) (length a.work.now) (valid_room s.requires.valid.0 s.requires.states_in_bounds) (asked_one s) (not_high begun) stop.short in record {
-      outcome = ap (λ (r : Record). answered (stopped r)) stop.record_is ∙ sym is.outcome_is;
-      answer = sym (call_answer a.answer.now is);
-      kept = begun.begin-begun.ensures.kept;
-    }
-
-pub returns-in-NoneWithin : goal.returns-in-NoneWithin
-returns-in-NoneWithin c =
-    let begun = (goal.at.returns-in-NoneWithin c).After-begin-begun in
-    let s = (goal.at.After-begin-begun begun).Start in
-    let a = s.args in
-    let all = says_file begun _ c.in-NoneWithin.is in
+-- there is no list within the ceiling: what the search answers and writes
+finds_none : (c : In-NoneWithin) → let a = c.args in SearchIs a.file.now a.ask (length a.answer.now) (length a.work.now) (answered (none_within c.in-NoneWithin.rounds)) none
+finds_none c =
+    let a = c.args in
+    let begun = (goal.at.In-NoneWithin c).After-begin in
+    let all = subst (λ (g : Graph). BegunSays g a.ask.ceiling.0 a.ask.allowance (Begins.NoneWithin c.in-NoneWithin.rounds)) (asked_graph begun) c.in-NoneWithin.ensures.says in
     let none_left = ap (of_least (graph_asked a.file.now a.ask)) all.least_is in
-    let is = search_none a.file.now s.requires.valid.0.accepted a.ask (length a.answer.now) (length a.work.now) (valid_room s.requires.valid.0 s.requires.states_in_bounds) (asked_one s) (not_high begun) all.enough none_left in record {
-      outcome = ap (λ (n : ℕ). answered (none_within n)) all.rounds_are ∙ sym is.outcome_is;
-      answer = sym (call_answer a.answer.now is);
-      kept = begun.begin-begun.ensures.kept;
-    }
+    let is = search_none a.file.now c.requires.valid.0.accepted a.ask (length a.answer.now) (length a.work.now) (valid_room c.requires.valid.0 c.requires.states_in_bounds) (omega (arith, c.requires.valid.0.table_limit, c.requires.valid.1)) (not_high begun) all.enough none_left in
+    record { outcome_is = is.outcome_is ∙ ap (λ (n : ℕ). answered (none_within n)) (sym all.rounds_are); list_is = is.list_is }
 
-pub returns-in-Length : goal.returns-in-Length
-returns-in-Length c =
-    let wrote = c in
-    let listed = wrote in
-    let begun = (goal.at.returns-in-Length listed).After-begin-begun in
-    let a = begun.args in
-    let all = says begun _ listed.in-Length.is in
-    let kept = begun.begin-begun.ensures.kept in
-    let asks : AsksEnough a.h.table listed.in-Length.rounds listed.in-Length.transitions.0 a.ask =
-    record { named = sym begun.requires.valid.1; allowed = omega (arith, all.rounds_are, all.enough); within = (begun_least all).1; not_high = not_high begun } in record {
-      outcome = at_length (λ n. search_outcome a.file.now a.ask (length a.answer.now) n) (wrote.first_list.ensures.outcome a.ask asks) kept;
-      answer = at_length (λ n. search_answer a.file.now a.ask a.answer.now n) (wrote.first_list.ensures.answer a.ask asks) kept;
-      kept = wrote.first_list.ensures.kept ∙ kept;
-    }
+-- a list is within the ceiling: the search asks enough for it
+asks : (c : In-Length) → AsksEnough c.args.h.table c.in-Length.rounds c.in-Length.transitions.0 c.args.ask
+asks c =
+    let all = c.in-Length.ensures.says in
+    record { named = sym c.requires.valid.1; allowed = omega (arith, all.rounds_are, all.enough); within = (begun_least all).1; not_high = not_high (goal.at.In-Length c).After-begin }
+
+pub returns-in-Stopped-clause-outcome : goal.returns-in-Stopped-clause-outcome
+returns-in-Stopped-clause-outcome c = sym (stops (goal.at.returns-in-Stopped-clause-outcome c).In-Stopped).outcome_is
+
+pub returns-in-Stopped-clause-answer : goal.returns-in-Stopped-clause-answer
+returns-in-Stopped-clause-answer c = sym (call_answer c.args.answer.now (stops (goal.at.returns-in-Stopped-clause-answer c).In-Stopped))
+
+pub returns-in-NoneWithin-clause-outcome : goal.returns-in-NoneWithin-clause-outcome
+returns-in-NoneWithin-clause-outcome c = sym (finds_none (goal.at.returns-in-NoneWithin-clause-outcome c).In-NoneWithin).outcome_is
+
+pub returns-in-NoneWithin-clause-answer : goal.returns-in-NoneWithin-clause-answer
+returns-in-NoneWithin-clause-answer c = sym (call_answer c.args.answer.now (finds_none (goal.at.returns-in-NoneWithin-clause-answer c).In-NoneWithin))
+
+pub returns-in-Length-clause-outcome : goal.returns-in-Length-clause-outcome
+returns-in-Length-clause-outcome c =
+    at_length (λ n. search_outcome c.args.file.now c.args.ask (length c.args.answer.now) n)
+    (c.first_list.ensures.outcome c.args.ask (asks (goal.at.returns-in-Length-clause-outcome c).In-Length)) c.in-Length.ensures.kept
+
+pub returns-in-Length-clause-answer : goal.returns-in-Length-clause-answer
+returns-in-Length-clause-answer c =
+    at_length (λ n. search_answer c.args.file.now c.args.ask c.args.answer.now n)
+    (c.first_list.ensures.answer c.args.ask (asks (goal.at.returns-in-Length-clause-answer c).In-Length)) c.in-Length.ensures.kept

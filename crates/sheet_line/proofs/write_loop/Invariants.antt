@@ -1,12 +1,8 @@
--- `write_loop` meets its contract. The loop's invariant: the first i states are written.
-use Prim.Native.Nat.{◌-◌, ◌≤◌}
-use lib.ListN.{length, take}
+-- `write_loop` meets its contract. The loop's invariant: the states up to the index are written.
+use Rattle.std.proofs.Common.{take}
 use Rattle.text.specs.Writing.{Wrote}
 use Rattle.sheet_line.specs.Line.{space_before}
 use Rattle.sheet_line.proofs.write_loop.Given as goal
 
-abbrev pub invariant-loop-i : goal.invariant-loop-i
-invariant-loop-i l = (l.i ≤ length l.states) × Wrote l.initial.text l.at (space_before (take l.i l.states)) l.text l.next
-
-abbrev pub decreases-loop-i : goal.decreases-loop-i
-decreases-loop-i l = length l.states - l.i
+abbrev pub invariant-loop-s : goal.invariant-loop-s
+invariant-loop-s l = Wrote l.initial.text l.at (space_before (take l.s-index l.states)) l.text l.next

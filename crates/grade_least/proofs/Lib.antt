@@ -1,1 +1,0 @@
--- The proof of the test of the least length.
