@@ -48,9 +48,10 @@ fn write_closing(text: &mut [u8], at: usize, count: usize, more: bool) -> usize
     ensures { Wrote text.old at (closing_line more count) text.new result }
 {
     if more {
-        return write_figure(text, at, b"more ", count);
+        write_figure(text, at, b"more ", count)
+    } else {
+        write_figure(text, at, b"end ", count)
     }
-    write_figure(text, at, b"end ", count)
 }
 
 // Writes the lines of the first 20 lists and the closing line. All rounds are done, and the length of the lists is known.
@@ -76,6 +77,7 @@ pub fn write_lists(
     to_first(file, h, transitions, work);
     let mut next = at;
     let mut count = 0;
+    // No `for` over the 20 lists: it would need an answer after its last turn, which always returns.
     loop {
         next = write_current(h, transitions, answer, work, text, next);
         count += 1;
