@@ -13,7 +13,6 @@ ghost use Rattle.std.specs.Prelude.{◌≤◌, ◌<◌, length};
 
 use crate::reading::{byte_at, digits, next_number, skip, within};
 use harness::{header_word, put_byte, text};
-use table::put;
 
 // An item: its sign, its numbers, and the place after it.
 #[derive(Clone, Copy)]
@@ -59,7 +58,7 @@ fn item_at(rt: &impl Print, words: &[u8], place: usize) -> Item
     let third = next_number(words, second.next);
     let fourth = next_number(words, third.next);
     Item {
-        sign: sign,
+        sign,
         first: first.value,
         second: second.value,
         third: third.value,
@@ -73,10 +72,7 @@ fn header_number(i: Item, place: usize, masks: usize) -> usize
     requires { masks < 100000 }
     ensures { result < 500000 }
 {
-    if 4097 < i.first {
-        return 0;
-    }
-    if 8194 < i.second {
+    if 4097 < i.first || 8194 < i.second {
         return 0;
     }
     let number = header_word(place, i.first, i.second, i.third) % 100000;
@@ -90,10 +86,7 @@ fn header_number(i: Item, place: usize, masks: usize) -> usize
 fn reduced(value: usize, modulus: usize) -> usize
     ensures { result < 65536 }
 {
-    if modulus == 0 {
-        return 0;
-    }
-    value % modulus % 65536
+    value.checked_rem(modulus).unwrap_or(0) % 65536
 }
 
 // The number at a place of an item, after another.
@@ -102,14 +95,9 @@ fn number_at(i: Item, place: usize, before: usize) -> usize
     requires place_bound { (place < 100000) × (before < 500000) }
     ensures { result < 500000 }
 {
-    let sign = i.sign;
-    match sign {
-        b'r' | b's' => {
-            if place == 0 {
-                return reduced(i.first, i.fourth);
-            }
-            reduced(before + i.second, i.fourth)
-        }
+    match i.sign {
+        b'r' | b's' if place == 0 => reduced(i.first, i.fourth),
+        b'r' | b's' => reduced(before + i.second, i.fourth),
         b'l' => reduced(i.first + 2 * (place / 4) + place % 2, i.second),
         b'h' => header_number(i, place, 0),
         b'p' => header_number(i, place, i.second),
@@ -123,8 +111,7 @@ fn count_of(i: Item) -> usize
     requires { i.third < 100000 }
     ensures { result < 100000 }
 {
-    let sign = i.sign;
-    match sign {
+    match i.sign {
         b'r' | b's' | b'l' => i.third,
         b'h' | b'p' => 12,
         b'=' => 0,
@@ -161,12 +148,10 @@ fn put_numbers(file: &mut [u8], from: usize, i: Item) -> usize
     let width = width_of(i.sign);
     let mut at = from;
     let mut value = 0;
-    let mut place = 0;
-    while place < count {
+    for place in 0..count {
         value = number_at(i, place, value);
         put_number(file, at, value, width);
         at += width;
-        place += 1;
     }
     at
 }
@@ -176,8 +161,7 @@ fn put_item(file: &mut [u8], size: usize, i: Item) -> usize
     requires size_bound { size ≤ 200000 }
     requires first_bound { (i.first < 100000) × (i.second < 100000) × (i.third < 100000) }
 {
-    let sign = i.sign;
-    match sign {
+    match i.sign {
         b'@' => {
             put_numbers(file, i.first, i);
             size
@@ -204,30 +188,16 @@ pub fn make(rt: &impl Print, words: &[u8], file: &mut [u8]) -> usize
     within(rt, size, file.len())
 }
 
-// The 16-bit number whose low and high byte are given.
-fn wide(low: u8, high: u8) -> usize
-    ensures { result < 65536 }
-{
-    low as usize + 256 * (high as usize)
-}
-
 // Puts the 16-bit numbers in the first so many bytes of a file at the front of a table; answers how many there are.
 fn put_entries(rt: &impl Print, file: &[u8], size: usize, table: &mut [u16]) -> usize
     requires { size ≤ length file.now }
     ensures { result ≤ length table.old }
 {
-    let mut i = 0;
-    let mut high = 1;
-    while high < size {
-        if table.len() <= i {
-            text(rt, b" cut");
-            return i;
-        }
-        put(table, i, wide(file[high - 1], file[high]));
-        i += 1;
-        high += 2;
+    let (pairs, _) = file[..size].as_chunks::<2>();
+    for (entry, pair) in table.iter_mut().zip(pairs) {
+        *entry = u16::from_le_bytes(*pair);
     }
-    i
+    within(rt, pairs.len(), table.len())
 }
 
 // Makes the table of 16-bit numbers that a text describes, by way of a buffer; answers how many there are.

@@ -6,5 +6,5 @@ mod reading;
 
 pub use items::{make, make_entries};
 pub use reading::{
-    NumberRead, byte_at, digits, end_behind, find, line_after, line_at, next_number, skip, within,
+    Lines, NumberRead, byte_at, digits, end_behind, find, lines_of, next_number, skip, within,
 };

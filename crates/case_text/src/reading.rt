@@ -1,7 +1,8 @@
 // Reads lines of text: line after line, the bytes up to a mark, the ends of parts, and decimal numbers.
 ghost use Rattle.std.specs.Prelude.{◌≤◌, ◌<◌, length};
+ghost use Rattle.std.specs.Iterator.{at_most};
 
-use harness::{part, text};
+use harness::text;
 
 // A number that was read, and the place after it.
 #[derive(Clone, Copy)]
@@ -15,14 +16,8 @@ pub fn find(words: &[u8], from: usize, mark: u8) -> usize
     requires { from ≤ length words.now }
     ensures { (from ≤ result) × (result ≤ length words.now) }
 {
-    let mut i = from;
-    while i < words.len() {
-        if words[i] == mark {
-            return i;
-        }
-        i += 1;
-    }
-    i
+    let found = words[from..].iter().position(|byte| *byte == mark);
+    found.map_or(words.len(), |i| from + i)
 }
 
 // The end of the part of a line that begins after a place: the next slash, or the end of the line.
@@ -31,49 +26,40 @@ pub fn end_behind(line: &[u8], place: usize) -> usize
     ensures { (place ≤ result) × (result ≤ length line.now) }
 {
     if place < line.len() {
-        return find(line, place + 1, b'/');
+        find(line, place + 1, b'/')
+    } else {
+        line.len()
     }
-    line.len()
 }
 
-// The line that begins at a place of a text.
-pub fn line_at(script: &[u8], at: usize) -> &[u8]
-    requires { at ≤ length script.now }
-{
-    part(script, at, find(script, at, b'\n'))
+// The lines of a text, one after another, each without the newline at its end.
+#[derive(Drop)]
+pub struct Lines<'a>(&'a [u8]);
+
+// The lines of a text.
+pub fn lines_of(script: &[u8]) -> Lines<'_> {
+    Lines(script)
 }
 
-// The place where the line after the one at a place begins, or the end of the text.
-pub fn line_after(script: &[u8], at: usize) -> usize
-    requires { at < length script.now }
-    ensures { at < result }
-{
-    let end = find(script, at, b'\n');
-    if end < script.len() { end + 1 } else { end }
+impl<'a> Iterator for Lines<'a> {
+    type Item = &'a [u8];
+
+    ghost remaining = { λ s. at_most (length s.0.now) };
+
+    fn next(&mut self) -> Option<&'a [u8]> {
+        let script = self.0;
+        if script.is_empty() {
+            return None;
+        }
+        let end = find(script, 0, b'\n');
+        self.0 = &script[(end + 1).min(script.len())..];
+        Some(&script[..end])
+    }
 }
 
 // The byte at a place, 0 after the end.
 pub fn byte_at(words: &[u8], at: usize) -> u8 {
-    if at < words.len() { words[at] } else { 0 }
-}
-
-// The digit that a byte stands for, 10 if it is none.
-fn digit(value: u8) -> usize
-    ensures { result ≤ 10 }
-{
-    match value {
-        48 => 0,
-        49 => 1,
-        50 => 2,
-        51 => 3,
-        52 => 4,
-        53 => 5,
-        54 => 6,
-        55 => 7,
-        56 => 8,
-        57 => 9,
-        _ => 10,
-    }
+    words.get(at).copied().unwrap_or(0)
 }
 
 // The place of the first digit from the given one on, or the end.
@@ -81,14 +67,8 @@ pub fn skip(words: &[u8], from: usize) -> usize
     requires { from ≤ length words.now }
     ensures { (from ≤ result) × (result ≤ length words.now) }
 {
-    let mut i = from;
-    while i < words.len() {
-        if digit(words[i]) < 10 {
-            return i;
-        }
-        i += 1;
-    }
-    i
+    let found = words[from..].iter().position(|byte| byte.is_ascii_digit());
+    found.map_or(words.len(), |i| from + i)
 }
 
 // The digits from a place on, read as a number below 100,000.
@@ -97,19 +77,16 @@ pub fn digits(words: &[u8], from: usize) -> NumberRead
     ensures { (result.value < 100000) × (from ≤ result.next) × (result.next ≤ length words.now) }
 {
     let mut value = 0;
-    let mut i = from;
-    while i < words.len() {
-        let d = digit(words[i]);
-        if 10 <= d {
+    for i in from..words.len() {
+        if !words[i].is_ascii_digit() || 10000 <= value {
             return NumberRead { value, next: i };
         }
-        if 10000 <= value {
-            return NumberRead { value, next: i };
-        }
-        value = 10 * value + d;
-        i += 1;
+        value = 10 * value + usize::from(words[i] - b'0');
     }
-    NumberRead { value, next: i }
+    NumberRead {
+        value,
+        next: words.len(),
+    }
 }
 
 // The next number of a text, after whatever stands before it.

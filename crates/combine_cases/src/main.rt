@@ -4,69 +4,65 @@
 
 mod calls;
 
-ghost use Rattle.std.specs.Prelude.{◌≤◌, length};
-
 use calls::Seen;
-use case_text::{byte_at, end_behind, find, line_after, line_at, make, next_number};
-use harness::{part, read_text, say, sum, text};
+use case_text::{end_behind, find, lines_of, make, next_number};
+use harness::{read_text, sum, text};
 
 // How many cases were run, how many answers are not the expected ones, and how many outputs and tables are wrong.
-#[derive(Clone, Copy)]
+#[derive(Clone, Copy, Default)]
 struct Judged {
     cases: u64,
     other: u64,
     wrong: u64,
 }
 
-// Where the parts of a line end: its name, the rule, the letters, the property.
+// The parts of a line: its name and, each with the mark before it, the rule, the letters, the property and the numbers.
 #[derive(Clone, Copy)]
-struct Ends {
-    name: usize,
-    rule: usize,
-    letters: usize,
-    property: usize,
+struct Parts<'a> {
+    name: &'a [u8],
+    rule: &'a [u8],
+    letters: &'a [u8],
+    property: &'a [u8],
+    numbers: &'a [u8],
 }
 
 // With one case more.
 fn and(before: Judged, seen: Seen) -> Judged {
     Judged {
         cases: sum(before.cases, 1),
-        other: sum(before.other, seen.other),
+        other: sum(before.other, u64::from(seen.other)),
         wrong: sum(before.wrong, seen.wrong),
     }
 }
 
-// Where the parts of a line end.
-fn ends_of(line: &[u8]) -> Ends
-    ensures { (result.name ≤ result.rule) × (result.rule ≤ result.letters) × (result.letters ≤ result.property) × (result.property ≤ length line.now) }
-{
-    let name = find(line, 0, b':');
-    let rule = end_behind(line, name);
-    let letters = end_behind(line, rule);
-    let property = end_behind(line, letters);
-    Ends {
-        name: name,
-        rule: rule,
-        letters: letters,
-        property: property,
+// The parts of a line.
+fn parts_of(line: &[u8]) -> Parts<'_> {
+    let (name, rest) = line.split_at(find(line, 0, b':'));
+    let (rule, rest) = rest.split_at(end_behind(rest, 0));
+    let (letters, rest) = rest.split_at(end_behind(rest, 0));
+    let (property, numbers) = rest.split_at(end_behind(rest, 0));
+    Parts {
+        name,
+        rule,
+        letters,
+        property,
+        numbers,
     }
 }
 
 // Runs a case: makes the files that its parts describe, and combines them.
-fn run_parts(rt: &impl Print, line: &[u8], e: Ends, space: usize, expected: usize) -> Seen
-    requires { (e.name ≤ e.rule) × (e.rule ≤ e.letters) × (e.letters ≤ e.property) × (e.property ≤ length line.now) }
-{
+fn run_parts(rt: &impl Print, parts: Parts<'_>, space: usize, expected: usize) -> Seen {
     let mut rule = [0u8; 25700];
     let mut letters = [0u8; 4200];
     let mut property = [0u8; 41600];
-    let rule_size = make(rt, part(line, e.name, e.rule), &mut rule);
-    let letters_size = make(rt, part(line, e.rule, e.letters), &mut letters);
-    let property_size = make(rt, part(line, e.letters, e.property), &mut property);
+    let rule_size = make(rt, parts.rule, &mut rule);
+    let letters_size = make(rt, parts.letters, &mut letters);
+    let property_size = make(rt, parts.property, &mut property);
     calls::run(
         rt,
-        part(&rule, 0, rule_size),
-        part(&letters, 0, letters_size),
-        part(&property, 0, property_size),
+        &rule[..rule_size],
+        &letters[..letters_size],
+        &property[..property_size],
         space % 25201,
         expected,
     )
@@ -74,19 +70,19 @@ fn run_parts(rt: &impl Print, line: &[u8], e: Ends, space: usize, expected: usiz
 
 // Runs the case of a line: its name is printed, and after the parts stand the bytes of the output and the answer.
 fn run_case(rt: &impl Print, line: &[u8], before: Judged) -> Judged {
-    let e = ends_of(line);
-    let space = next_number(line, e.property);
-    let expected = next_number(line, space.next);
-    text(rt, part(line, 0, e.name));
+    let parts = parts_of(line);
+    let space = next_number(parts.numbers, 0);
+    let expected = next_number(parts.numbers, space.next);
+    text(rt, parts.name);
     text(rt, b":");
-    let seen = run_parts(rt, line, e, space.value, expected.value);
+    let seen = run_parts(rt, parts, space.value, expected.value);
     text(rt, b"\n");
     and(before, seen)
 }
 
 // Runs a line. One that begins with `#` is printed as it stands.
 fn run_line(rt: &impl Print, line: &[u8], before: Judged) -> Judged {
-    if byte_at(line, 0) == b'#' {
+    if line.starts_with(b"#") {
         text(rt, line);
         text(rt, b"\n");
         return before;
@@ -94,29 +90,20 @@ fn run_line(rt: &impl Print, line: &[u8], before: Judged) -> Judged {
     run_case(rt, line, before)
 }
 
-// Runs all lines of a text.
-fn run(rt: &impl Print, script: &[u8]) -> Judged {
-    let mut so_far = Judged {
-        cases: 0,
-        other: 0,
-        wrong: 0,
-    };
-    let mut at = 0;
-    while at < script.len() {
-        so_far = run_line(rt, line_at(script, at), so_far);
-        at = line_after(script, at);
-    }
-    so_far
-}
-
 fn main(rt: HostRuntime) {
     let mut input = [0u8; 30000];
     let got = read_text(&mut rt.stdin(), &mut input);
-    let all = run(&rt, &input[..got]);
-    say(
-        &rt,
-        b"spoilt noticed #\ncases #\nother answers #\nwrong outputs #\n",
-        0,
-        &[calls::spoilt(), all.cases, all.other, all.wrong],
+    let mut all = Judged::default();
+    for line in lines_of(&input[..got]) {
+        all = run_line(&rt, line, all);
+    }
+    let Judged {
+        cases,
+        other,
+        wrong,
+    } = all;
+    let spoilt = calls::spoilt();
+    let _ = print!(rt;
+        "spoilt noticed {spoilt}\ncases {cases}\nother answers {other}\nwrong outputs {wrong}\n"
     );
 }

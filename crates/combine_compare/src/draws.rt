@@ -3,7 +3,7 @@
 // a generator.
 ghost use Rattle.std.specs.Prelude.{◌≤◌, ◌<◌};
 
-use exhaustive::{Model, drawn};
+use exhaustive::{Model, drawn, holds};
 
 // How many rules there are, by their edges and their initial state, and how many properties, by their marks too.
 const RULES: u64 = 1570;
@@ -11,13 +11,12 @@ const RULES: u64 = 1570;
 const PROPERTIES: u64 = 132;
 
 // A rule with its letters and a property with its masks. Byte s of the letters is the letter of state s. The mask of the
-// edge from q to t is the 16-bit number at place 2 × q + t of the masks. The faults are a set of the places below. If the
-// rule has two mark tables, the second has the marks `second`; the result is the same without it.
+// edge from q to t is the 16-bit number at place 2 × q + t of the masks. The faults are a set. If the rule has a second mark
+// table, it has the marks `second`; the result is the same without it.
 #[derive(Clone, Copy)]
 pub struct Combination {
     pub rule: Model,
-    pub two_tables: bool,
-    pub second: u64,
+    pub second: Option<u64>,
     pub property: Model,
     pub letters: u64,
     pub masks: u64,
@@ -25,18 +24,23 @@ pub struct Combination {
 }
 
 // What is lent wrongly: the rule, the letters, the property or the output with a byte too few, the letters with one too
-// many. With other faults a letter may be above 15, and a mask zero.
-pub const RULE_SHORT: usize = 16;
+// many, a letter above 15. The number of each is its place in the set of faults. With other faults a mask is zero.
+#[derive(Clone, Copy)]
+pub enum Fault {
+    RuleShort = 16,
+    LettersShort = 17,
+    LettersLong = 18,
+    PropertyShort = 19,
+    OutputShort = 20,
+    LettersHigh = 21,
+}
 
-pub const LETTERS_SHORT: usize = 17;
-
-pub const LETTERS_LONG: usize = 18;
-
-pub const PROPERTY_SHORT: usize = 19;
-
-pub const OUTPUT_SHORT: usize = 20;
-
-const LETTERS_HIGH: usize = 21;
+impl Fault {
+    // Whether a set of faults holds this one.
+    pub fn is_in(self, faults: u64) -> bool {
+        holds(faults, self as usize)
+    }
+}
 
 // The bits of a draw that bytes 6–7 of the property, whether the rule has two mark tables, and the marks of the second are
 // taken from.
@@ -45,14 +49,6 @@ const PROPERTY_STAYS: usize = 40;
 const RULE_TABLES: usize = 41;
 
 const SECOND_MARKS: usize = 42;
-
-// Whether a set holds a number.
-pub fn holds(set: u64, at: usize) -> bool {
-    if at < 64 {
-        return (set >> at) % 2 == 1;
-    }
-    false
-}
 
 // The set of edges among so many states that a number gives, one bit for each pair of states.
 fn edges_of(states: usize, bits: u64) -> u64 {
@@ -63,43 +59,32 @@ fn edges_of(states: usize, bits: u64) -> u64 {
     }
 }
 
-// The rule with a number; its marks are drawn.
-fn rule_at(number: u64, x: u64, stays: bool) -> Model
-    ensures { (0 < result.states) × (result.states ≤ 3) × (result.start ≤ 2) }
-{
-    if number < 2 {
-        return Model {
-            states: 1,
-            start: 0,
-            edges: edges_of(1, number),
-            marks: x % 2,
-            stays: stays,
-        };
-    }
-    if number < 34 {
-        return Model {
-            states: 2,
-            start: (number % 2) as usize,
-            edges: edges_of(2, (number - 2) / 2),
-            marks: x % 4,
-            stays: stays,
-        };
-    }
-    Model {
-        states: 3,
-        start: (number % 3) as usize,
-        edges: edges_of(3, (number - 34) / 3),
-        marks: x % 8,
-        stays: stays,
-    }
-}
-
 // The marks of so many states that a draw gives.
 fn marks_of(states: usize, x: u64) -> u64 {
     match states {
         1 => x % 2,
         2 => x % 4,
         _ => x % 8,
+    }
+}
+
+// The rule with a number; its marks are drawn.
+fn rule_at(number: u64, x: u64, stays: bool) -> Model
+    ensures { (0 < result.states) × (result.states ≤ 3) × (result.start ≤ 2) }
+{
+    let (states, start, edges) = if number < 2 {
+        (1, 0, edges_of(1, number))
+    } else if number < 34 {
+        (2, number % 2, edges_of(2, (number - 2) / 2))
+    } else {
+        (3, number % 3, edges_of(3, (number - 34) / 3))
+    };
+    Model {
+        states,
+        start: start as usize,
+        edges,
+        marks: marks_of(states, x),
+        stays,
     }
 }
 
@@ -113,7 +98,7 @@ fn property_at(number: u64, stays: bool) -> Model
             start: 0,
             edges: number % 2,
             marks: number / 2,
-            stays: stays,
+            stays,
         };
     }
     Model {
@@ -121,7 +106,7 @@ fn property_at(number: u64, stays: bool) -> Model
         start: (number % 2) as usize,
         edges: edges_of(2, (number - 4) / 8),
         marks: number / 2 % 4,
-        stays: stays,
+        stays,
     }
 }
 
@@ -148,18 +133,12 @@ fn with_zero(masks: u64, which: u64) -> u64 {
 
 // The letters of a draw: 0 to 15, or with a fault 0 to 31.
 fn letters_of(x: u64, fault: bool) -> u64 {
-    if fault {
-        return x & 0x1f1f1f;
-    }
-    x & 0x0f0f0f
+    x & if fault { 0x1f1f1f } else { 0x0f0f0f }
 }
 
 // A draw of faults, none for an even number.
 fn faults_if(number: u64, x: u64) -> u64 {
-    if number % 2 == 0 {
-        return 0;
-    }
-    x
+    if number % 2 == 0 { 0 } else { x }
 }
 
 // The combination with a number: each second one has faults, each of them about every fourth time. Once all rules have
@@ -176,12 +155,11 @@ pub fn drawn_at(number: u64) -> Combination
     let turn = number / 2 / PROPERTIES;
     let rule = rule_at(turn % RULES, v, turn / RULES % 2 == 1);
     Combination {
-        rule: rule,
-        two_tables: holds(v, RULE_TABLES),
-        second: marks_of(rule.states, v >> SECOND_MARKS),
+        rule,
+        second: holds(v, RULE_TABLES).then_some(marks_of(rule.states, v >> SECOND_MARKS)),
         property: property_at(number / 2 % PROPERTIES, holds(v, PROPERTY_STAYS)),
-        letters: letters_of(y >> 16, holds(faults, LETTERS_HIGH)),
+        letters: letters_of(y >> 16, Fault::LettersHigh.is_in(faults)),
         masks: with_zero(masks, faults % 8),
-        faults: faults,
+        faults,
     }
 }

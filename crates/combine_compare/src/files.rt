@@ -1,11 +1,11 @@
 // The files of a combination, and the call on them.
 ghost use Rattle.std.specs.Prelude.{◌≤◌, ◌<◌, ◌+◌};
 
-use crate::draws::{Combination, LETTERS_LONG, LETTERS_SHORT, PROPERTY_SHORT, RULE_SHORT, holds};
+use crate::draws::{Combination, Fault};
 use crate::pairs::{leads, mask};
 use combine_trials::Tried;
 use exhaustive::Model;
-use harness::{part, put_byte, put16};
+use harness::{put_byte, put16};
 
 // A buffer for a file, longer than any.
 pub type File = [u8; 180];
@@ -14,12 +14,7 @@ pub type File = [u8; 180];
 pub fn lent(size: usize, short: bool) -> usize
     ensures { result ≤ size }
 {
-    if short {
-        if 0 < size {
-            return size - 1;
-        }
-    }
-    size
+    if short { size.saturating_sub(1) } else { size }
 }
 
 // Writes the mask at a place of the masks, if the property has its edge; answers the place after it in the file.
@@ -27,11 +22,11 @@ fn put_mask(file: &mut [u8], at: usize, edges: u64, masks: u64, place: usize) ->
     requires { at < 1000 }
     ensures { result ≤ at + 2 }
 {
-    if leads(edges, place) {
-        put16(file, at, mask(masks, place));
-        return at + 2;
+    if !leads(edges, place) {
+        return at;
     }
-    at
+    put16(file, at, mask(masks, place));
+    at + 2
 }
 
 // Writes a property: the file of its model with the masks after it, which the total length counts.
@@ -40,10 +35,8 @@ fn write_property(file: &mut [u8], m: Model, masks: u64) -> usize
     ensures { result ≤ 180 }
 {
     let mut at = exhaustive::write(file, m, m.states);
-    let mut place = 0;
-    while place < 4 {
+    for place in 0..4 {
         at = put_mask(file, at, m.edges, masks, place);
-        place += 1;
     }
     put16(file, 20, at);
     at
@@ -56,12 +49,12 @@ fn write_rule(file: &mut [u8], c: Combination) -> usize
 {
     let m = c.rule;
     let size = exhaustive::write(file, m, m.states);
-    if c.two_tables {
-        put_byte(file, size, c.second as usize);
-        put16(file, 20, size + 1);
-        return size + 1;
-    }
-    size
+    let Some(second) = c.second else {
+        return size;
+    };
+    put_byte(file, size, second as usize);
+    put16(file, 20, size + 1);
+    size + 1
 }
 
 // How many letters are lent: as many as there are states, one fewer or one more.
@@ -69,23 +62,19 @@ fn letters_lent(states: usize, faults: u64) -> usize
     requires { states ≤ 3 }
     ensures { result ≤ 4 }
 {
-    if holds(faults, LETTERS_SHORT) {
-        return lent(states, true);
+    if Fault::LettersShort.is_in(faults) {
+        lent(states, true)
+    } else if Fault::LettersLong.is_in(faults) {
+        states + 1
+    } else {
+        states
     }
-    if holds(faults, LETTERS_LONG) {
-        return states + 1;
-    }
-    states
 }
 
 // The letter table, with a letter more than there can be states.
 fn letter_table(letters: u64) -> [u8; 4] {
-    [
-        (letters % 256) as u8,
-        (letters / 256 % 256) as u8,
-        (letters / 65536 % 256) as u8,
-        0,
-    ]
+    let [first, second, third, ..] = letters.to_le_bytes();
+    [first, second, third, 0]
 }
 
 // The call with a rule and its letters, lent so many bytes of an output.
@@ -94,8 +83,8 @@ fn call_with(rule: &[u8], letters: &[u8], c: Combination, out: &mut File, space:
 {
     let mut property = [0u8; 180];
     let size = write_property(&mut property, c.property, c.masks);
-    let end = lent(size, holds(c.faults, PROPERTY_SHORT));
-    combine_trials::combine(rule, letters, part(&property, 0, end), out, space)
+    let end = lent(size, Fault::PropertyShort.is_in(c.faults));
+    combine_trials::combine(rule, letters, &property[..end], out, space)
 }
 
 // The call, with the faults that it has, lent so many bytes of an output.
@@ -105,8 +94,7 @@ pub fn call(c: Combination, out: &mut File, space: usize) -> Tried
     let mut rule = [0u8; 180];
     let letters = letter_table(c.letters);
     let size = write_rule(&mut rule, c);
-    let end = lent(size, holds(c.faults, RULE_SHORT));
-    let m = c.rule;
-    let count = letters_lent(m.states, c.faults);
-    call_with(part(&rule, 0, end), part(&letters, 0, count), c, out, space)
+    let end = lent(size, Fault::RuleShort.is_in(c.faults));
+    let count = letters_lent(c.rule.states, c.faults);
+    call_with(&rule[..end], &letters[..count], c, out, space)
 }

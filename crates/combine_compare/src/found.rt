@@ -2,25 +2,22 @@
 ghost use Rattle.std.specs.Prelude.{◌≤◌};
 
 use exhaustive::{Model, Seen, digit};
-use harness::{entry, written};
+use harness::{Answer, first};
 
-// What a search answered, and whether it must not answer that.
+// What a search answered, and whether it must answer that.
 #[derive(Clone, Copy)]
 pub struct Searched {
-    pub code: u64,
-    pub unlike: bool,
+    pub answer: Answer,
+    pub right: bool,
 }
 
 // Whether a table begins with a list of so many entries.
 fn begins_with(table: &[u16], list: u64, count: usize) -> bool {
-    let mut i = 0;
-    while i < count {
-        if entry(table, i) != digit(list, count - 1 - i) {
-            return false;
-        }
-        i += 1;
-    }
-    true
+    first(table, count)
+        .iter()
+        .rev()
+        .enumerate()
+        .all(|(place, entry)| usize::from(*entry) == digit(list, place))
 }
 
 // What a search of a model must answer, with an allowance and an answer table that are large enough.
@@ -36,20 +33,12 @@ pub fn search(m: Model, file: &[u8]) -> Searched
 {
     let mut table = [0u16; 16];
     let mut work = [0u16; 48];
-    let code = finder_trials::search(
-        file,
-        0,
-        4096,
-        65535,
-        &mut table,
-        16,
-        &mut work,
-        6 * m.states,
-    );
+    let lent = &mut work[..6 * m.states];
+    let tried = finder_trials::search(file, 0, 4096, 65535, &mut table, lent);
     let expected = right(m);
-    let listed = begins_with(&table, expected.list, written(code));
+    let listed = begins_with(&table, expected.list, tried.answer.written());
     Searched {
-        code: code,
-        unlike: code != expected.code || !listed,
+        answer: tried.answer,
+        right: tried == expected.tried && listed,
     }
 }

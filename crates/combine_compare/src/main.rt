@@ -12,12 +12,12 @@ mod tally;
 ghost use Rattle.std.specs.Prelude.{◌≤◌};
 
 use combine_trials::Tried;
-use draws::{OUTPUT_SHORT, drawn_at, holds};
+use draws::{Fault, drawn_at};
 use exhaustive::Model;
 use files::{File, call, lent};
-use harness::part;
+use harness::add;
 use pairs::{answer_of, model_of};
-use tally::{EDGES, Tally, add, add_written, differs, place_of_refusal, place_of_search};
+use tally::{Tally, add_refused, add_searched, add_written, differs};
 
 // How many combinations there are: each rule, without implied steps and with them, with each property, without a fault and
 // with some.
@@ -28,30 +28,11 @@ fn space(faults: u64, total: usize, more: u64) -> usize
     requires { total ≤ 169 }
     ensures { result ≤ 180 }
 {
-    if holds(faults, OUTPUT_SHORT) {
-        return lent(total, true);
+    if Fault::OutputShort.is_in(faults) {
+        lent(total, true)
+    } else {
+        total + (more % 8) as usize
     }
-    total + (more % 8) as usize
-}
-
-// Whether the first so many bytes of an output are those of a file.
-fn same(out: &File, file: &File, count: usize) -> bool {
-    let mut i = 0;
-    while i < 180 {
-        if count <= i {
-            return true;
-        }
-        if out[i] != file[i] {
-            return false;
-        }
-        i += 1;
-    }
-    true
-}
-
-// A count of bits.
-fn wide(count: u32) -> u64 {
-    count as u64
 }
 
 // Whether a search of what was written answers what it must.
@@ -59,27 +40,27 @@ fn searched(m: Model, file: &[u8], tally: &mut Tally) -> bool
     requires { m.states ≤ 7 }
 {
     let given = found::search(m, file);
-    add(tally, EDGES, wide(u64::count_ones(m.edges)));
-    add(tally, place_of_search(given.code), 1);
-    !given.unlike
+    add(&mut tally.edges, u64::from(m.edges.count_ones()));
+    add_searched(tally, given.answer);
+    given.right
 }
 
 // Whether a call answered and wrote what it must: the file of the model of all pairs.
 fn right(m: Model, tried: Tried, out: &File, file: &File, tally: &mut Tally) -> bool
     requires { m.states ≤ 7 }
 {
-    let answer = tried.answer;
-    if tried.wrong != 0 {
-        return false;
+    match tried.answer {
+        _ if tried.wrong => false,
+        Err(number) => {
+            add_refused(tally, number);
+            true
+        }
+        Ok(size) if out.len() < size => false,
+        Ok(size) => {
+            let written = &out[..size];
+            file.starts_with(written) && searched(m, written, tally)
+        }
     }
-    if 180 < answer {
-        return false;
-    }
-    if answer < 24 {
-        add(tally, place_of_refusal(answer), 1);
-        return true;
-    }
-    same(out, file, answer) && searched(m, part(out, 0, answer), tally)
 }
 
 // Compares one combination.
@@ -91,7 +72,7 @@ fn compare(rt: &impl Print, number: u64, tally: &mut Tally) {
     let total = exhaustive::write(&mut file, m, m.states);
     let expected = answer_of(c, total);
     let tried = call(c, &mut out, space(c.faults, total, number / 2));
-    if 24 <= tried.answer {
+    if tried.answer.is_ok() {
         add_written(tally, c);
     }
     if tried.answer != expected || !right(m, tried, &out, &file, tally) {
@@ -100,12 +81,10 @@ fn compare(rt: &impl Print, number: u64, tally: &mut Tally) {
 }
 
 fn main(rt: HostRuntime) {
-    let mut tally = [0u64; 13];
-    let mut number = 0;
-    while number < END {
-        add(&mut tally, tally::COMBINATIONS, 1);
+    let mut tally = Tally::default();
+    for number in 0..END {
+        add(&mut tally.combinations, 1);
         compare(&rt, number, &mut tally);
-        number += 1;
     }
     tally::print(&rt, &tally);
 }

@@ -2,10 +2,8 @@
 // set of pairs of pairs; and what the call must answer.
 ghost use Rattle.std.specs.Prelude.{◌≤◌};
 
-use crate::draws::{
-    Combination, LETTERS_LONG, LETTERS_SHORT, OUTPUT_SHORT, PROPERTY_SHORT, RULE_SHORT, holds,
-};
-use exhaustive::Model;
+use crate::draws::{Combination, Fault};
+use exhaustive::{Model, holds};
 
 // The steps of the rule, implied ones included, and the edges of the property, the letters and the masks, each in one
 // number, and how many states the property has.
@@ -21,25 +19,24 @@ struct Sets {
 // The letter of a state.
 fn letter(letters: u64, s: usize) -> usize {
     if s < 3 {
-        return ((letters >> (8 * s)) % 256) as usize;
+        ((letters >> (8 * s)) % 256) as usize
+    } else {
+        0
     }
-    0
 }
 
 // The mask at a place: that of the edge from place / 2 to place % 2.
 pub fn mask(masks: u64, place: usize) -> usize {
     if place < 4 {
-        return ((masks >> (16 * place)) % 65536) as usize;
+        ((masks >> (16 * place)) % 65536) as usize
+    } else {
+        0
     }
-    0
 }
 
 // Whether the property has the edge of the mask at a place.
 pub fn leads(edges: u64, place: usize) -> bool {
-    if place < 4 {
-        return holds(edges, 8 * (place / 2) + place % 2);
-    }
-    false
+    place < 4 && holds(edges, 8 * (place / 2) + place % 2)
 }
 
 // Whether the pair (s, q) leads to the pair (t, u), where place is 2 × q + u.
@@ -56,10 +53,7 @@ fn pair(size: usize, s: usize, q: usize) -> usize
     requires { (s ≤ 3) × (q ≤ 1) }
     ensures { result ≤ 7 }
 {
-    if size == 1 {
-        return s;
-    }
-    2 * s + q
+    if size == 1 { s } else { 2 * s + q }
 }
 
 // The set that holds the edge from (s, q) to (t, u), if there is one.
@@ -67,18 +61,28 @@ fn edge(x: Sets, s: usize, q: usize, t: usize, u: usize) -> u64
     requires { (s ≤ 2) × (q ≤ 1) × (t ≤ 2) × (u ≤ 1) }
 {
     if joined(x, s, t, 2 * q + u) {
-        return 1 << (8 * pair(x.size, s, q) + pair(x.size, t, u));
+        1 << (8 * pair(x.size, s, q) + pair(x.size, t, u))
+    } else {
+        0
     }
-    0
+}
+
+// The edges from (s, q) to all pairs.
+fn edges_from(x: Sets, s: usize, q: usize) -> u64
+    requires { (s ≤ 2) × (q ≤ 1) }
+{
+    let mut set = 0;
+    for t in 0..3 {
+        set |= edge(x, s, q, t, 0) | edge(x, s, q, t, 1);
+    }
+    set
 }
 
 // The edges between all pairs.
 fn edges(x: Sets) -> u64 {
     let mut set = 0;
-    let mut turn = 0;
-    while turn < 36 {
-        set = set | edge(x, turn / 12, turn / 6 % 2, turn / 2 % 3, turn % 2);
-        turn += 1;
+    for s in 0..3 {
+        set |= edges_from(x, s, 0) | edges_from(x, s, 1);
     }
     set
 }
@@ -108,7 +112,7 @@ pub fn model_of(c: Combination) -> Model
         property: property.edges,
         letters: c.letters,
         masks: c.masks,
-        size: size,
+        size,
     };
     Model {
         states: pair(size, rule.states, 0),
@@ -135,38 +139,32 @@ fn zero_at(edges: u64, masks: u64, place: usize) -> bool {
 
 // Whether an edge of the property has a zero mask.
 fn zero_mask(edges: u64, masks: u64) -> bool {
-    zero_at(edges, masks, 0)
-        || zero_at(edges, masks, 1)
-        || zero_at(edges, masks, 2)
-        || zero_at(edges, masks, 3)
+    (0..4).any(|place| zero_at(edges, masks, place))
 }
 
 // Whether the letters are to be refused.
 fn bad_letters(faults: u64, letters: u64, states: usize) -> bool {
-    holds(faults, LETTERS_SHORT) || holds(faults, LETTERS_LONG) || high_letter(letters, states)
+    Fault::LettersShort.is_in(faults)
+        || Fault::LettersLong.is_in(faults)
+        || high_letter(letters, states)
 }
 
 // Whether the property is to be refused.
 fn bad_property(faults: u64, edges: u64, masks: u64) -> bool {
-    holds(faults, PROPERTY_SHORT) || zero_mask(edges, masks)
+    Fault::PropertyShort.is_in(faults) || zero_mask(edges, masks)
 }
 
-// What the call must answer, where the result has so many bytes: the first refusal, or that number.
-pub fn answer_of(c: Combination, total: usize) -> usize {
-    let rule = c.rule;
-    let property = c.property;
-    let faults = c.faults;
-    if holds(faults, RULE_SHORT) {
-        return 7;
+// What the call must answer, where the result has so many bytes: the number of the first refusal, or those bytes.
+pub fn answer_of(c: Combination, total: usize) -> Result<usize, u16> {
+    if Fault::RuleShort.is_in(c.faults) {
+        Err(7)
+    } else if bad_letters(c.faults, c.letters, c.rule.states) {
+        Err(16)
+    } else if bad_property(c.faults, c.property.edges, c.masks) {
+        Err(17)
+    } else if Fault::OutputShort.is_in(c.faults) {
+        Err(15)
+    } else {
+        Ok(total)
     }
-    if bad_letters(faults, c.letters, rule.states) {
-        return 16;
-    }
-    if bad_property(faults, property.edges, c.masks) {
-        return 17;
-    }
-    if holds(faults, OUTPUT_SHORT) {
-        return 15;
-    }
-    total
 }

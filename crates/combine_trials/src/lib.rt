@@ -1,16 +1,16 @@
-// A combination on trial: its output is filled before the call and looked at after it, and the answer is one number.
+// A combination on trial: its output is filled before the call and looked at after it.
 #![tactic(auto)]
 
 ghost use Rattle.std.specs.Prelude.{◌≤◌, length};
 
 use combine::CombineAnswer;
 
-// What a combination answered, as one number: that of the refusal, or of the bytes written, which are more than 24. Then
-// how many outputs are not as they must be: 0, or 1 if a byte was changed that is none of those written.
+// What a combination answered: how many bytes were written, or the number of the refusal. Then whether a byte was changed
+// that is none of those written.
 #[derive(Clone, Copy)]
 pub struct Tried {
-    pub answer: usize,
-    pub wrong: usize,
+    pub answer: Result<usize, u16>,
+    pub wrong: bool,
 }
 
 // What stands at a place of an output before the call.
@@ -20,57 +20,32 @@ fn filling(at: usize) -> u8 {
 
 // Fills an output.
 pub fn fill(out: &mut [u8]) {
-    let mut i = 0;
-    while i < out.len() {
-        out[i] = filling(i);
-        i += 1;
+    for (at, byte) in out.iter_mut().enumerate() {
+        *byte = filling(at);
     }
 }
 
-// 0 if an output holds its filling from a place on, else 1.
-pub fn changed(out: &[u8], from: usize) -> usize
-    ensures { result ≤ 1 }
-{
-    let mut i = from;
-    while i < out.len() {
-        if out[i] != filling(i) {
-            return 1;
-        }
-        i += 1;
-    }
-    0
+// Whether an output does not hold its filling from a place on.
+pub fn changed(out: &[u8], from: usize) -> bool {
+    (from..out.len()).any(|at| out[at] != filling(at))
 }
 
-// The answer as one number.
-fn number_of(given: CombineAnswer) -> usize {
+// What a combination answered.
+fn answer_of(given: CombineAnswer) -> Result<usize, u16> {
     match given {
-        CombineAnswer::Refused(n) => n as usize,
-        CombineAnswer::Written(n) => n,
+        CombineAnswer::Refused(n) => Err(n),
+        CombineAnswer::Written(n) => Ok(n),
     }
-}
-
-// How many bytes an answer says are written: none if it is a refusal.
-pub fn written(answer: usize) -> usize {
-    if answer < 24 {
-        return 0;
-    }
-    answer
-}
-
-// A combination with the whole of an output.
-fn combine_on(rule: &[u8], letters: &[u8], property: &[u8], out: &mut [u8]) -> usize {
-    number_of(combine::combine(rule, letters, property, out))
 }
 
 // A combination that is lent so many bytes of an output; the bytes after them are looked at too.
 pub fn combine(rule: &[u8], letters: &[u8], property: &[u8], out: &mut [u8], space: usize) -> Tried
     requires { space ≤ length out.old }
-    ensures { result.wrong ≤ 1 }
 {
     fill(out);
-    let answer = combine_on(rule, letters, property, &mut out[..space]);
+    let answer = answer_of(combine::combine(rule, letters, property, &mut out[..space]));
     Tried {
-        answer: answer,
-        wrong: changed(out, written(answer)),
+        answer,
+        wrong: changed(out, answer.unwrap_or(0)),
     }
 }

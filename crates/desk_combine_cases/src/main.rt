@@ -8,12 +8,8 @@ use std::io;
 use std::rt::{Env, Files};
 
 fn main(rt: HostRuntime) {
-    let mut left = argument_count(&rt);
-    let mut place = 0;
-    while 4 <= left {
-        print_case(&rt, place);
-        place += 3;
-        left -= 3;
+    for case in 0..argument_count(&rt).saturating_sub(1) / 3 {
+        print_case(&rt, 3 * case);
     }
 }
 
@@ -21,11 +17,11 @@ fn main(rt: HostRuntime) {
 fn print_case<R: Env + Files + Print>(rt: &R, place: usize)
     requires { place + 3 < 18446744073709551616 }
 {
-    let _ = rt.write_all(b"#");
+    let _ = print!(rt; "#");
     print_argument(rt, place + 1);
     print_argument(rt, place + 2);
     print_argument(rt, place + 3);
-    let _ = rt.write_all(b"\n");
+    let _ = print!(rt; "\n");
     let mut rule = open_argument(rt, place + 1);
     let mut letters = open_argument(rt, place + 2);
     let mut property = open_argument(rt, place + 3);
@@ -42,6 +38,6 @@ fn print_case<R: Env + Files + Print>(rt: &R, place: usize)
 fn print_argument<R: Env + Print>(rt: &R, place: usize) {
     let mut name = [0u8; ARGUMENT_ROOM];
     let length = argument(rt, place, &mut name);
-    let _ = rt.write_all(b" ");
+    let _ = print!(rt; " ");
     let _ = rt.write_all(&name[..length]);
 }

@@ -4,24 +4,12 @@ ghost use Rattle.std.specs.Prelude.{◌≤◌, ◌<◌};
 
 // The set that holds one number below 64.
 pub fn bit(at: usize) -> u64 {
-    if at < 64 {
-        return 1 << at;
-    }
-    0
+    if at < 64 { 1 << at } else { 0 }
 }
 
 // The set of the numbers below one, up to seven.
 pub fn below(end: usize) -> u64 {
-    match end {
-        0 => 0,
-        1 => 0x01,
-        2 => 0x03,
-        3 => 0x07,
-        4 => 0x0f,
-        5 => 0x1f,
-        6 => 0x3f,
-        _ => 0x7f,
-    }
+    !(u64::MAX << end.min(7))
 }
 
 // Whether a set holds a number.
@@ -33,35 +21,21 @@ pub fn holds(set: u64, at: usize) -> bool {
 pub fn size(set: u64) -> usize
     ensures { result ≤ 64 }
 {
-    let count = u64::count_ones(set);
-    if 64 < count {
-        return 64;
-    }
-    count as usize
+    set.count_ones() as usize
 }
 
-// The number at a place of a set in ascending order, or 64 if there are not so many.
-pub fn member(set: u64, place: usize) -> usize {
-    let mut left = place;
-    let mut at = 0;
-    while at < 64 {
-        if holds(set, at) {
-            if left == 0 {
-                return at;
-            }
-            left -= 1;
-        }
-        at += 1;
-    }
-    64
+// The number at a place of a set in ascending order.
+pub fn member(set: u64, place: usize) -> Option<usize> {
+    (0..64).filter(|at| holds(set, *at)).nth(place)
 }
 
 // The numbers of a set that are below one.
 pub fn lower(set: u64, end: usize) -> u64 {
     if end < 64 {
-        return set ^ ((set >> end) << end);
+        set & !(u64::MAX << end)
+    } else {
+        set
     }
-    set
 }
 
 // The digit at a place, place 0 being the lowest.
@@ -69,17 +43,19 @@ pub fn digit(list: u64, place: usize) -> usize
     ensures { result < 16 }
 {
     if place < 16 {
-        return ((list >> (4 * place)) % 16) as usize;
+        ((list >> (4 * place)) % 16) as usize
+    } else {
+        0
     }
-    0
 }
 
 // A digit moved up to a place.
 pub fn digit_at(value: usize, place: usize) -> u64 {
     if place < 16 {
-        return ((value % 16) as u64) << (4 * place);
+        ((value % 16) as u64) << (4 * place)
+    } else {
+        0
     }
-    0
 }
 
 // The list with another digit at a place.

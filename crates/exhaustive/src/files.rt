@@ -15,7 +15,7 @@ fn table_word(m: Model, states: usize, edges: usize, place: usize) -> usize
     }
     let edge = place - states - 1;
     if edge < edges {
-        return member(m.edges, edge) % 8;
+        return member(m.edges, edge).map_or(0, |pair| pair % 8);
     }
     if edge == edges {
         return m.marks as usize;
@@ -44,10 +44,8 @@ pub fn write(file: &mut [u8], m: Model, states: usize) -> usize
     ensures { result ≤ 169 }
 {
     let edges = size(m.edges);
-    let mut place = 0;
-    while place < 85 {
+    for place in 0..85 {
         put16(file, 2 * place, word(m, states, edges, place));
-        place += 1;
     }
     27 + 2 * states + 2 * edges
 }

@@ -12,7 +12,7 @@ mod placed;
 mod search;
 mod sweeps;
 
-pub use digits::{and, digit};
+pub use digits::{and, bit, digit, holds, size};
 pub use expected::{Seen, list_at, of_next, of_search, of_step, round_at, rounds};
 pub use files::write;
 pub use lists::{Earlier, near, random_list, seed_of, tables_for};

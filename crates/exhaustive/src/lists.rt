@@ -11,6 +11,14 @@ pub struct Earlier {
     pub entries: usize,
 }
 
+impl Earlier {
+    // The empty list.
+    pub const EMPTY: Earlier = Earlier {
+        list: 0,
+        entries: 0,
+    };
+}
+
 // A right list or a wrong one near it, by turn: for nine turns each, with one entry changed, the last first, and with one
 // entry more; for five turns, the list itself; then without its last entry. The entries that are tried are 0 to 7, of
 // which some are states, and 65,535, whose digit is 15.
@@ -22,7 +30,7 @@ pub fn near(list: u64, entries: usize, turn: usize) -> Earlier
     if turn / 9 < entries {
         return Earlier {
             list: with_digit(list, turn / 9, value),
-            entries: entries,
+            entries,
         };
     }
     if turn / 9 == entries {
@@ -32,32 +40,24 @@ pub fn near(list: u64, entries: usize, turn: usize) -> Earlier
         };
     }
     if turn % 9 < 5 {
-        return Earlier {
-            list: list,
-            entries: entries,
-        };
+        return Earlier { list, entries };
     }
-    if entries == 0 {
-        return Earlier {
-            list: 0,
-            entries: 0,
-        };
-    }
-    Earlier {
-        list: list >> 4,
-        entries: entries - 1,
-    }
+    entries.checked_sub(1).map_or(
+        Earlier::EMPTY,
+        |entries| Earlier {
+            list: list >> 4,
+            entries,
+        },
+    )
 }
 
 // Which tables a turn has: those of its number among the turns with the list itself, the first ones otherwise.
 pub fn tables_for(entries: usize, turn: usize) -> usize {
-    if turn / 9 <= entries {
-        return 0;
+    if entries < turn / 9 && turn % 9 < 5 {
+        turn % 9
+    } else {
+        0
     }
-    if turn % 9 < 5 {
-        return turn % 9;
-    }
-    0
 }
 
 // A number from a model, to draw from.
@@ -74,19 +74,13 @@ pub fn random_list(x: u64, first: usize, turn: usize) -> Earlier
     let entries = ((x >> 60) % 9) as usize;
     let list = lower(x & 0x7777777777777777, 4 * entries);
     if entries == 0 {
-        return Earlier {
-            list: 0,
-            entries: 0,
-        };
+        return Earlier::EMPTY;
     }
     if turn % 2 == 0 {
         return Earlier {
             list: with_digit(list, entries - 1, first),
-            entries: entries,
+            entries,
         };
     }
-    Earlier {
-        list: list,
-        entries: entries,
-    }
+    Earlier { list, entries }
 }

@@ -16,21 +16,16 @@ pub struct Model {
 
 // Whether there is an edge.
 pub fn has_edge(m: Model, from: usize, to: usize) -> bool {
-    if 8 <= from {
-        return false;
-    }
-    if 8 <= to {
-        return false;
-    }
-    holds(m.edges, 8 * from + to)
+    from < 8 && to < 8 && holds(m.edges, 8 * from + to)
 }
 
 // The set of a state's successors.
 pub fn successors(m: Model, from: usize) -> u64 {
-    if 8 <= from {
-        return 0;
+    if from < 8 {
+        (m.edges >> (8 * from)) % 256
+    } else {
+        0
     }
-    (m.edges >> (8 * from)) % 256
 }
 
 // The set that holds the implied step of a state, if it has one.
@@ -38,20 +33,19 @@ fn implied(m: Model, s: usize) -> u64
     requires { s ≤ 6 }
 {
     if m.stays && s < m.states && successors(m, s) == 0 {
-        return bit(9 * s);
+        bit(9 * s)
+    } else {
+        0
     }
-    0
 }
 
 // The set of all implied steps.
 fn all_implied(m: Model) -> u64 {
-    implied(m, 0)
-        | implied(m, 1)
-        | implied(m, 2)
-        | implied(m, 3)
-        | implied(m, 4)
-        | implied(m, 5)
-        | implied(m, 6)
+    let mut set = 0;
+    for s in 0..7 {
+        set |= implied(m, s);
+    }
+    set
 }
 
 // Whether a state has an implied step.
@@ -61,23 +55,15 @@ pub fn has_implied(m: Model) -> bool {
 
 // The model with other marks.
 pub fn with_marks(m: Model, marks: u64) -> Model {
-    Model {
-        states: m.states,
-        start: m.start,
-        edges: m.edges,
-        marks: marks,
-        stays: m.stays,
-    }
+    Model { marks, ..m }
 }
 
 // The model that has the implied steps as edges.
 pub fn explicit(m: Model) -> Model {
     Model {
-        states: m.states,
-        start: m.start,
         edges: m.edges | all_implied(m),
-        marks: m.marks,
         stays: false,
+        ..m
     }
 }
 
@@ -93,11 +79,11 @@ fn small(states: usize, number: u64, stays: bool) -> Model
     let second = (edges >> side) & row;
     let third = (edges >> (2 * side)) & row;
     Model {
-        states: states,
+        states,
         start: (number % side) as usize,
         edges: (edges & row) ^ (second << 8) ^ (third << 16),
         marks: sets & row,
-        stays: stays,
+        stays,
     }
 }
 
@@ -169,11 +155,11 @@ fn random(states: usize, number: u64, stays: bool) -> Model
     let e = drawn(d);
     let f = drawn(e);
     Model {
-        states: states,
+        states,
         start: ((f >> 8) % (states as u64)) as usize,
         edges: thinned(a, b, c, states, number % 6) & all_edges(states),
         marks: marked(d >> 16, e >> 16, states, (number / 6) % 4) & below(states),
-        stays: stays,
+        stays,
     }
 }
 

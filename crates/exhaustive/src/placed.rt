@@ -6,14 +6,14 @@ use crate::files::write;
 use crate::models::{Model, drawn, numbered, with_marks};
 use harness::{put_byte, put16};
 
-// A model as calls see it that name a mark table of its file: the number of that table, whether the file has two, the
-// marks in the other one, and whether a bit of them was flipped.
+// A model as calls see it that name a mark table of its file: the number of that table, the marks in table 0 and, if the
+// file has two, in table 1, and whether a bit of those in the table that is not named was flipped.
 #[derive(Clone, Copy)]
 pub struct Placed {
     pub model: Model,
     pub named: u16,
-    pub two: bool,
-    pub other: u64,
+    pub first: u64,
+    pub second: Option<u64>,
     pub flipped: bool,
 }
 
@@ -22,8 +22,8 @@ fn in_one(m: Model) -> Placed {
     Placed {
         model: m,
         named: 0,
-        two: false,
-        other: 0,
+        first: m.marks,
+        second: None,
         flipped: false,
     }
 }
@@ -33,21 +33,26 @@ fn beside_one(m: Model) -> Placed {
     Placed {
         model: with_marks(m, 0),
         named: 1,
-        two: false,
-        other: m.marks,
-        flipped: false,
+        ..in_one(m)
     }
 }
 
 // A model whose marks are in one of two tables: the number says in which, by its lowest bit, and by the bits above what the
 // other one holds.
 fn in_two(m: Model, number: u64, flipped: bool) -> Placed {
+    let other = (number >> 1) & below(m.states);
+    let named = (number % 2) as u16;
+    let (first, second) = if named == 0 {
+        (m.marks, other)
+    } else {
+        (other, m.marks)
+    };
     Placed {
         model: m,
-        named: (number % 2) as u16,
-        two: true,
-        other: (number >> 1) & below(m.states),
-        flipped: flipped,
+        named,
+        first,
+        second: Some(second),
+        flipped,
     }
 }
 
@@ -58,15 +63,9 @@ pub fn turns(states: usize, number: u64) -> usize {
     match states {
         1 => 6,
         2 => 10,
-        _ => {
-            if 7 < states {
-                return 0;
-            }
-            if number / 2 % 91 == 1 {
-                return states + 2;
-            }
-            1
-        }
+        8.. => 0,
+        _ if number / 2 % 91 == 1 => states + 2,
+        _ => 1,
     }
 }
 
@@ -79,10 +78,7 @@ pub fn placed_at(states: usize, number: u64, turn: usize) -> Placed
     if states <= 2 && 2 <= turn {
         return in_two(m, (turn - 2) as u64, false);
     }
-    if states <= 2 && turn == 1 {
-        return beside_one(m);
-    }
-    if states < turn {
+    if states <= 2 && turn == 1 || states < turn {
         return beside_one(m);
     }
     if turn == 0 && (states <= 2 || number / 2 % 7 == 0) {
@@ -98,13 +94,10 @@ pub fn write_placed(file: &mut [u8], p: Placed, states: usize) -> usize
     requires { states ≤ 7 }
     ensures { result ≤ 170 }
 {
-    let own = p.model.marks;
-    let first = if p.named == 0 { own } else { p.other };
-    let length = write(file, with_marks(p.model, first), states);
-    if !p.two {
+    let length = write(file, with_marks(p.model, p.first), states);
+    let Some(second) = p.second else {
         return length;
-    }
-    let second = if p.named == 0 { p.other } else { own };
+    };
     put_byte(file, length, second as usize);
     put16(file, 20, length + 1);
     length + 1

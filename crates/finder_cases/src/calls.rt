@@ -2,11 +2,7 @@
 ghost use Rattle.std.specs.Prelude.{◌≤◌};
 
 use finder_trials::wrong_answer;
-use harness::{
-    NO_LENGTH, NONE, VARIED, entries, fill, first_of, kind_of, say, second_of, third_of, written,
-    wrong_work,
-};
-use table::put;
+use harness::{Filling, Tried, entries, fill, first, wrong_work};
 
 // What a case says in numbers: the least and the greatest size of the file that is lent, the mark table that step, search
 // and next name, the ceiling, the best length that a step starts from, the search's allowance, the entries of the answer
@@ -18,145 +14,104 @@ pub struct CaseNumbers {
     pub size: usize,
     pub mark_table: u16,
     pub ceiling: u16,
-    pub best: u64,
+    pub best: Option<u16>,
     pub allowance: u16,
     pub room: usize,
     pub entries: usize,
     pub shown: bool,
 }
 
-// The answers of the four calls.
-#[derive(Clone, Copy)]
-pub struct Answers {
-    pub step: u64,
-    pub search: u64,
-    pub next: u64,
-    pub distances: u64,
+// Prints a call with its answer, and at most eight of the entries that it wrote to its table.
+fn show(rt: &impl Print, call: &str, tried: Tried, table: &[u16]) {
+    let _ = print!(rt; "{call} {}", tried.answer);
+    entries(rt, first(table, tried.answer.written().min(8)));
 }
 
-// A best length in print.
-fn length_of(figure: u64) -> u64 {
-    if figure == NO_LENGTH {
-        return NONE;
-    }
-    figure
-}
-
-// At most eight.
-fn eight(count: usize) -> usize {
-    if count < 8 {
-        return count;
-    }
-    8
-}
-
-// Prints an answer, and at most eight of the entries that it wrote to its table.
-fn show(rt: &impl Print, code: u64, table: &[u16]) {
-    say(
-        rt,
-        b" step advanced # #| step finished # #| step refused #||, search found # # # list|, search none within #|, search stopped # #|, search refused #||, next found # # list|, next no more|, next refused #||, distances written # last # list|, distances refused #",
-        kind_of(code) as usize,
-        &[
-            first_of(code) as u64,
-            length_of(second_of(code)),
-            third_of(code),
-        ],
-    );
-    entries(rt, table, 0, eight(written(code)));
-}
-
-// Prints an answer if that is asked for.
-fn told(rt: &impl Print, code: u64, table: &[u16], shown: bool) -> u64 {
+// Prints a call with its answer if that is asked for.
+fn told(rt: &impl Print, call: &str, tried: Tried, table: &[u16], shown: bool) -> Tried {
     if shown {
-        show(rt, code, table);
+        show(rt, call, tried, table);
     }
-    code
+    tried
 }
 
 // A step from the record before the first round, with a best length.
-fn step(rt: &impl Print, file: &[u8], f: CaseNumbers) -> u64
+fn step(rt: &impl Print, file: &[u8], f: CaseNumbers) -> Tried
     requires { f.entries ≤ 24576 }
 {
     let mut work = [0u16; 24576];
-    let code = finder_trials::step(
-        file,
-        f.mark_table,
-        f.ceiling,
-        0,
-        f.best,
-        &mut work,
-        f.entries,
-    );
-    told(rt, code, &work, f.shown)
+    let lent = &mut work[..f.entries];
+    let tried = finder_trials::step(file, f.mark_table, f.ceiling, 0, f.best, lent);
+    told(rt, " step", tried, &work, f.shown)
 }
 
 // A search.
-fn search(rt: &impl Print, file: &[u8], f: CaseNumbers) -> u64
+fn search(rt: &impl Print, file: &[u8], f: CaseNumbers) -> Tried
     requires { (f.room ≤ 4097) × (f.entries ≤ 24576) }
 {
     let mut answer = [0u16; 4097];
     let mut work = [0u16; 24576];
-    let code = finder_trials::search(
+    let tried = finder_trials::search(
         file,
         f.mark_table,
         f.ceiling,
         f.allowance,
-        &mut answer,
-        f.room,
-        &mut work,
-        f.entries,
+        &mut answer[..f.room],
+        &mut work[..f.entries],
     );
-    told(rt, code, &answer, f.shown)
+    told(rt, ", search", tried, &answer, f.shown)
 }
 
 // A call of next.
-fn next(rt: &impl Print, file: &[u8], earlier: &[u16], f: CaseNumbers) -> u64
+fn next(rt: &impl Print, file: &[u8], earlier: &[u16], f: CaseNumbers) -> Tried
     requires { (f.room ≤ 4097) × (f.entries ≤ 24576) }
 {
     let mut answer = [0u16; 4097];
     let mut work = [0u16; 24576];
-    let code = finder_trials::next(
+    let tried = finder_trials::next(
         file,
         f.mark_table,
         earlier,
-        &mut answer,
-        f.room,
-        &mut work,
-        f.entries,
+        &mut answer[..f.room],
+        &mut work[..f.entries],
     );
-    told(rt, code, &answer, f.shown)
+    told(rt, ", next", tried, &answer, f.shown)
 }
 
 // The distances.
-fn distances(rt: &impl Print, file: &[u8], f: CaseNumbers) -> u64
+fn distances(rt: &impl Print, file: &[u8], f: CaseNumbers) -> Tried
     requires { (f.room ≤ 4097) × (f.entries ≤ 24576) }
 {
     let mut output = [0u16; 4097];
     let mut work = [0u16; 24576];
-    let code = finder_trials::distances(file, f.ceiling, &mut output, f.room, &mut work, f.entries);
-    told(rt, code, &output, f.shown)
+    let tried = finder_trials::distances(
+        file,
+        f.ceiling,
+        &mut output[..f.room],
+        &mut work[..f.entries],
+    );
+    told(rt, ", distances", tried, &output, f.shown)
 }
 
-// The four calls.
-pub fn try_all(rt: &impl Print, file: &[u8], earlier: &[u16], f: CaseNumbers) -> Answers
+// The four calls: the step, the search, next and the distances.
+pub fn try_all(rt: &impl Print, file: &[u8], earlier: &[u16], f: CaseNumbers) -> [Tried; 4]
     requires { (f.room ≤ 4097) × (f.entries ≤ 24576) }
 {
-    let first = step(rt, file, f);
-    let second = search(rt, file, f);
-    let third = next(rt, file, earlier, f);
-    Answers {
-        step: first,
-        search: second,
-        next: third,
-        distances: distances(rt, file, f),
-    }
+    [
+        step(rt, file, f),
+        search(rt, file, f),
+        next(rt, file, earlier, f),
+        distances(rt, file, f),
+    ]
 }
 
 // Looks at four tables that are spoilt on purpose and at one that is right; answers how many count as wrong.
-pub fn spoilt() -> u64 {
+pub fn spoilt() -> u8 {
     let mut table = [0u16; 8];
-    fill(&mut table, VARIED);
-    let work = wrong_work(&table, 13) + wrong_work(&table, 22);
-    put(&mut table, 5, 0);
-    work + wrong_work(&table, 12) + wrong_answer(&table, 5) + wrong_answer(&table, 6)
+    fill(&mut table, Filling::Varied);
+    let work = u8::from(wrong_work(&table, Some(13))) + u8::from(wrong_work(&table, Some(22)));
+    table[5] = 0;
+    work + u8::from(wrong_work(&table, Some(12)))
+        + u8::from(wrong_answer(&table, 5))
+        + u8::from(wrong_answer(&table, 6))
 }

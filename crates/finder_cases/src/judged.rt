@@ -1,20 +1,20 @@
 // How many tables were looked at after a call, and how many of them were not as they should be.
-use crate::calls::Answers;
-use harness::{sum, wrong_of};
+use harness::{Tried, sum};
 
-#[derive(Clone, Copy)]
+#[derive(Clone, Copy, Default)]
 pub struct Judged {
     pub looked: u64,
     pub wrong: u64,
 }
 
 // With the tables of four calls more: one for the step, two each for the search, for next and for the distances.
-pub fn and(so_far: Judged, answers: Answers) -> Judged {
-    let wrong = sum(so_far.wrong, wrong_of(answers.step));
-    let also = sum(wrong, wrong_of(answers.search));
-    let third = sum(also, wrong_of(answers.next));
+pub fn and(so_far: Judged, answers: &[Tried; 4]) -> Judged {
+    let mut wrong = so_far.wrong;
+    for tried in answers {
+        wrong = sum(wrong, u64::from(tried.wrong));
+    }
     Judged {
         looked: sum(so_far.looked, 7),
-        wrong: sum(third, wrong_of(answers.distances)),
+        wrong,
     }
 }

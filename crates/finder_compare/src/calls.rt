@@ -2,19 +2,31 @@
 ghost use Rattle.std.specs.Prelude.{◌≤◌};
 
 use crate::tables::{list_in, put_list};
-use exhaustive::Seen;
-use harness::written;
+use exhaustive::{Earlier, Seen};
+use harness::Tried;
+
+// A call with what it answered, and the list that it wrote to a table.
+fn seen(tried: Tried, table: &[u16]) -> Seen {
+    Seen {
+        tried,
+        list: list_in(table, tried.answer.written()),
+    }
+}
 
 // A step by the marks of a table, under a ceiling and from a record, with room for so many entries in the working table.
-pub fn step(file: &[u8], mark_table: u16, ceiling: u16, done: u16, best: u64, room: usize) -> Seen
+pub fn step(
+    file: &[u8],
+    mark_table: u16,
+    ceiling: u16,
+    done: u16,
+    best: Option<u16>,
+    room: usize,
+) -> Seen
     requires { room ≤ 48 }
 {
     let mut work = [0u16; 48];
-    let code = finder_trials::step(file, mark_table, ceiling, done, best, &mut work, room);
-    Seen {
-        code: code,
-        list: 0,
-    }
+    let tried = finder_trials::step(file, mark_table, ceiling, done, best, &mut work[..room]);
+    seen(tried, &[])
 }
 
 // A search by the marks of a table and under a ceiling, with room for so many entries in the answer table and in the
@@ -32,47 +44,36 @@ pub fn search(
 {
     let mut table = [0u16; 16];
     let mut work = [0u16; 48];
-    let code = finder_trials::search(
-        file, mark_table, ceiling, allowance, &mut table, space, &mut work, room,
+    let tried = finder_trials::search(
+        file,
+        mark_table,
+        ceiling,
+        allowance,
+        &mut table[..space],
+        &mut work[..room],
     );
-    Seen {
-        code: code,
-        list: list_in(&table, written(code)),
-    }
+    seen(tried, &table)
 }
 
-// Next with an earlier list in a table, and with room for so many entries in the other tables.
-fn next_with(file: &[u8], mark_table: u16, earlier: &[u16], space: usize, room: usize) -> Seen
+// Next by the marks of a table, with an earlier list, and with room for so many entries in the other tables.
+pub fn next(file: &[u8], mark_table: u16, e: Earlier, space: usize, room: usize) -> Seen
+    requires entries_bound { e.entries ≤ 16 }
     requires space_bound { space ≤ 16 }
     requires room_bound { room ≤ 48 }
 {
+    let mut lent = [0u16; 16];
     let mut table = [0u16; 16];
     let mut work = [0u16; 48];
-    let code = finder_trials::next(
-        file, mark_table, earlier, &mut table, space, &mut work, room,
+    let earlier = &mut lent[..e.entries];
+    put_list(earlier, e.list);
+    let tried = finder_trials::next(
+        file,
+        mark_table,
+        earlier,
+        &mut table[..space],
+        &mut work[..room],
     );
-    Seen {
-        code: code,
-        list: list_in(&table, written(code)),
-    }
-}
-
-// Next by the marks of a table, with an earlier list of so many entries, and with room for so many in the other tables.
-pub fn next(
-    file: &[u8],
-    mark_table: u16,
-    list: u64,
-    entries: usize,
-    space: usize,
-    room: usize,
-) -> Seen
-    requires entries_bound { entries ≤ 16 }
-    requires space_bound { space ≤ 16 }
-    requires room_bound { room ≤ 48 }
-{
-    let mut earlier = [0u16; 16];
-    put_list(&mut earlier, list, entries);
-    next_with(file, mark_table, &earlier[..entries], space, room)
+    seen(tried, &table)
 }
 
 // The distances up to a ceiling, with room for so many entries in the output and in the working table.
@@ -82,9 +83,6 @@ pub fn distances(file: &[u8], ceiling: u16, space: usize, room: usize) -> Seen
 {
     let mut output = [0u16; 16];
     let mut work = [0u16; 48];
-    let code = finder_trials::distances(file, ceiling, &mut output, space, &mut work, room);
-    Seen {
-        code: code,
-        list: list_in(&output, written(code)),
-    }
+    let tried = finder_trials::distances(file, ceiling, &mut output[..space], &mut work[..room]);
+    seen(tried, &output)
 }

@@ -13,15 +13,11 @@ mod tally;
 ghost use Rattle.std.specs.Prelude.{◌<◌, ◌≤◌};
 
 use exhaustive::{Model, Placed, Truth};
-use tally::{
-    CEILINGS, DIFFERENCES, FLIPPED, IMPLIED, LENGTHS, MODELS, SEVERAL, add, add_if, file_at,
-};
+use harness::{add, add_if};
+use tally::{Tally, add_at};
 
 // The lists that there is room for.
 const ROLL: usize = 64;
-
-// More turns than any model has.
-const TURNS: u64 = 16;
 
 // Steps and searches under a ceiling.
 fn compare_ceiling(
@@ -30,22 +26,20 @@ fn compare_ceiling(
     ceiling: u16,
     file: &[u8],
     mark_table: u16,
-    tally: &mut [u64],
+    tally: &mut Tally,
 ) {
     let mut roll = [0u64; ROLL];
-    let within = exhaustive::explore(m, ceiling as usize, &mut roll);
-    add(tally, CEILINGS, 1);
+    let within = exhaustive::explore(m, ceiling, &mut roll);
+    add(&mut tally.ceilings, 1);
     checks::check_steps(t, within, ceiling, file, mark_table, tally);
     checks::check_searches(t, within, &roll, ceiling, file, mark_table, tally);
 }
 
 // Steps and searches under every ceiling from 0 up to one more than the least length, and under 4,096.
-fn compare_ceilings(m: Model, t: Truth, file: &[u8], mark_table: u16, tally: &mut [u64]) {
-    let end = (t.least % 8) as u16 + 2;
-    let mut ceiling: u16 = 0;
-    while ceiling < end {
+fn compare_ceilings(m: Model, t: Truth, file: &[u8], mark_table: u16, tally: &mut Tally) {
+    let end = t.least.unwrap_or(0) % 8 + 2;
+    for ceiling in 0..end {
         compare_ceiling(m, t, ceiling, file, mark_table, tally);
-        ceiling += 1;
     }
     compare_ceiling(m, t, 4096, file, mark_table, tally);
 }
@@ -58,7 +52,7 @@ fn compare_file(
     roll: &[u64],
     file: &[u8],
     mark_table: u16,
-    tally: &mut [u64],
+    tally: &mut Tally,
 )
     requires { states ≤ 7 }
 {
@@ -71,20 +65,26 @@ fn compare_file(
 
 // Counts a model, if this is the first of its turns, and its file; and a difference if there was not room for all its
 // lists.
-fn counted(p: Placed, states: usize, first: bool, t: Truth, tally: &mut [u64])
+fn counted(p: Placed, states: usize, first: bool, t: Truth, tally: &mut Tally)
     requires { 0 < states }
 {
-    add_if(tally, MODELS + (states - 1), first);
-    add_if(tally, IMPLIED, first && exhaustive::has_implied(p.model));
-    add(tally, file_at(p.two, p.named), 1);
-    add_if(tally, FLIPPED, p.flipped);
-    add(tally, LENGTHS + t.least % 8, 1);
-    add_if(tally, SEVERAL, 1 < t.lists);
-    add_if(tally, DIFFERENCES, ROLL < t.lists);
+    let named = usize::from(p.named);
+    match p.second {
+        None => add_at(&mut tally.one_table, named),
+        Some(_) => add_at(&mut tally.two_tables, named),
+    }
+    if first {
+        add_at(&mut tally.models, states - 1);
+        add_if(&mut tally.implied, exhaustive::has_implied(p.model));
+    }
+    add_if(&mut tally.flipped, p.flipped);
+    add_at(&mut tally.lengths, usize::from(t.least.unwrap_or(0)));
+    add_if(&mut tally.several, 1 < t.lists);
+    add_if(&mut tally.differences, ROLL < t.lists);
 }
 
 // All comparisons on a model in its file.
-fn compare_placed(p: Placed, states: usize, first: bool, tally: &mut [u64])
+fn compare_placed(p: Placed, states: usize, first: bool, tally: &mut Tally)
     requires states_nonzero { 0 < states }
     requires states_bound { states ≤ 7 }
 {
@@ -97,43 +97,23 @@ fn compare_placed(p: Placed, states: usize, first: bool, tally: &mut [u64])
     compare_file(m, states, t, &roll, &file[..length], p.named, tally);
 }
 
-// All comparisons on the model with a number at a turn, if it has so many turns.
-fn compare_turn(states: usize, number: u64, turn: usize, tally: &mut [u64])
+// All comparisons on the models of so many states, in all their turns.
+fn compare_states(states: usize, tally: &mut Tally)
     requires states_nonzero { 0 < states }
     requires states_bound { states ≤ 7 }
 {
-    if exhaustive::turns(states, number) <= turn {
-        return;
-    }
-    let p = exhaustive::placed_at(states, number, turn);
-    compare_placed(p, states, turn == 0, tally);
-}
-
-// All comparisons on the models of so many states.
-fn compare_states(states: usize, tally: &mut [u64])
-    requires states_nonzero { 0 < states }
-    requires states_bound { states ≤ 7 }
-{
-    let end = TURNS * exhaustive::how_many(states);
-    let mut place = 0;
-    while place < end {
-        let turn = (place % TURNS) as usize;
-        compare_turn(states, place / TURNS, turn, tally);
-        place += 1;
-    }
-}
-
-// All comparisons.
-fn compare_all(tally: &mut [u64]) {
-    let mut states = 1;
-    while states < 8 {
-        compare_states(states, tally);
-        states += 1;
+    for number in 0..exhaustive::how_many(states) {
+        for turn in 0..exhaustive::turns(states, number) {
+            let p = exhaustive::placed_at(states, number, turn);
+            compare_placed(p, states, turn == 0, tally);
+        }
     }
 }
 
 fn main(rt: HostRuntime) {
-    let mut tally = [0u64; 48];
-    compare_all(&mut tally);
+    let mut tally = Tally::default();
+    for states in 1..8 {
+        compare_states(states, &mut tally);
+    }
     report::print(&rt, &tally);
 }

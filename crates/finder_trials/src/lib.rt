@@ -1,5 +1,5 @@
-// Step, search, next and distances on trial: the tables are filled before the call and looked at after it, and the
-// answer is one number, with its kind, its figures and how many tables do not hold what they must.
+// Step, search, next and distances on trial: the tables are filled before the call and looked at after it, and what comes
+// back is the answer and how many tables do not hold what they must.
 #![tactic(auto)]
 
 mod answer;

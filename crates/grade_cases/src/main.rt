@@ -2,12 +2,11 @@
 // many working tables are not as they should be.
 #![tactic(auto)]
 
-ghost use Rattle.std.specs.Prelude.{◌≤◌, length};
+ghost use Rattle.std.specs.Prelude.{◌≤◌};
 
-use case_text::{byte_at, find, line_after, line_at, make, make_entries, next_number};
-use grade_trials::Tried;
-use harness::{VARIED, fill, first, part, read_text, say, sum, text, wrong_work};
-use table::put;
+use case_text::{find, lines_of, make, make_entries, next_number};
+use grade_trials::{Tried, Verdict};
+use harness::{Filling, fill, first, read_text, sum, text, wrong_work};
 
 // What a case says in numbers: how many bytes of its file are lent, the claimed k, how many entries of the working table
 // are lent, and the mark table that is named.
@@ -20,7 +19,7 @@ struct CaseNumbers {
 }
 
 // How many working tables were looked at, and how many of them were not as they should be.
-#[derive(Clone, Copy)]
+#[derive(Clone, Copy, Default)]
 struct Judged {
     looked: u64,
     wrong: u64,
@@ -51,14 +50,8 @@ fn grade_list(rt: &impl Print, file: &[u8], list_text: &[u8], n: CaseNumbers) ->
     let mut list = [0u16; 70016];
     let mut work = [0u16; 24600];
     let entries = make_entries(rt, list_text, &mut bytes, &mut list);
-    grade_trials::grade(
-        file,
-        n.mark_table,
-        first(&list, entries),
-        n.k,
-        &mut work,
-        n.room,
-    )
+    let lent = &mut work[..n.room];
+    grade_trials::grade(file, n.mark_table, first(&list, entries), n.k, lent)
 }
 
 // The grade that a case asks for: the file is described by one text, the list by another.
@@ -67,89 +60,78 @@ fn grade(rt: &impl Print, file_text: &[u8], list_text: &[u8], n: CaseNumbers) ->
 {
     let mut file = [0u8; 25700];
     make(rt, file_text, &mut file);
-    grade_list(rt, part(&file, 0, n.size), list_text, n)
+    grade_list(rt, &file[..n.size], list_text, n)
 }
 
-// Which text an answer has: two for each thing that is said, without a place and with one.
-fn shape(said: usize, broken: bool) -> usize {
-    if broken {
-        return 2 * (said % 4) + 1;
+// The word for a verdict.
+fn word(verdict: Verdict) -> &'static str {
+    match verdict {
+        Verdict::False => "false",
+        Verdict::Accepting => "accepting",
+        Verdict::Shortest => "shortest",
     }
-    2 * (said % 4)
 }
 
 // Prints an answer.
 fn show(rt: &impl Print, tried: Tried) {
-    say(
-        rt,
-        b": refused #\n||: false, no place\n|: false, place #\n|: accepting, no place\n|: accepting, place #\n|: shortest, no place\n|: shortest, place #\n",
-        shape(tried.said, tried.broken),
-        &[(tried.refusal | tried.place) as u64],
-    );
+    let _ = match tried.answer {
+        Err(number) => print!(rt; ": refused {number}\n"),
+        Ok(graded) => {
+            let verdict = word(graded.verdict);
+            match graded.place {
+                None => print!(rt; ": {verdict}, no place\n"),
+                Some(place) => print!(rt; ": {verdict}, place {place}\n"),
+            }
+        }
+    };
 }
 
-// Runs a case whose name ends at a place; its file is described after a slash, its list after a bar.
-fn run_case(rt: &impl Print, line: &[u8], colon: usize, before: Judged) -> Judged
-    requires { colon ≤ length line.now }
-{
-    let slash = find(line, colon, b'/');
-    let bar = find(line, slash, b'|');
-    let tried = grade(
-        rt,
-        part(line, slash, bar),
-        part(line, bar, line.len()),
-        numbers_in(part(line, colon, slash)),
-    );
-    text(rt, part(line, 0, colon));
+// Runs a case: its numbers stand after a colon, its file is described after a slash, its list after a bar.
+fn run_case(rt: &impl Print, line: &[u8], before: Judged) -> Judged {
+    let (name, rest) = line.split_at(find(line, 0, b':'));
+    let (numbers, rest) = rest.split_at(find(rest, 0, b'/'));
+    let (file, list) = rest.split_at(find(rest, 0, b'|'));
+    let tried = grade(rt, file, list, numbers_in(numbers));
+    text(rt, name);
     show(rt, tried);
     Judged {
         looked: sum(before.looked, 1),
-        wrong: sum(before.wrong, tried.wrong),
+        wrong: sum(before.wrong, u64::from(tried.wrong)),
     }
 }
 
 // Runs a line. One that begins with `#` is printed as it stands.
 fn run_line(rt: &impl Print, line: &[u8], before: Judged) -> Judged {
-    if byte_at(line, 0) == b'#' {
+    if line.starts_with(b"#") {
         text(rt, line);
         text(rt, b"\n");
         return before;
     }
-    run_case(rt, line, find(line, 0, b':'), before)
-}
-
-// Runs all lines of a text.
-fn run(rt: &impl Print, script: &[u8]) -> Judged {
-    let mut so_far = Judged {
-        looked: 0,
-        wrong: 0,
-    };
-    let mut at = 0;
-    while at < script.len() {
-        so_far = run_line(rt, line_at(script, at), so_far);
-        at = line_after(script, at);
-    }
-    so_far
+    run_case(rt, line, before)
 }
 
 // Looks at a table that is right after 12 and spoilt after 22 and after a verdict, and at one that is spoilt after 12;
 // answers how many count as wrong.
-fn spoilt() -> u64 {
+fn spoilt() -> u8 {
     let mut table = [0u16; 8];
-    fill(&mut table, VARIED);
-    let looked = wrong_work(&table, 12) + wrong_work(&table, 22) + wrong_work(&table, 0);
-    put(&mut table, 5, 0);
-    looked + wrong_work(&table, 12)
+    fill(&mut table, Filling::Varied);
+    let looked = u8::from(wrong_work(&table, Some(12)))
+        + u8::from(wrong_work(&table, Some(22)))
+        + u8::from(wrong_work(&table, None));
+    table[5] = 0;
+    looked + u8::from(wrong_work(&table, Some(12)))
 }
 
 fn main(rt: HostRuntime) {
     let mut input = [0u8; 50000];
     let got = read_text(&mut rt.stdin(), &mut input);
-    let all = run(&rt, &input[..got]);
-    say(
-        &rt,
-        b"spoilt tables noticed #\nworking tables looked at #\nworking tables wrong #\n",
-        0,
-        &[spoilt(), all.looked, all.wrong],
+    let mut all = Judged::default();
+    for line in lines_of(&input[..got]) {
+        all = run_line(&rt, line, all);
+    }
+    let Judged { looked, wrong } = all;
+    let noticed = spoilt();
+    let _ = print!(rt;
+        "spoilt tables noticed {noticed}\nworking tables looked at {looked}\nworking tables wrong {wrong}\n"
     );
 }

@@ -12,13 +12,9 @@ mod turns;
 ghost use Rattle.std.specs.Prelude.{◌<◌, ◌≤◌};
 
 use exhaustive::{Model, Placed};
-use grade_trials::{SHORTEST, Tried};
-use harness::{brings_list, part};
-use tally::{Tally, with_brought, with_file, with_grade};
-use turns::{Turn, after, claim_of, first_turn};
-
-// More turns than any model has.
-const TURNS: u64 = 16;
+use grade_trials::{Graded, Tried, Verdict};
+use tally::{Tally, add_brought, add_file, add_grade};
+use turns::{Turn, after, claim_of};
 
 // A working table's length for so many states: as many entries as needed, or up to five more.
 fn room(states: usize, more: usize) -> usize
@@ -30,124 +26,90 @@ fn room(states: usize, more: usize) -> usize
     6 * states + more % 6
 }
 
-// Compares the grade of a turn's list, unless the turn only goes back.
-fn compare_turn(
-    rt: &impl Print,
-    m: Model,
-    least: usize,
-    file: &[u8],
-    mark_table: u16,
-    turn: Turn,
-    t: Tally,
-) -> Tally {
-    if turn.back {
-        return t;
-    }
-    let claim = claim_of(turn);
-    let seen = calls::grade(file, mark_table, claim, room(m.states, turn.which));
-    with_grade(
-        rt,
-        t,
-        m,
-        claim,
-        seen,
-        grade_independent::grade(m, least, claim),
-    )
-}
-
 // Compares the grades of all lists with every k, on a model whose steps are all edges. There are far more turns than
 // needed; should they not be enough, that is a difference.
 fn compare_lists(
     rt: &impl Print,
     m: Model,
-    least: usize,
+    least: Option<u16>,
     file: &[u8],
     mark_table: u16,
-    before: Tally,
-) -> Tally {
-    let mut t = before;
-    let mut turn = first_turn();
-    let mut turns: usize = 0;
-    while turns < 1000000 {
-        if turn.back && turn.entries == 0 {
-            return t;
+    t: &mut Tally,
+) {
+    let mut turn = turns::FIRST;
+    for _ in 0..1000000 {
+        match turn {
+            Turn::Back { entries: 0, .. } => return,
+            Turn::Back { .. } => {}
+            Turn::Graded {
+                list,
+                entries,
+                which,
+            } => {
+                let claim = claim_of(list, entries, which);
+                let seen = calls::grade(file, mark_table, claim, room(m.states, which));
+                let right = grade_independent::grade(m, least, claim);
+                add_grade(rt, t, m, claim, seen, right);
+            }
         }
-        t = compare_turn(rt, m, least, file, mark_table, turn, t);
         turn = after(turn, m.states);
-        turns += 1;
     }
-    with_brought(t, 0, false)
+    add_brought(t, 0, false);
 }
 
 // Whether a list that was brought is graded as it must be.
 fn is_shortest(seen: Tried) -> bool {
-    seen.said == SHORTEST && !seen.broken && seen.wrong == 0
+    !seen.wrong
+        && matches!(
+            seen.answer,
+            Ok(Graded {
+                verdict: Verdict::Shortest,
+                place: None,
+            })
+        )
 }
 
 // Grades every list that a search and next bring, of which there must be so many.
-fn compare_roll(states: usize, lists: usize, file: &[u8], mark_table: u16, before: Tally) -> Tally {
+fn compare_roll(states: usize, lists: usize, file: &[u8], mark_table: u16, t: &mut Tally) {
     let lent = room(states, 0);
     let mut table = [0u16; 8];
-    let mut code = calls::search(file, mark_table, &mut table, lent);
+    let mut answer = calls::search(file, mark_table, &mut table, lent);
     let mut right = true;
-    let mut got: usize = 0;
-    while got < 1000 {
-        if !brings_list(code) {
-            return with_brought(before, got, right && got == lists);
-        }
-        right = right && is_shortest(calls::grade_found(file, mark_table, code, &table, lent));
-        code = calls::next(file, mark_table, code, &mut table, lent);
-        got += 1;
+    for got in 0..1000 {
+        let Some((_, k)) = answer.list() else {
+            return add_brought(t, got, right && got == lists);
+        };
+        let seen = calls::grade_found(file, mark_table, answer, k, &table, lent);
+        right = right && is_shortest(seen);
+        answer = calls::next(file, mark_table, answer, &mut table, lent);
     }
-    with_brought(before, 0, false)
+    add_brought(t, 0, false);
 }
 
 // All comparisons on a model in its file.
-fn compare_placed(rt: &impl Print, p: Placed, states: usize, before: Tally) -> Tally
+fn compare_placed(rt: &impl Print, p: Placed, states: usize, t: &mut Tally)
     requires { states ≤ 7 }
 {
-    let m = p.model;
-    let mark_table = p.named;
-    let mut file = [0u8; 170];
+    let mut buffer = [0u8; 170];
     let mut roll = [0u64; 64];
-    let size = exhaustive::write_placed(&mut file, p, states);
-    let truth = exhaustive::explore(m, 4096, &mut roll);
-    let lent = part(&file, 0, size);
-    let t = compare_lists(
-        rt,
-        exhaustive::explicit(m),
-        truth.least,
-        lent,
-        mark_table,
-        with_file(before, p),
-    );
-    compare_roll(states, truth.lists, lent, mark_table, t)
-}
-
-// All comparisons on the model with a number, which has so many states, at a turn, if it has so many turns.
-fn compare_model(rt: &impl Print, states: usize, number: u64, turn: usize, before: Tally) -> Tally
-    requires { (0 < states) × (states ≤ 7) }
-{
-    if exhaustive::turns(states, number) <= turn {
-        return before;
-    }
-    compare_placed(
-        rt,
-        exhaustive::placed_at(states, number, turn),
-        states,
-        before,
-    )
+    let size = exhaustive::write_placed(&mut buffer, p, states);
+    let file = &buffer[..size];
+    let truth = exhaustive::explore(p.model, 4096, &mut roll);
+    let stepping = exhaustive::explicit(p.model);
+    add_file(t, p);
+    compare_lists(rt, stepping, truth.least, file, p.named, t);
+    compare_roll(states, truth.lists, file, p.named, t);
 }
 
 fn main(rt: HostRuntime) {
-    let mut t = tally::nothing();
-    let mut place = 0;
-    while place < TURNS * models::END {
-        let number = place / TURNS;
-        let turn = (place % TURNS) as usize;
-        let states = models::states_at(number);
-        t = compare_model(&rt, states, models::among_its_states(number), turn, t);
-        place += 1;
+    let mut t = Tally::default();
+    for place in 0..models::END {
+        let states = models::states_at(place);
+        let number = models::among_its_states(place);
+        for turn in 0..exhaustive::turns(states, number) {
+            let p = exhaustive::placed_at(states, number, turn);
+            compare_placed(&rt, p, states, &mut t);
+        }
     }
-    tally::print(&rt, t);
+    tally::print(&rt, &t);
 }

@@ -1,107 +1,83 @@
-// An answer as one number: its kind, three figures up to 65,536 in 17 bits each, and how many tables were found wrong.
-ghost use Rattle.std.specs.Prelude.{◌≤◌};
-// The kinds of answers.
-pub const STEP_ADVANCED: u64 = 0;
+// What a call of the finder answered, and how many of its tables were found wrong after it.
+use std::fmt;
 
-pub const STEP_FINISHED: u64 = 1;
-
-pub const STEP_REFUSED: u64 = 2;
-
-pub const SEARCH_FOUND: u64 = 4;
-
-pub const SEARCH_NONE_WITHIN: u64 = 5;
-
-pub const SEARCH_STOPPED: u64 = 6;
-
-pub const SEARCH_REFUSED: u64 = 7;
-
-pub const NEXT_FOUND: u64 = 9;
-
-pub const NEXT_NO_MORE: u64 = 10;
-
-pub const NEXT_REFUSED: u64 = 11;
-
-pub const DISTANCES_WRITTEN: u64 = 13;
-
-pub const DISTANCES_REFUSED: u64 = 14;
-
-// The figure of no best length: more than every length.
-pub const NO_LENGTH: u64 = 65536;
-
-// The number of an answer, with no table found wrong.
-pub fn code_of(kind: u64, first: u64, second: u64, third: u64) -> u64 {
-    (kind << 51) ^ (first << 34) ^ (second << 17) ^ third
+// An answer: of a step the rounds that are done and the best length; of a search the length, the k and the rounds of a
+// list, or the rounds after which there is none, or the record with which it stopped; of next the length and the k of a
+// list; of the distances how many were written and the last of them; of each the number of a refusal.
+#[derive(Clone, Copy, PartialEq, Eq)]
+pub enum Answer {
+    Advanced { done: u16, best: Option<u16> },
+    Finished { done: u16, best: Option<u16> },
+    Found { length: u16, k: u16, rounds: u16 },
+    NoneWithin { rounds: u16 },
+    Stopped { done: u16, best: Option<u16> },
+    NextFound { length: u16, k: u16 },
+    NoMore,
+    Written { entries: usize, last: u16 },
+    Refused(u16),
 }
 
-// The number of an answer with so many tables found wrong: the same if there are none.
-pub fn with_wrong(code: u64, wrong: u64) -> u64 {
-    code ^ (wrong << 60)
-}
-
-// The kind of an answer.
-pub fn kind_of(code: u64) -> u64
-    ensures { result ≤ 31 }
-{
-    (code >> 51) % 32
-}
-
-// The first figure of an answer.
-pub fn first_of(code: u64) -> usize
-    ensures { result ≤ 131071 }
-{
-    ((code >> 34) % 131072) as usize
-}
-
-// The second figure of an answer.
-pub fn second_of(code: u64) -> u64 {
-    (code >> 17) % 131072
-}
-
-// The third figure of an answer.
-pub fn third_of(code: u64) -> u64 {
-    code % 131072
-}
-
-// How many tables were found wrong.
-pub fn wrong_of(code: u64) -> u64
-    ensures { result ≤ 15 }
-{
-    (code >> 60) % 16
-}
-
-// The number of a refusal, 0 for an answer that is none.
-pub fn refusal_of(code: u64) -> usize
-    ensures { result ≤ 131071 }
-{
-    match kind_of(code) {
-        2 | 7 | 11 | 14 => first_of(code),
-        _ => 0,
-    }
-}
-
-// Whether an answer brings a list.
-pub fn brings_list(code: u64) -> bool {
-    let kind = kind_of(code);
-    kind == SEARCH_FOUND || kind == NEXT_FOUND
-}
-
-// The entries that were written: those of the list that an answer brings, or the distances; 0 for any other answer.
-pub fn written(code: u64) -> usize {
-    if brings_list(code) {
-        return first_of(code) + 1;
-    }
-    if kind_of(code) == DISTANCES_WRITTEN {
-        return first_of(code);
-    }
-    0
-}
-
-// A sum, up to a bound that no run comes near.
-pub fn sum(count: u64, more: u64) -> u64 {
-    if count < 1000000000 {
-        if more < 1000000000 {
-            return count + more;
+impl Answer {
+    // The number of a refusal.
+    pub fn refusal(self) -> Option<u16> {
+        match self {
+            Answer::Refused(number) => Some(number),
+            _ => None,
         }
     }
-    count
+
+    // The length and the k of the list that an answer brings.
+    pub fn list(self) -> Option<(u16, u16)> {
+        match self {
+            Answer::Found { length, k, .. } | Answer::NextFound { length, k } => Some((length, k)),
+            _ => None,
+        }
+    }
+
+    // The entries that were written: those of the list that an answer brings, or the distances; 0 for any other answer.
+    pub fn written(self) -> usize {
+        match self {
+            Answer::Found { length, .. } | Answer::NextFound { length, .. } => {
+                usize::from(length) + 1
+            }
+            Answer::Written { entries, .. } => entries,
+            _ => 0,
+        }
+    }
+}
+
+// A best length in print, `none` where there is none.
+#[derive(Clone, Copy)]
+struct Best(Option<u16>);
+
+impl fmt::Display for Best {
+    fn fmt<W: fmt::Write>(&self, f: &mut fmt::Formatter<W>) -> fmt::Result {
+        match self.0 {
+            Some(length) => write!(f, "{length}"),
+            None => write!(f, "none"),
+        }
+    }
+}
+
+impl fmt::Display for Answer {
+    fn fmt<W: fmt::Write>(&self, f: &mut fmt::Formatter<W>) -> fmt::Result {
+        match *self {
+            Answer::Advanced { done, best } => write!(f, "advanced {done} {}", Best(best)),
+            Answer::Finished { done, best } => write!(f, "finished {done} {}", Best(best)),
+            Answer::Found { length, k, rounds } => write!(f, "found {length} {k} {rounds} list"),
+            Answer::NoneWithin { rounds } => write!(f, "none within {rounds}"),
+            Answer::Stopped { done, best } => write!(f, "stopped {done} {}", Best(best)),
+            Answer::NextFound { length, k } => write!(f, "found {length} {k} list"),
+            Answer::NoMore => write!(f, "no more"),
+            Answer::Written { entries, last } => write!(f, "written {entries} last {last} list"),
+            Answer::Refused(number) => write!(f, "refused {number}"),
+        }
+    }
+}
+
+// An answer, and how many tables were found wrong after the call.
+#[derive(Clone, Copy, PartialEq, Eq)]
+pub struct Tried {
+    pub answer: Answer,
+    pub wrong: u8,
 }

@@ -10,8 +10,8 @@ pub fn part(words: &[u8], from: usize, to: usize) -> &[u8]
 
 // Writes the low byte of a number, where there is room.
 pub fn put_byte(file: &mut [u8], at: usize, value: usize) {
-    if at < file.len() {
-        file[at] = (value % 256) as u8;
+    if let Some(byte) = file.get_mut(at) {
+        *byte = (value % 256) as u8;
     }
 }
 

@@ -6,10 +6,8 @@
 
 mod report;
 
-use case_text::{
-    byte_at, end_behind, line_after, line_at, make, make_entries, next_number, within,
-};
-use harness::{first, part, read_text, text};
+use case_text::{byte_at, end_behind, lines_of, make, make_entries, next_number, within};
+use harness::{first, read_text, text};
 use report::show;
 
 // Plays the script of a line.
@@ -17,15 +15,15 @@ fn run_script(rt: &impl Print, line: &[u8]) {
     let mut file = [0u8; 100];
     let mut numbers = [0u8; 200];
     let mut script = [0u16; 64];
-    let sizes = end_behind(line, 0);
-    let end = end_behind(line, sizes);
+    let (_, rest) = line.split_at(end_behind(line, 0));
+    let (items, commands) = rest.split_at(end_behind(rest, 0));
     let room = next_number(line, 0);
     let entries = next_number(line, room.next);
-    let size = make(rt, part(line, sizes, end), &mut file);
-    let count = make_entries(rt, part(line, end, line.len()), &mut numbers, &mut script);
+    let size = make(rt, items, &mut file);
+    let count = make_entries(rt, commands, &mut numbers, &mut script);
     show(
         rt,
-        part(&file, 0, size),
+        &file[..size],
         first(&script, count),
         within(rt, room.value, 6),
         within(rt, entries.value, 64),
@@ -44,17 +42,10 @@ fn run_line(rt: &impl Print, line: &[u8]) {
     }
 }
 
-// Runs all lines of a text.
-fn run(rt: &impl Print, lines: &[u8]) {
-    let mut at = 0;
-    while at < lines.len() {
-        run_line(rt, line_at(lines, at));
-        at = line_after(lines, at);
-    }
-}
-
 fn main(rt: HostRuntime) {
     let mut input = [0u8; 10000];
     let got = read_text(&mut rt.stdin(), &mut input);
-    run(&rt, &input[..got]);
+    for line in lines_of(&input[..got]) {
+        run_line(&rt, line);
+    }
 }

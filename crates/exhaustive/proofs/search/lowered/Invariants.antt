@@ -1,9 +1,0 @@
--- `lowered`: the loop goes through eight states.
-use Rattle.std.proofs.Common.{◌-◌, ◌≤◌}
-use Rattle.exhaustive.proofs.search.lowered.Given as goal
-
-abbrev pub invariant-loop-r : goal.invariant-loop-r
-invariant-loop-r l = l.r ≤ 8
-
-abbrev pub decreases-loop-r : goal.decreases-loop-r
-decreases-loop-r l = 8 - l.r

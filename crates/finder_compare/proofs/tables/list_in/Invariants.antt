@@ -1,9 +1,0 @@
--- `list_in`: each entry that is read is in the table.
-use Rattle.std.proofs.Common.{length, ◌-◌, ◌≤◌}
-use Rattle.finder_compare.proofs.tables.list_in.Given as goal
-
-abbrev pub invariant-loop-i : goal.invariant-loop-i
-invariant-loop-i l = l.i ≤ length l.table
-
-abbrev pub decreases-loop-i : goal.decreases-loop-i
-decreases-loop-i l = length l.table - l.i

@@ -1,9 +1,0 @@
--- The loop of `entries` goes up to the last place.
-use Rattle.std.proofs.Common.{◌-◌, ◌≤◌}
-use Rattle.harness.proofs.print.entries.Given as goal
-
-abbrev pub invariant-loop-i : goal.invariant-loop-i
-invariant-loop-i g l = l.from ≤ l.i
-
-abbrev pub decreases-loop-i : goal.decreases-loop-i
-decreases-loop-i g l = l.to - l.i

@@ -1,9 +1,0 @@
--- The loop of `holds` goes up to the end of the table.
-use Rattle.std.proofs.Common.{length, ◌-◌, ◌≤◌}
-use Rattle.harness.proofs.tables.holds.Given as goal
-
-abbrev pub invariant-loop-i : goal.invariant-loop-i
-invariant-loop-i l = l.from ≤ l.i
-
-abbrev pub decreases-loop-i : goal.decreases-loop-i
-decreases-loop-i l = length l.table - l.i
