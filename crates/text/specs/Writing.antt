@@ -1,5 +1,6 @@
 -- What a writer does to a text.
 use Rattle.std.specs.Prelude.{ℕ, ◌+◌, ◌≤◌, ◌≡◌, List, ◌++◌, length, take, drop}
+use Rattle.text.specs.declared.Output.{Output}
 
 -- n counts bytes at the front of a text. The second part follows from the first: both are said so that a caller may take
 -- the part up to n without a proof.
@@ -11,3 +12,11 @@ pub record Wrote (t : List ℕ) (at : ℕ) (bytes t' : List ℕ) (next : ℕ) : 
   pub room : at + length bytes ≤ length t
   pub text : t' ≡ take at t ++ bytes ++ drop (at + length bytes) t
   pub place : next ≡ at + length bytes
+
+-- so many bytes have room from the next place on
+abbrev pub HasRoom : Output → ℕ → Type 0
+HasRoom o n = o.at + n ≤ length o.bytes.now
+
+-- the second output is the first with the bytes written
+abbrev pub Adds : Output → List ℕ → Output → Type 0
+Adds o bytes o' = Wrote o.bytes.now o.at bytes o'.bytes.now o'.at

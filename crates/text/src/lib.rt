@@ -1,48 +1,57 @@
-// Writers of bytes, words and numbers: each puts its bytes into the text from a place on, and answers the next place.
+// A text or file that is written from its front on, byte after byte: bytes, numbers in decimal, and lines with a number.
 #![tactic(auto)]
 
 ghost use Rattle.std.specs.Prelude.{[], ◌∷◌, ◌+◌, ◌≤◌, ◌<◌, length};
 ghost use Rattle.text.specs.Decimal.{decimal};
 ghost use Rattle.text.specs.Figure.{figure};
-ghost use Rattle.text.specs.Writing.{Wrote};
+ghost use Rattle.text.specs.Writing.{Adds, HasRoom};
 
-// Writes one byte.
-pub fn write_byte(text: &mut [u8], at: usize, byte: u8) -> usize
-    requires { at < length text.old }
-    ensures { Wrote text.old at (byte ∷ []) text.new result }
-{
-    text[at] = byte;
-    at + 1
+// The bytes that are written to, and the place of the next one.
+#[derive(Drop)]
+pub struct Output<'a> {
+    pub bytes: &'a mut [u8],
+    pub at: usize,
 }
 
-// Writes some bytes.
-pub fn write_bytes(text: &mut [u8], at: usize, bytes: &[u8]) -> usize
-    requires { at + length bytes.now ≤ length text.old }
-    ensures { Wrote text.old at bytes.now text.new result }
-{
-    let next = at + bytes.len();
-    text[at..next].copy_from_slice(bytes);
-    next
-}
-
-// Writes a number in decimal.
-pub fn write_number(text: &mut [u8], at: usize, n: usize) -> usize
-    requires { at + length (decimal n) ≤ length text.old }
-    ensures { Wrote text.old at (decimal n) text.new result }
-{
-    if n < 10 {
-        return write_byte(text, at, b'0' + n as u8);
+impl<'a> Output<'a> {
+    // Writes one byte.
+    pub fn write_byte(&mut self, byte: u8)
+        requires { HasRoom self.old 1 }
+        ensures { Adds self.old (byte ∷ []) self.new }
+    {
+        self.bytes[self.at] = byte;
+        self.at += 1;
     }
-    let next = write_number(text, at, n / 10);
-    write_byte(text, next, b'0' + (n % 10) as u8)
-}
 
-// Writes a line with a word and a number.
-pub fn write_figure(text: &mut [u8], at: usize, word: &[u8], n: usize) -> usize
-    requires { at + length (figure word.now n) ≤ length text.old }
-    ensures { Wrote text.old at (figure word.now n) text.new result }
-{
-    let after_word = write_bytes(text, at, word);
-    let after_number = write_number(text, after_word, n);
-    write_byte(text, after_number, b'\n')
+    // Writes some bytes.
+    pub fn write_bytes(&mut self, bytes: &[u8])
+        requires { HasRoom self.old (length bytes.now) }
+        ensures { Adds self.old bytes.now self.new }
+    {
+        let next = self.at + bytes.len();
+        self.bytes[self.at..next].copy_from_slice(bytes);
+        self.at = next;
+    }
+
+    // Writes a number in decimal.
+    pub fn write_number(&mut self, n: usize)
+        requires { HasRoom self.old (length (decimal n)) }
+        ensures { Adds self.old (decimal n) self.new }
+    {
+        if n < 10 {
+            return self.write_byte(b'0' + n as u8);
+        }
+        self.write_number(n / 10);
+        self.write_byte(b'0' + (n % 10) as u8)
+    }
+
+    // Writes a line with a word and a number.
+    pub fn write_figure(&mut self, word: &[u8], n: usize)
+        requires { HasRoom self.old (length (figure word.now n)) }
+        ensures { Adds self.old (figure word.now n) self.new }
+    {
+        self.write_bytes(word);
+        self.write_number(n);
+        self.write_byte(b'\n')
+    }
 }

@@ -1,5 +1,5 @@
 -- The measure is the number.
-use Rattle.text.proofs.+write_number.Given as goal
+use Rattle.text.proofs.Output.+write_number.Given as goal
 
 abbrev pub decreases-write_number : goal.decreases-write_number
 decreases-write_number l = l.n
