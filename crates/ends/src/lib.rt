@@ -8,7 +8,7 @@ ghost use Rattle.model.specs.Model.{graph_in};
 ghost use Rattle.lists.specs.Decides.{Decides};
 ghost use Rattle.ends.specs.Ends.{MarkedEnd, ClosingPut, MarkedPut};
 
-use looks::closes;
+use looks::leads_to_goal;
 use model::{Header, is_marked};
 use table::{get, put};
 
@@ -23,7 +23,7 @@ pub fn flag_closing(file: &[u8], h: Header, work: &mut [u16], level: usize, boun
 {
     let n = h.states;
     for s in 0..n {
-        let flag = closes(file, h, work, level, bound, s);
+        let flag = leads_to_goal(file, h, work, level, bound, s);
         put(work, 4 * n + s, usize::from(flag));
     }
 }

@@ -52,7 +52,14 @@ pub fn before_last(n: usize, work: &[u16], b: usize, mark: usize, place: usize, 
 }
 
 // State s has the level, and a step leads from it to a goal below the bound.
-pub fn closes(file: &[u8], h: Header, work: &[u16], level: usize, bound: usize, s: usize) -> bool
+pub fn leads_to_goal(
+    file: &[u8],
+    h: Header,
+    work: &[u16],
+    level: usize,
+    bound: usize,
+    s: usize,
+) -> bool
     requires valid { Valid file.now h }
     requires states_in_bounds { 6 * h.states ≤ length work.now }
     requires level_le_states { level ≤ h.states }

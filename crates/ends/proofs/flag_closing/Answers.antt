@@ -14,4 +14,4 @@ loop-s-preserved c =
     let ends = Closes g a.h.states a.h.start c.loop-s.work a.level a.bound c.loop-s.s in
     rw c.put.ensures (closing_more g a.h.states a.h.start a.level a.bound c.loop-s.s a.work.now c.loop-s.work c.from.result
     (valid_well_formed c.requires.valid) refl c.requires.bound_le_states (omega (arith, c.loop-s-test.true)) (omega (arith, c.requires.states_in_bounds)) c.loop-s.invariant
-    (subst (FlagFor ends) (sym c.from.ensures) (flag_for ends c.closes-flag.result c.closes-flag.ensures)))
+    (subst (FlagFor ends) (sym c.from.ensures) (flag_for ends c.leads_to_goal-flag.result c.leads_to_goal-flag.ensures)))

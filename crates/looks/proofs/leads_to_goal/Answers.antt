@@ -3,7 +3,7 @@ use Rattle.lists.proofs.Tests.{none_of_more}
 use Rattle.model.specs.Model.{graph_in}
 use Rattle.model.proofs.Laws.{row_edge, row_none, row_state}
 use Rattle.looks.specs.Looks.{GoalAt}
-use Rattle.looks.proofs.closes.Goals as goal
+use Rattle.looks.proofs.leads_to_goal.Goals as goal
 
 pub is_goal-requires-clause-y_lt_states : goal.is_goal-requires-clause-y_lt_states
 is_goal-requires-clause-y_lt_states c =
