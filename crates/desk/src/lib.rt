@@ -46,9 +46,7 @@ pub fn print_sheet<R: Read, W: Write>(from: &mut R, to: &mut W) -> bool
 {
     let mut input = [0u8; INPUT_ROOM];
     let reading = read_model(from, &mut input);
-    let count = reading.count;
-    let failed = reading.failed;
     let mut text = [0u8; TEXT_ROOM];
-    let written = desk_sheet(&input[..count], failed, &mut text);
+    let written = desk_sheet(&input[..reading.count], reading.failed, &mut text);
     to.write_all(&text[..written]).is_ok()
 }

@@ -1,20 +1,18 @@
 -- Laws of one call: its numbers in the log, the entries that it brings and the room that they have.
 use Prim.Native.Nat.{ℕ, suc, ◌+◌, ◌≤◌}
-use mathlib.Core.Path.{◌≡◌, refl, sym, ◌∙◌, ap, subst}
+use mathlib.Core.Path.{◌≡◌, refl, ◌∙◌, ap, subst}
 use mathlib.Core.Bool.{Bool, true, false}
 use mathlib.Core.List.Memᴰ
 use mathlib.Core.List.{List, [], ◌∷◌, ◌++◌, head?, Memᴰ}
 use mathlib.Core.Option.{Option, some, none}
 use native.Mathlib.Omega.{arith}
 use borrow.Author.Tests.{ltb-false}
-use lib.ListN.{length, get_or, take, drop, set}
-use lib.Seq.{sets-eq}
+use lib.ListN.{length, take, drop}
 use Rattle.gate.specs.declared.Ask.{Ask}
 use Rattle.lists.specs.Lists.{pick, some_if}
 use Rattle.lasso.specs.Graph.{Graph, edges}
 use Rattle.lasso.specs.Roll.{least_length, roll, roll_within}
 use Rattle.lasso.specs.Rounds.{Record, candidates, after_rounds}
-use Rattle.lasso.specs.declared.Transitions.{Transitions}
 use Rattle.lasso.specs.Following.{following}
 use Rattle.lasso.proofs.OrderLaws.{following_mem}
 use Rattle.lasso.proofs.RollLaws.{roll_empty, roll_lasso}
@@ -23,47 +21,12 @@ use Rattle.model.specs.Model.{graph_of}
 use Rattle.format.specs.Rules.{Reason, first_broken}
 use Rattle.outcomes.specs.Outcome.{answered, outcome}
 use Rattle.outcomes.specs.Tables.{too_long, no_room, list_reasons}
-use Rattle.search.specs.Search.{stopped, search_outcome_of, stopsb, first_of, searched, first_due, graph_asked, search_reasons, search_outcome}
-use Rattle.next.specs.Next.{next_outcome_of, not_shortest, followed, due_reasons, next_reasons, next_outcome}
-use Rattle.search.specs.declared.SearchAnswer.{SearchAnswer}
-use Rattle.search.specs.declared.SearchAnswer.TheVariants as SearchAnswers
-use Rattle.next.specs.declared.NextAnswer.{NextAnswer}
-use Rattle.next.specs.declared.NextAnswer.TheVariants as NextAnswers
+use Rattle.search.specs.Search.{stopped, stopsb, first_of, searched, first_due, graph_asked, search_reasons, search_outcome}
+use Rattle.next.specs.Next.{not_shortest, followed, due_reasons, next_reasons, next_outcome}
 use Rattle.gate.specs.Gate.{named_rules, high_ceiling, ceiling_reason}
 use Rattle.figures.specs.Kinds.{figures_in}
 use Rattle.sequence.specs.Calls.{Call, search, next, Answer, of_search, of_next, answer_lent, finder_at, found_length}
 use Rattle.script_call.specs.Log.{report_of, report_row, call_row, entries_of, Made}
-
--- the four numbers are stored one after another
-pub row_stored : (log figures : List ℕ) (place kind : ℕ) → length figures ≡ 3 → place + 4 ≤ length log
-    → set (set (set (set log place kind) (place + 1) (get_or figures 0 0)) (place + 2) (get_or figures 1 0)) (place + 3) (get_or figures 2 0)
-    ≡ take place log ++ (kind ∷ figures) ++ drop (place + 4) log
-row_stored log [] place kind e fits = absurd (omega arith)
-row_stored log (x ∷ []) place kind e fits = absurd (omega arith)
-row_stored log (x ∷ y ∷ []) place kind e fits = absurd (omega arith)
-row_stored log (x ∷ y ∷ z ∷ []) place kind e fits =
-    let one : place + 1 ≡ suc place = omega arith in
-    let two : place + 2 ≡ suc (suc place) = omega arith in
-    let three : place + 3 ≡ suc (suc (suc place)) = omega arith in
-    ap (λ (i : ℕ). set (set (set (set log place kind) i x) (place + 2) y) (place + 3) z) one
-    ∙ ap (λ (i : ℕ). set (set (set (set log place kind) (suc place) x) i y) (place + 3) z) two
-    ∙ ap (λ (i : ℕ). set (set (set (set log place kind) (suc place) x) (suc (suc place)) y) i z) three
-    ∙ sets-eq (kind ∷ x ∷ y ∷ z ∷ []) log place fits
-row_stored log (x ∷ y ∷ z ∷ u ∷ more) place kind e fits = absurd (omega arith)
-
--- the entries of a search's answer that is known
-pub search_entries_known : {answer : SearchAnswer} {l : Transitions} {k rounds n : ℕ} → answer ≡ SearchAnswers.Found l k rounds → n ≡ l.0 + 1
-    → n ≡ entries_of (found_length (of_search (search_outcome_of answer)))
-search_entries_known {l = l} e at_n =
-    let q : l.0 + 1 ≡ suc l.0 = omega arith in
-    at_n ∙ q ∙ ap (λ (x : SearchAnswer). entries_of (found_length (of_search (search_outcome_of x)))) (sym e)
-
--- the entries of a next's answer that is known
-pub next_entries_known : {answer : NextAnswer} {l : Transitions} {k n : ℕ} → answer ≡ NextAnswers.Found l k → n ≡ l.0 + 1
-    → n ≡ entries_of (found_length (of_next (next_outcome_of answer)))
-next_entries_known {l = l} e at_n =
-    let q : l.0 + 1 ≡ suc l.0 = omega arith in
-    at_n ∙ q ∙ ap (λ (x : NextAnswer). entries_of (found_length (of_next (next_outcome_of x)))) (sym e)
 
 -- so many entries have room in an answer table, and in a copy of 4,097 entries
 abbrev Fits : ℕ → ℕ → Type 0

@@ -9,7 +9,8 @@ ghost use Rattle.script_call.specs.Log.{entries_of, Made};
 
 use answers::{report_next, report_search};
 use gate::Ask;
-use next::{NextAnswer, next};
+use next::{Listed, next};
+use numbers::Reason;
 use search::{SearchAnswer, search};
 
 // Writes the four numbers of a call.
@@ -19,41 +20,27 @@ fn put_row(log: &mut [u16], place: usize, kind: u16, figures: &[u16])
     ensures { log.new ≡ take place log.old ++ (kind ∷ figures.now)
         ++ drop (place + 4) log.old }
 {
-    let first = figures[0];
-    let second = figures[1];
-    let third = figures[2];
     log[place] = kind;
-    log[place + 1] = first;
-    log[place + 2] = second;
-    log[place + 3] = third;
+    log[place + 1..place + 4].copy_from_slice(figures);
 }
 
 // The entries of the list that a search brings.
-fn search_entries(answer: SearchAnswer) -> usize
+fn search_entries(answer: Result<SearchAnswer, Reason>) -> usize
     ensures { result ≡ entries_of (found_length (of_search (search_outcome_of answer))) }
 {
     match answer {
-        SearchAnswer::Refused(_) => 0,
-        SearchAnswer::Stopped(_) => 0,
-        SearchAnswer::Found(l, _, _) => {
-            let entries = l.entries();
-            entries.0
-        }
-        SearchAnswer::NoneWithin(_) => 0,
+        Ok(SearchAnswer::Found(transitions, _, _)) => transitions.entries().0,
+        _ => 0,
     }
 }
 
 // The entries of the list that a next brings.
-fn next_entries(answer: NextAnswer) -> usize
+fn next_entries(answer: Result<Option<Listed>, Reason>) -> usize
     ensures { result ≡ entries_of (found_length (of_next (next_outcome_of answer))) }
 {
     match answer {
-        NextAnswer::Refused(_) => 0,
-        NextAnswer::Found(l, _) => {
-            let entries = l.entries();
-            entries.0
-        }
-        NextAnswer::NoMore => 0,
+        Ok(Some(list)) => list.length.entries().0,
+        _ => 0,
     }
 }
 

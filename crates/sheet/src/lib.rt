@@ -6,7 +6,6 @@ ghost use Rattle.text.specs.Writing.{Wrote};
 ghost use Rattle.sheet.specs.Sheet.{sheet_written, sheet_answered, sheet_worked};
 
 use gate::{enter, leave};
-use model::Checked;
 use numbers::limit;
 use sheet_head::write_refusal;
 use sheet_text::sheet_model;
@@ -28,10 +27,9 @@ pub fn sheet(input: &[u8], answer: &mut [u16], work: &mut [u16], text: &mut [u8]
     if text.len() < limit::SHEET_ROOM {
         return 0;
     }
-    let checked = enter(input, SHEET_TABLE, work);
-    match checked {
-        Checked::Refused(number) => write_refusal(text, number as usize),
-        Checked::Accept(h) => {
+    match enter(input, SHEET_TABLE, work) {
+        Err(reason) => write_refusal(text, u16::from(reason) as usize),
+        Ok(h) => {
             let written = sheet_model(input, h, answer, work, text);
             leave(work);
             written

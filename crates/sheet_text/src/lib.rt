@@ -13,10 +13,10 @@ ghost use Rattle.candidates.specs.Promises.{RoundsReady};
 ghost use Rattle.text.specs.Writing.{Wrote};
 ghost use Rattle.sheet_text.specs.SheetText.{sheet_text, sheet_answer};
 
-use begun::{AllRounds, all_rounds};
-use lasso::{Entries, Transitions};
+use begun::all_rounds;
+use lasso::Transitions;
 use model::Header;
-use numbers::reason;
+use numbers::Reason;
 use sheet_head::{write_head, write_refusal};
 use sheet_lists::write_lists;
 use text::{write_bytes, write_figure};
@@ -42,14 +42,11 @@ fn write_shortest(
         sheet_answer file.now answer.old (length work.old) }
     ensures kept { length work.new ≡ length work.old }
 {
-    let entries = transitions.entries();
-    let room = Entries(answer.len());
-    if room.0 < entries.0 {
-        return write_refusal(text, reason::NO_ROOM as usize);
+    if answer.len() < transitions.entries().0 {
+        return write_refusal(text, u16::from(Reason::NoRoom) as usize);
     }
     let at = write_head(text, h, rounds as usize);
-    let number = transitions.number();
-    let after_length = write_figure(text, at, b"shortest ", number);
+    let after_length = write_figure(text, at, b"shortest ", transitions.number());
     write_lists(file, h, transitions, answer, work, text, after_length)
 }
 
@@ -71,20 +68,12 @@ pub fn sheet_model(
         sheet_answer file.now answer.old (length work.old) }
     ensures kept { length work.new ≡ length work.old }
 {
-    let completed = all_rounds(file, h, work);
-    match completed {
-        AllRounds::None(rounds) => {
-            let at = write_head(text, h, rounds as usize);
+    let done = all_rounds(file, h, work);
+    match done.length {
+        None => {
+            let at = write_head(text, h, done.rounds as usize);
             write_bytes(text, at, b"none\n")
         }
-        AllRounds::Length(transitions, rounds) => write_shortest(
-            file,
-            h,
-            transitions,
-            rounds,
-            answer,
-            work,
-            text,
-        ),
+        Some(transitions) => write_shortest(file, h, transitions, done.rounds, answer, work, text),
     }
 }

@@ -5,7 +5,4 @@ use Rattle.desk.proofs.CutLaws.{cut_text}
 use Rattle.desk.proofs.desk_sheet.Goals as goal
 
 pub returns : goal.returns
-returns c =
-    let done = c in
-    let known = done in
-    wrote_as (cut_text known.input_bytes-enough.ensures.input (omega arith)) done.write_sheet.ensures
+returns c = wrote_as (cut_text c.input_bytes-enough.ensures.input (omega arith)) c.write_sheet.ensures

@@ -23,7 +23,6 @@ written_text f a w t p q room =
 
 pub returns : goal.returns
 returns c =
-    let done = c in
-    let s = done in
-    let a = s.args in
-    wrote_as (written_text a.input.now a.answer.now a.work.now a.text.now s.requires.answer_len s.requires.work_len s.requires.sheet_room_in_bounds) done.sheet.ensures.text
+    let a = c.args in
+    let r = c.requires in
+    wrote_as (written_text a.input.now a.answer.now a.work.now a.text.now r.answer_len r.work_len r.sheet_room_in_bounds) c.sheet.ensures.text
