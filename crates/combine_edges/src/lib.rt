@@ -4,13 +4,14 @@
 #![tactic(auto)]
 
 ghost use Rattle.std.specs.Prelude.{◌≡◌, ◌+◌, ◌*◌, ◌≤◌, ◌<◌, length};
-ghost use Rattle.text.specs.Writing.{Wrote};
+ghost use Rattle.text.specs.Writing.{Adds, HasRoom};
 ghost use Rattle.writer.specs.File.{words16};
 ghost use Rattle.combine_graph.specs.Combined.{combined, Combinable};
 
 use combine_row::write_row;
 use model::{Header, successors_of};
 use property::{count_holding, mask_part, target_part};
+use text::Output;
 
 // The number of edges from the combined state with number c.
 pub fn pair_degree(
@@ -35,20 +36,18 @@ pub fn pair_degree(
 
 // Writes the edges from the combined state with number c.
 pub fn write_edges(
-    out: &mut [u8],
-    at: usize,
+    out: &mut Output,
     rule: &[u8],
     h: Header,
     letters: &[u8],
     property: &[u8],
     k: Header,
     c: usize,
-) -> usize
+)
     requires combinable { Combinable rule.now letters.now property.now h k }
     requires c_bound { c < h.states * k.states }
-    requires c_in_bounds { at + 2 * length ((combined rule.now letters.now property.now).succs c) ≤ length out.old }
-    ensures { Wrote out.old at (words16 ((combined rule.now letters.now
-        property.now).succs c)) out.new result }
+    requires c_in_bounds { HasRoom out.old (2 * length ((combined rule.now letters.now property.now).succs c)) }
+    ensures { Adds out.old (words16 ((combined rule.now letters.now property.now).succs c)) out.new }
 {
     let size = k.states;
     let s = c / size;
@@ -57,5 +56,5 @@ pub fn write_edges(
     let successors = successors_of(rule, h, s);
     let targets = target_part(property, k, q);
     let masks = mask_part(property, k, q);
-    write_row(out, at, &successors, targets, masks, letter, size)
+    write_row(out, &successors, targets, masks, letter, size)
 }

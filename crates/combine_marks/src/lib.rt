@@ -5,14 +5,14 @@ ghost use Rattle.std.specs.Prelude.{◌≡◌, map, ◌+◌, ◌*◌, ◌≤◌,
 ghost use Rattle.numbers.specs.Limits.{most_states};
 ghost use Rattle.lists.specs.Lists.{below};
 ghost use Rattle.format.specs.Layout.{mark_bytes};
-ghost use Rattle.text.specs.Writing.{Wrote};
+ghost use Rattle.text.specs.Writing.{Adds, HasRoom};
 ghost use Rattle.property.specs.Property.{ValidProperty};
 ghost use Rattle.combine_graph.specs.Combined.{pair_mark, pair_mark_byte};
 
 use format::mark_bytes;
 use model::Header;
 use property::property_marked;
-use text::write_byte;
+use text::Output;
 
 // The combined state with number c is marked, where there are `states`.
 fn pair_mark(property: &[u8], k: Header, states: usize, c: usize) -> bool
@@ -38,17 +38,14 @@ fn mark_byte(property: &[u8], k: Header, states: usize, b: usize) -> usize
 }
 
 // Writes the marks.
-pub fn write_marks(out: &mut [u8], at: usize, property: &[u8], k: Header, states: usize) -> usize
+pub fn write_marks(out: &mut Output, property: &[u8], k: Header, states: usize)
     requires valid_property { ValidProperty property.now k }
-    requires states_le_most_states { (states ≤ most_states) × (at + mark_bytes states ≤ length out.old) }
-    ensures { Wrote out.old at
-        (map (pair_mark_byte property.now states) (below (mark_bytes states))) out.new result }
+    requires states_le_most_states { (states ≤ most_states) × HasRoom out.old (mark_bytes states) }
+    ensures { Adds out.old (map (pair_mark_byte property.now states) (below (mark_bytes states))) out.new }
 {
     let count = mark_bytes(states);
-    let mut next = at;
     for b in 0..count {
         let byte = mark_byte(property, k, states, b);
-        next = write_byte(out, next, byte as u8);
+        out.write_byte(byte as u8);
     }
-    next
 }

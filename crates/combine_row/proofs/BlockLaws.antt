@@ -82,7 +82,7 @@ module _ (letter base : ℕ) (ms ts : List ℕ) where
 
   -- where all chosen targets have room, the next has room if its mask holds the letter
   pub held_room : {t t' : List ℕ} {at next : ℕ} (k : ℕ) → k < length ms → k < length ts → bitb (get_or ms k 0) letter ≡ true
-      → at + 2 * length (chosen letter ms ts) ≤ length t → Wrote t at (block_bytes k) t' next → next + 1 < length t'
+      → at + 2 * length (chosen letter ms ts) ≤ length t → Wrote t at (block_bytes k) t' next → next + 2 ≤ length t'
   held_room k lm lt e room w =
       let x : ℕ = base + get_or ts k 0 in
       omega (

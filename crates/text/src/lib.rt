@@ -1,7 +1,7 @@
 // A text or file that is written from its front on, byte after byte: bytes, numbers in decimal, and lines with a number.
 #![tactic(auto)]
 
-ghost use Rattle.std.specs.Prelude.{[], ◌∷◌, ◌+◌, ◌≤◌, ◌<◌, length};
+ghost use Rattle.std.specs.Prelude.{◌≡◌, [], ◌∷◌, ◌+◌, ◌≤◌, ◌<◌, length};
 ghost use Rattle.text.specs.Decimal.{decimal};
 ghost use Rattle.text.specs.Figure.{figure};
 ghost use Rattle.text.specs.Writing.{Adds, HasRoom};
@@ -14,6 +14,13 @@ pub struct Output<'a> {
 }
 
 impl<'a> Output<'a> {
+    // All the bytes, to be read.
+    pub fn bytes(&self) -> &[u8]
+        ensures { result.now ≡ self.now.bytes.now }
+    {
+        &*self.bytes
+    }
+
     // Writes one byte.
     pub fn write_byte(&mut self, byte: u8)
         requires { HasRoom self.old 1 }

@@ -8,10 +8,10 @@ use Rattle.combine_graph.specs.Combined.{pair_mark_byte}
 use Rattle.combine_marks.proofs.write_marks.Goals as goal
 
 pub loop-b-init : goal.loop-b-init
-loop-b-init c = wrote_none c.args.out.now c.args.at (omega (arith, c.requires.states_le_most_states.1))
+loop-b-init c = wrote_none c.args.out.now.bytes.now c.args.out.now.at (omega (arith, c.requires.states_le_most_states.1))
 
-pub write_byte-next-requires : goal.write_byte-next-requires
-write_byte-next-requires c =
+pub write_byte-requires : goal.write_byte-requires
+write_byte-requires c =
     let w = c.loop-b.invariant in
     let bytes = map-below-length (pair_mark_byte c.args.property.now c.args.states) c.loop-b.b in
     omega (arith, w.place, wrote_length w, bytes, c.mark_bytes-count.ensures, c.requires.states_le_most_states.1)
@@ -20,4 +20,4 @@ pub loop-b-preserved : goal.loop-b-preserved
 loop-b-preserved c =
     let bytes = map-below_next (pair_mark_byte c.args.property.now c.args.states) c.loop-b.b in
     wrote_as (sym bytes)
-    (wrote_then c.loop-b.invariant (wrote_as (ap (λ (x : ℕ). x ∷ []) c.mark_byte-byte.ensures.0) c.write_byte-next.ensures))
+    (wrote_then c.loop-b.invariant (wrote_as (ap (λ (x : ℕ). x ∷ []) c.mark_byte-byte.ensures.0) c.write_byte.ensures))

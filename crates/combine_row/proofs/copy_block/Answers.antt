@@ -1,8 +1,8 @@
 use Prim.Native.Nat.{◌+◌, ◌*◌, ◌-◌, ◌≤◌, ◌<◌}
 use mathlib.Core.Path.{◌≡◌, ap, ◌∙◌}
 use native.Mathlib.Omega.{arith}
-use lib.ListN.{length}
 use Rattle.format.specs.Bytes.{word}
+use Rattle.text.specs.Writing.{HasRoom}
 use Rattle.text.proofs.WroteLaws.{wrote_length}
 use Rattle.combine_row.proofs.CopyLaws.{word_before, copied_bytes, wrote_copied}
 use Rattle.combine_row.proofs.copy_block.Goals as goal
@@ -12,28 +12,28 @@ use Rattle.combine_row.proofs.copy_block.Goals.{After-word-entry, In-loop-j}
 entry : (c : After-word-entry) →
     let at_loop = c in
     let a = at_loop.args in
-    let x = word a.out.now (a.from + 2 * at_loop.loop-j.j) in
+    let x = word a.out.now.bytes.now (a.from + 2 * at_loop.loop-j.j) in
     (c.word-entry.result ≡ x) × (a.base ≤ x) × (a.other + (x - a.base) < 65536)
 entry c =
     let at_loop = c in
     let start = at_loop in
     let i = start.args.from + 2 * at_loop.loop-j.j in
     let fits = start.requires.block_fits at_loop.loop-j.j (omega arith) in
-    (c.word-entry.ensures.0 ∙ word_before i (omega arith) at_loop.loop-j.invariant.1, fits.0, fits.1)
+    (c.word-entry.ensures.0 ∙ ap (λ t. word t i) c.bytes.ensures ∙ word_before i (omega arith) at_loop.loop-j.invariant, fits.0, fits.1)
 
 -- where all numbers have room, the next one has
 room : (c : In-loop-j) →
-    c.loop-j.next + 1 < length c.loop-j.out
+    HasRoom c.loop-j.out 2
 room c =
     let a = c.args in
-    let w = c.loop-j.invariant.1 in
-    omega (arith, w.place, wrote_length w, copied_bytes a.out.now a.from a.base a.other c.loop-j.j)
+    let w = c.loop-j.invariant in
+    omega (arith, w.place, wrote_length w, copied_bytes a.out.now.bytes.now a.from a.base a.other c.loop-j.j)
 
-pub write_word-next-requires : goal.write_word-next-requires
-write_word-next-requires c =
+pub write_word-requires : goal.write_word-requires
+write_word-requires c =
     record {
-      at_in_bounds = room (goal.at.write_word-next-requires c).In-loop-j;
-      x_bound = omega (arith, entry (goal.at.write_word-next-requires c).After-word-entry);
+      at_in_bounds = room (goal.at.write_word-requires c).In-loop-j;
+      x_bound = omega (arith, entry (goal.at.write_word-requires c).After-word-entry);
     }
 
 pub loop-j-preserved : goal.loop-j-preserved
@@ -44,4 +44,4 @@ loop-j-preserved c =
     let a = at_loop.args in
     let x = a.other + (read.word-entry.result - a.base) in
     let e = ap (λ t. a.other + (t - a.base)) (entry read).0 in
-    (omega arith, wrote_copied a.out.now a.from a.base a.other at_loop.loop-j.j x e at_loop.loop-j.invariant.1 done.write_word-next.ensures)
+    wrote_copied a.out.now.bytes.now a.from a.base a.other at_loop.loop-j.j x e at_loop.loop-j.invariant done.write_word.ensures

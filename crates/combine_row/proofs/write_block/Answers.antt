@@ -53,15 +53,15 @@ word-requires c = omega (arith, words-length c.args.masks.now, (within c).0)
 pub overflow_add-base : goal.overflow_add-base
 overflow_add-base c = omega (arith, number (goal.at.overflow_add-base c).After-mask_holds c.word-then-mask_holds.result c.word-then-mask_holds.ensures.0)
 
-pub write_word-next-requires : goal.write_word-next-requires
-write_word-next-requires c =
+pub write_word-requires : goal.write_word-requires
+write_word-requires c =
     let at_loop = c in
     let start = at_loop in
     let a = start.args in
-    let inside = within (goal.at.write_word-next-requires c).In-loop-k in
-    let held = turn (goal.at.write_word-next-requires c).After-mask_holds ∙ c.if-mask_holds.true in record {
-      at_in_bounds = held_room a.letter a.base (words a.masks.now) (words a.targets.now) at_loop.loop-k.k inside.0 inside.1 held start.requires.targets_in_bounds at_loop.loop-k.invariant.1;
-      x_bound = omega (arith, number (goal.at.write_word-next-requires c).After-mask_holds c.word-then-mask_holds.result c.word-then-mask_holds.ensures.0);
+    let inside = within (goal.at.write_word-requires c).In-loop-k in
+    let held = turn (goal.at.write_word-requires c).After-mask_holds ∙ c.if-mask_holds.true in record {
+      at_in_bounds = held_room a.letter a.base (words a.masks.now) (words a.targets.now) at_loop.loop-k.k inside.0 inside.1 held start.requires.targets_in_bounds at_loop.loop-k.invariant;
+      x_bound = omega (arith, number (goal.at.write_word-requires c).After-mask_holds c.word-then-mask_holds.result c.word-then-mask_holds.ensures.0);
     }
 
 pub loop-k-preserved : goal.loop-k-preserved
@@ -72,17 +72,17 @@ loop-k-preserved c =
     let ts = words a.targets.now in
     let k = at_loop.loop-k.k in
     let inside = within (goal.at.loop-k-preserved c).In-loop-k in
-    let so_far = at_loop.loop-k.invariant.1 in
+    let so_far = at_loop.loop-k.invariant in
     let at = (goal.at.loop-k-preserved c).After-mask_holds in
     elim c.if-mask_holds.branch [
       | then-mask_holds w ↦
           let x = a.base + w.word-then-mask_holds.result in
           let e = ap (λ t. a.base + t) (number at w.word-then-mask_holds.result w.word-then-mask_holds.ensures.0).0 in
-          let written = wrote_held a.letter a.base ms ts k x inside.0 inside.1 (turn at ∙ w.if-mask_holds.true) e so_far w.write_word-next.ensures in
-          (omega arith, rw (w.out-is, w.next-is) written)
+          let written = wrote_held a.letter a.base ms ts k x inside.0 inside.1 (turn at ∙ w.if-mask_holds.true) e so_far w.write_word.ensures in
+          rw w.out-is written
       | else-mask_holds w ↦
           let passed = wrote_passed a.letter a.base ms ts k inside.0 inside.1 (turn at ∙ w.if-mask_holds.false) so_far in
-          (omega arith, rw (w.out-is, w.next-is) passed)
+          rw w.out-is passed
     ]
 
 pub returns : goal.returns
@@ -91,4 +91,4 @@ returns c =
     let a = start.args in
     let ms = words a.masks.now in
     let ts = words a.targets.now in
-    wrote_block a.letter a.base ms ts c.loop-k.k (omega (arith, words-length a.targets.now, start.requires.masks_len, c.loop-k-test.false)) (omega (arith, words-length a.targets.now, c.loop-k-test.false)) c.loop-k.invariant.1
+    wrote_block a.letter a.base ms ts c.loop-k.k (omega (arith, words-length a.targets.now, start.requires.masks_len, c.loop-k-test.false)) (omega (arith, words-length a.targets.now, c.loop-k-test.false)) c.loop-k.invariant

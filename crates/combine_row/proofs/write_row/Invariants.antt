@@ -14,4 +14,5 @@ invariant-loop-k l =
     let ss : List ℕ = l.successors in
     let qs = chosen l.letter (words l.masks) (words l.targets) in
     (1 ≤ l.k)
-    × ((w₀ : List ℕ) → Wrote w₀ l.at (words16 (row_of l.size (take 1 ss) qs)) l.initial.out l.initial.next → Wrote w₀ l.at (words16 (row_of l.size (take l.k ss) qs)) l.out l.next)
+    × ((w₀ : List ℕ) → Wrote w₀ l.from (words16 (row_of l.size (take 1 ss) qs)) l.initial.out.bytes.now l.initial.out.at
+    → Wrote w₀ l.from (words16 (row_of l.size (take l.k ss) qs)) l.out.bytes.now l.out.at)
