@@ -39,8 +39,10 @@ pub fn plan(work: &mut [u16], n: usize, limit: usize)
     for s in 0..n {
         let start = get(work, 2 * n + s);
         put(work, 2 * n + s, 0);
-        if 1 <= start && start <= limit {
-            list_source(work, n, start - 1, s);
+        // An entry 0 wraps to the greatest number, so that one comparison tells the sources.
+        let level = start.wrapping_sub(1);
+        if level < limit {
+            list_source(work, n, level, s);
         }
     }
 }
