@@ -11,7 +11,8 @@ use combine::combine;
 use figures::{Kind, report_figures, too_few};
 use numbers::Reason;
 
-// Reports the answer of a combination: its number of bytes is the one figure.
+// Reports the answer of a combination: its number of bytes is the one figure. A distance call counts in another size, with no
+// bound to prove: one function for both would be longer than the line that they share.
 fn report_combine(answer: Result<usize, Reason>, out: &mut [u16]) -> u16
     requires in_bounds { 4 ≤ length out.old }
     requires figure_fits { FigureFits answer }

@@ -18,7 +18,8 @@ use numbers::{Reason, limit};
 // The mark table of a call that names none. Distances do not depend on marks.
 const TABLE_NOT_NAMED: u16 = 0;
 
-// The entry of a state, from what the working table holds for it: one more than its distance, or 0 if it has none.
+// The entry of a state, from what the working table holds for it: one more than its distance, or 0 if it has none. Both
+// tables are lent by C with one number for each state, so 0 and 65,535 stand for none in them.
 fn entry_for(stored: u16, ceiling: Transitions) -> u16
     ensures { result ≡ entry_for (under (suc ceiling.0) (value_of stored)) }
 {
