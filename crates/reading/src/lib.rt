@@ -63,7 +63,7 @@ fn read_once<R: Read>(from: &mut R, buffer: &mut [u8]) -> Reading
     Reading { count, failed }
 }
 
-// Reads until the buffer is full, the input ends or a read fails.
+// Reads until the buffer is full, the input ends or a read fails. No `for`: a turn goes on by as many bytes as were read.
 fn read_input<R: Read>(from: &mut R, buffer: &mut [u8]) -> Reading
     ensures within { Within result.count buffer.new }
     ensures read { InputRead (length buffer.new) (R.remaining from.old) (R.remaining from.new)

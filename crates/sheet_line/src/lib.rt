@@ -8,7 +8,8 @@ ghost use Rattle.sheet_line.specs.Line.{space_after, space_before, stem_loop};
 use lasso::Transitions;
 use text::{write_byte, write_number};
 
-// Writes each state followed by a space.
+// Writes each state followed by a space. It is no twin of `write_loop`: a closure for the step would have to tell in its
+// contract what it writes, and be longer than both loops.
 fn write_stem(text: &mut [u8], at: usize, states: &[u16]) -> usize
     requires { at + length (space_after states.now) ≤ length text.old }
     ensures { Wrote text.old at (space_after states.now) text.new result }
