@@ -177,6 +177,7 @@ pub fn make(rt: &impl Print, words: &[u8], file: &mut [u8]) -> usize
 {
     let mut size = 0;
     let mut p = skip(words, 0);
+    // A `while`: each turn goes on by as much as an item takes.
     while p < words.len() {
         let i = item_at(rt, words, p);
         if i.next <= p {

@@ -3,8 +3,6 @@
 
 ghost use Rattle.std.specs.Prelude.{◌≤◌, length};
 
-use combine::CombineAnswer;
-
 // What a combination answered: how many bytes were written, or the number of the refusal. Then whether a byte was changed
 // that is none of those written.
 #[derive(Clone, Copy)]
@@ -30,20 +28,12 @@ pub fn changed(out: &[u8], from: usize) -> bool {
     (from..out.len()).any(|at| out[at] != filling(at))
 }
 
-// What a combination answered.
-fn answer_of(given: CombineAnswer) -> Result<usize, u16> {
-    match given {
-        CombineAnswer::Refused(n) => Err(n),
-        CombineAnswer::Written(n) => Ok(n),
-    }
-}
-
 // A combination that is lent so many bytes of an output; the bytes after them are looked at too.
 pub fn combine(rule: &[u8], letters: &[u8], property: &[u8], out: &mut [u8], space: usize) -> Tried
     requires { space ≤ length out.old }
 {
     fill(out);
-    let answer = answer_of(combine::combine(rule, letters, property, &mut out[..space]));
+    let answer = combine::combine(rule, letters, property, &mut out[..space]).map_err(u16::from);
     Tried {
         answer,
         wrong: changed(out, answer.unwrap_or(0)),

@@ -1,5 +1,6 @@
 // Sets of small numbers and lists of small numbers, each held in one number. A list has one hexadecimal digit for each
-// entry, the last entry lowest, so lists of equal length compare as their numbers do.
+// entry, the last entry lowest, so lists of equal length compare as their numbers do. Numbers, not tables: what is compared
+// with the library keeps its data in another form than the library does.
 ghost use Rattle.std.specs.Prelude.{◌≤◌, ◌<◌};
 
 // The set that holds one number below 64.

@@ -62,6 +62,7 @@ fn change(file: &mut File, at: usize, value: usize) {
 // Makes the changes that a part of a line lists: pairs of a place and the 16-bit number to stand there.
 fn put_changes(pairs: &[u8], file: &mut File) {
     let mut p = skip(pairs, 0);
+    // A `while`: each turn goes on by as much as a pair takes.
     while p < pairs.len() {
         let at = digits(pairs, p);
         let value = next_number(pairs, at.next);

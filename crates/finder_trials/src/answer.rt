@@ -1,41 +1,25 @@
 // The answers of the finder, in figures.
-use distances::DistancesAnswer;
 use harness::{Answer, entry};
-use lasso::{Best, RoundRecord, Transitions};
-use next::NextAnswer;
+use lasso::{RoundRecord, Transitions};
+use next::Listed;
+use numbers::Reason;
 use search::SearchAnswer;
 use step::StepAnswer;
 
 // A best length in figures.
-fn figure(best: Best) -> Option<u16> {
-    match best {
-        Best::None => None,
-        Best::Length(l) => Some(l.0),
-    }
-}
-
-// The best length with a figure.
-fn best_of(length: Option<u16>) -> Best {
-    length.map_or(Best::None, |l| Best::Length(Transitions(l)))
-}
-
-// The record with so many rounds done and a best length.
-pub fn record(done: u16, best: Option<u16>) -> RoundRecord {
-    RoundRecord {
-        done,
-        best: best_of(best),
-    }
+fn figure(best: Option<Transitions>) -> Option<u16> {
+    best.map(|length| length.0)
 }
 
 // What a step answered.
-pub fn of_step(given: StepAnswer) -> Answer {
+pub fn of_step(given: Result<StepAnswer, Reason>) -> Answer {
     match given {
-        StepAnswer::Refused(n) => Answer::Refused(n),
-        StepAnswer::Finished(RoundRecord { done, best }) => Answer::Finished {
+        Err(reason) => Answer::Refused(reason.into()),
+        Ok(StepAnswer::Finished(RoundRecord { done, best })) => Answer::Finished {
             done,
             best: figure(best),
         },
-        StepAnswer::Advanced(RoundRecord { done, best }) => Answer::Advanced {
+        Ok(StepAnswer::Advanced(RoundRecord { done, best })) => Answer::Advanced {
             done,
             best: figure(best),
         },
@@ -43,32 +27,37 @@ pub fn of_step(given: StepAnswer) -> Answer {
 }
 
 // What a search answered.
-pub fn of_search(given: SearchAnswer) -> Answer {
+pub fn of_search(given: Result<SearchAnswer, Reason>) -> Answer {
     match given {
-        SearchAnswer::Refused(n) => Answer::Refused(n),
-        SearchAnswer::Stopped(RoundRecord { done, best }) => Answer::Stopped {
+        Err(reason) => Answer::Refused(reason.into()),
+        Ok(SearchAnswer::Stopped(RoundRecord { done, best })) => Answer::Stopped {
             done,
             best: figure(best),
         },
-        SearchAnswer::Found(Transitions(length), k, rounds) => Answer::Found { length, k, rounds },
-        SearchAnswer::NoneWithin(rounds) => Answer::NoneWithin { rounds },
+        Ok(SearchAnswer::Found(Transitions(length), k, rounds)) => {
+            Answer::Found { length, k, rounds }
+        }
+        Ok(SearchAnswer::NoneWithin(rounds)) => Answer::NoneWithin { rounds },
     }
 }
 
 // What next answered.
-pub fn of_next(given: NextAnswer) -> Answer {
+pub fn of_next(given: Result<Option<Listed>, Reason>) -> Answer {
     match given {
-        NextAnswer::Refused(n) => Answer::Refused(n),
-        NextAnswer::Found(Transitions(length), k) => Answer::NextFound { length, k },
-        NextAnswer::NoMore => Answer::NoMore,
+        Err(reason) => Answer::Refused(reason.into()),
+        Ok(Some(listed)) => Answer::NextFound {
+            length: listed.length.0,
+            k: listed.loop_start,
+        },
+        Ok(None) => Answer::NoMore,
     }
 }
 
 // What a distance call answered, with the last of the entries that it wrote, 0 if there are none.
-pub fn of_distances(given: DistancesAnswer, output: &[u16]) -> Answer {
+pub fn of_distances(given: Result<u16, Reason>, output: &[u16]) -> Answer {
     match given {
-        DistancesAnswer::Refused(n) => Answer::Refused(n),
-        DistancesAnswer::Written(n) => {
+        Err(reason) => Answer::Refused(reason.into()),
+        Ok(n) => {
             let entries = usize::from(n);
             let last = entries.checked_sub(1).map_or(0, |at| entry(output, at));
             Answer::Written { entries, last }

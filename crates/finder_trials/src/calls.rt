@@ -1,9 +1,9 @@
 // The calls, each with tables that are filled before it and looked at after it.
-use crate::answer::{of_distances, of_next, of_search, of_step, record};
+use crate::answer::{of_distances, of_next, of_search, of_step};
 use crate::look::{seen, seen_work};
 use gate::Ask;
 use harness::{Filling, Tried, fill};
-use lasso::Transitions;
+use lasso::{RoundRecord, Transitions};
 
 // A step by the marks of a table, under a ceiling and from a record, lent a working table.
 pub fn step(
@@ -15,7 +15,10 @@ pub fn step(
     work: &mut [u16],
 ) -> Tried {
     fill(work, Filling::Varied);
-    let so_far = record(done, best);
+    let so_far = RoundRecord {
+        done,
+        best: best.map(Transitions),
+    };
     let given = step::step(file, mark_table, Transitions(ceiling), so_far, work);
     seen_work(of_step(given), work)
 }

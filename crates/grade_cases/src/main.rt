@@ -78,7 +78,7 @@ fn show(rt: &impl Print, tried: Tried) {
         Err(number) => print!(rt; ": refused {number}\n"),
         Ok(graded) => {
             let verdict = word(graded.verdict);
-            match graded.place {
+            match graded.first_break {
                 None => print!(rt; ": {verdict}, no place\n"),
                 Some(place) => print!(rt; ": {verdict}, place {place}\n"),
             }

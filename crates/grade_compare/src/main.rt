@@ -64,7 +64,7 @@ fn is_shortest(seen: Tried) -> bool {
             seen.answer,
             Ok(Graded {
                 verdict: Verdict::Shortest,
-                place: None,
+                first_break: None,
             })
         )
 }

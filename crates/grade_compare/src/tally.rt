@@ -64,14 +64,15 @@ fn number_of(given: Verdict) -> u64 {
 fn is_right(seen: Tried, right: Graded) -> bool {
     !seen.wrong
         && seen.answer.is_ok_and(|given| {
-            number_of(given.verdict) == number_of(verdict_of(right)) && given.place == right.place
+            number_of(given.verdict) == number_of(verdict_of(right))
+                && given.first_break == right.place
         })
 }
 
 // Prints a grade that is not as it must be.
 fn show(rt: &impl Print, m: Model, c: Claim, seen: Tried, right: Graded) {
     let said = seen.answer.map_or(0, |given| number_of(given.verdict));
-    let place = seen.answer.map_or(None, |given| given.place);
+    let place = seen.answer.map_or(None, |given| given.first_break);
     let _ = print!(rt;
         "states {}, initial state {}, edges {}, marks {}, list {} of {} entries, k {}: said {said}, place {}, tables wrong {}; must be {}, {}\n",
         m.states,
@@ -111,7 +112,7 @@ pub fn add_grade(rt: &impl Print, t: &mut Tally, m: Model, c: Claim, seen: Tried
         show(rt, m, c, seen, right);
     }
     if c.k == 0 {
-        add_list(t, seen.answer.map_or(None, |given| given.place));
+        add_list(t, seen.answer.map_or(None, |given| given.first_break));
     }
     add(&mut t.grades, 1);
     if let Ok(given) = seen.answer {

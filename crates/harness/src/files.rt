@@ -1,12 +1,5 @@
-// The bytes of files: a part of them, writing them, and the numbers of a header.
-ghost use Rattle.std.specs.Prelude.{◌≤◌, ◌<◌, length};
-
-// A part of a file or of a text.
-pub fn part(words: &[u8], from: usize, to: usize) -> &[u8]
-    requires { (from ≤ to) × (to ≤ length words.now) }
-{
-    &words[from..to]
-}
+// The bytes of files: writing them, and the numbers of a header.
+ghost use Rattle.std.specs.Prelude.{◌≤◌, ◌<◌};
 
 // Writes the low byte of a number, where there is room.
 pub fn put_byte(file: &mut [u8], at: usize, value: usize) {

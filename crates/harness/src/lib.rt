@@ -1,5 +1,5 @@
-// Test support: answers, counts, tables that are filled and looked at, bytes of model files, texts and entries in print, and a text
-// read to its end.
+// Test support: answers, counts, tables that are filled and looked at, bytes of model files, texts and entries in print,
+// and a text read to its end.
 #![tactic(auto)]
 
 mod answer;
@@ -11,7 +11,7 @@ mod tables;
 
 pub use answer::{Answer, Tried};
 pub use counts::{add, add_if, sum};
-pub use files::{header_word, part, put_byte, put16};
+pub use files::{header_word, put_byte, put16};
 pub use print::{entries, text};
 pub use read::read_text;
 pub use tables::{Filling, entry, fill, first, holds, wrong_work};

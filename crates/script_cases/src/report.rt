@@ -2,10 +2,11 @@
 ghost use Rattle.std.specs.Prelude.{◌≤◌};
 
 use harness::{Filling, entries, entry, first, holds};
-use script_commands::command_size;
+use script_commands::{Action, command_size};
 use script_player::play;
 
-// The kinds of answer in a log; what is below them is the number of a refusal.
+// The kinds of answer in a log; what is below them is the number of a refusal. They are numbers because the log is a table
+// that C reads.
 const KINDS_FROM: u16 = 100;
 
 const STOPPED: u16 = 101;
@@ -22,16 +23,16 @@ const WORK: usize = 42;
 const LOG: usize = 64;
 
 // Prints what a command asks for.
-fn show_command(rt: &impl Print, command: &[u16]) {
+fn show_command(rt: &impl Print, command: &[u16], action: Action) {
     let table = entry(command, 1);
-    let _ = match entry(command, 0) {
-        0 => {
+    let _ = match action {
+        Action::Search => {
             let ceiling = entry(command, 2);
             let allowance = entry(command, 3);
             print!(rt; "search by table {table} with ceiling {ceiling} and allowance {allowance}")
         }
-        1 => print!(rt; "next by table {table} with the copy"),
-        _ => {
+        Action::NextOfCopy => print!(rt; "next by table {table} with the copy"),
+        Action::NextOfList => {
             let shown = print!(rt; "next by table {table} with");
             entries(rt, command.get(3..).unwrap_or(&[]));
             shown
@@ -41,7 +42,7 @@ fn show_command(rt: &impl Print, command: &[u16]) {
 
 // Prints the answer whose four numbers stand at a place of the log, with the list in the answer table. A search that was
 // stopped has a best length as its third figure if the second is not 0; one that finds has one figure more than a next.
-fn show_answer(rt: &impl Print, log: &[u16; LOG], place: usize, action: u16, answer: &[u16; ANSWER])
+fn show_answer(rt: &impl Print, log: &[u16; LOG], place: usize, action: Action, answer: &[u16; ANSWER])
     requires { place ≤ 60 }
 {
     let kind = log[place];
@@ -52,7 +53,7 @@ fn show_answer(rt: &impl Print, log: &[u16; LOG], place: usize, action: u16, ans
         _ if kind < KINDS_FROM => print!(rt; ": refused {kind}"),
         STOPPED if second == 0 => print!(rt; ": stopped {figure} none"),
         STOPPED => print!(rt; ": stopped {figure} {third}"),
-        FOUND if action == 0 => print!(rt; ": found {figure} {second} {third}, list"),
+        FOUND if matches!(action, Action::Search) => print!(rt; ": found {figure} {second} {third}, list"),
         FOUND => print!(rt; ": found {figure} {second}, list"),
         NONE_WITHIN => print!(rt; ": none within {figure}"),
         _ => print!(rt; ": no more"),
@@ -96,7 +97,7 @@ fn show_played(
     script: &[u16],
     room: usize,
     end: usize,
-    action: Option<u16>,
+    action: Option<Action>,
 )
     requires { (room ≤ 6) × (end ≤ 64) }
 {
@@ -118,14 +119,13 @@ fn show_calls(rt: &impl Print, file: &[u8], script: &[u16], room: usize, end: us
 {
     let mut left = script;
     for call in 0..end / 4 {
-        let size = command_size(left);
-        if size == 0 {
+        let action = Action::of(entry(left, 0));
+        let Some((size, asked)) = command_size(left).zip(action) else {
             return;
-        }
+        };
         let (command, rest) = left.split_at(size);
-        show_command(rt, command);
-        let action = entry(command, 0);
-        show_played(rt, file, script, room, 4 * call + 4, Some(action));
+        show_command(rt, command, asked);
+        show_played(rt, file, script, room, 4 * call + 4, action);
         left = rest;
     }
 }
