@@ -8,7 +8,7 @@ ghost use Rattle.figures.specs.Kinds.{figures_in};
 ghost use Rattle.answers.specs.Kinds.{search_report, next_report};
 
 use figures::{Kind, report_figures, report_record};
-use next::Listed;
+use next::NextList;
 use numbers::Reason;
 use search::SearchAnswer;
 
@@ -31,7 +31,7 @@ pub fn report_search(answer: Result<SearchAnswer, Reason>, out: &mut [u16]) -> u
 }
 
 // Reports the answer of next.
-pub fn report_next(answer: Result<Option<Listed>, Reason>, out: &mut [u16]) -> u16
+pub fn report_next(answer: Result<Option<NextList>, Reason>, out: &mut [u16]) -> u16
     requires { 3 ≤ length out.old }
     ensures kind { result ≡ (next_report (next_outcome_of answer)).kind }
     ensures out { out.new ≡ figures_in out.old (next_report (next_outcome_of answer)) }

@@ -1,7 +1,7 @@
 // The answers of the finder, in figures.
 use harness::{Answer, entry};
 use lasso::{RoundRecord, Transitions};
-use next::Listed;
+use next::NextList;
 use numbers::Reason;
 use search::SearchAnswer;
 use step::StepAnswer;
@@ -42,7 +42,7 @@ pub fn of_search(given: Result<SearchAnswer, Reason>) -> Answer {
 }
 
 // What next answered.
-pub fn of_next(given: Result<Option<Listed>, Reason>) -> Answer {
+pub fn of_next(given: Result<Option<NextList>, Reason>) -> Answer {
     match given {
         Err(reason) => Answer::Refused(reason.into()),
         Ok(Some(listed)) => Answer::NextFound {

@@ -29,7 +29,7 @@ use Rattle.gate.proofs.GateLaws.{common_clear, named_one}
 use Rattle.paths.proofs.LoopTests.{lasso_of}
 use Rattle.std.specs.Prelude as code
 use Rattle.std.specs.Prelude.{None, Some}
-use Rattle.next.specs.declared.Listed.{Listed}
+use Rattle.next.specs.declared.NextList.{NextList}
 use Rattle.next.specs.Next.{Followed, no_more, followed_of, NextLosesNothing, not_shortest, followed, due_reasons, next_reasons, next_outcome, next_answer}
 
 -- a list of the roll is a shortest accepting path
@@ -166,12 +166,12 @@ following-written f t accepted one workRoom room earlier a a' w s l k m at_start
     )
 
 -- the answer of a next that says this
-abbrev read_next : Followed → code.Option Listed
+abbrev read_next : Followed → code.Option NextList
 read_next (Followed.found l k) = Some (record { length = transitions l; loop_start = k })
 read_next no_more = None
 
 -- a next's answer is read off what it says
-read_next_followed_of : (a : code.Option Listed) → read_next (followed_of a) ≡ a
+read_next_followed_of : (a : code.Option NextList) → read_next (followed_of a) ≡ a
 read_next_followed_of (Some listed) = refl
 read_next_followed_of None = refl
 

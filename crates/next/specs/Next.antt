@@ -13,7 +13,7 @@ use Rattle.format.specs.Rules.{Reason, first_broken}
 use Rattle.outcomes.specs.Outcome.{Outcome, outcome, outcome_of, LosesNothing}
 use Rattle.outcomes.specs.Tables.{list_reasons, unless_refused, written}
 use Rattle.gate.specs.Gate.{named_rules}
-use Rattle.next.specs.declared.Listed.{Listed}
+use Rattle.next.specs.declared.NextList.{NextList}
 
 -- A next not refused: found (L, k), or no more.
 pub data Followed : Type 0 where
@@ -21,12 +21,12 @@ pub data Followed : Type 0 where
   no_more : Followed
 
 -- what each answer of the code's next says
-abbrev pub followed_of : code.Option Listed → Followed
+abbrev pub followed_of : code.Option NextList → Followed
 followed_of (Some listed) = found listed.length.0 listed.loop_start
 followed_of None = no_more
 
 -- which outcome each result of the code's next is
-abbrev pub next_outcome_of : Result (code.Option Listed) reasons.Reason → Outcome Followed
+abbrev pub next_outcome_of : Result (code.Option NextList) reasons.Reason → Outcome Followed
 next_outcome_of = outcome_of followed_of
 
 -- no figure of next's answer is lost in its outcome

@@ -22,7 +22,7 @@ use paths::is_lasso;
 
 // The list that was written: its length, and the place where its loop starts.
 #[derive(Clone, Copy)]
-pub struct Listed {
+pub struct NextList {
     pub length: Transitions,
     pub loop_start: u16,
 }
@@ -35,7 +35,7 @@ fn next_list(
     earlier: &[u16],
     answer: &mut [u16],
     work: &mut [u16],
-) -> Result<Option<Listed>, Reason>
+) -> Result<Option<NextList>, Reason>
     requires rounds_ready { RoundsReady file.now h work.old }
     requires h_value { least_length (graph_in file.now h) ≡ some transitions.0 }
     ensures outcome { next_outcome_of result
@@ -61,7 +61,7 @@ fn next_list(
         return Err(Reason::NoRoom);
     }
     let k = write_list(h, work, transitions, answer);
-    Ok(Some(Listed {
+    Ok(Some(NextList {
         length: transitions,
         loop_start: k as u16,
     }))
@@ -74,7 +74,7 @@ fn next_of_model(
     earlier: &[u16],
     answer: &mut [u16],
     work: &mut [u16],
-) -> Result<Option<Listed>, Reason>
+) -> Result<Option<NextList>, Reason>
     requires valid { Valid file.now h }
     requires states_in_bounds { 6 * h.states ≤ length work.old }
     ensures outcome { next_outcome_of result
@@ -98,7 +98,7 @@ pub fn next(
     earlier: &[u16],
     answer: &mut [u16],
     work: &mut [u16],
-) -> Result<Option<Listed>, Reason>
+) -> Result<Option<NextList>, Reason>
     ensures outcome { next_outcome_of result
         ≡ next_outcome file.now mark_table earlier.now (length answer.old)
         (length work.old) }

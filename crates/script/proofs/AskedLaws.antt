@@ -15,11 +15,11 @@ use Rattle.gate.specs.Gate.{asking}
 use Rattle.sequence.specs.Calls.{Call, search, next}
 use Rattle.script_call.specs.Log.{Made}
 use Rattle.script_call.proofs.CallLaws.{made_as}
-use Rattle.script_commands.specs.Commands.{action, mark_table, third, allowance, number_of, Named}
+use Rattle.script_commands.specs.Commands.{action, mark_table, third, allowance, action_number, Named}
 use Rattle.script.specs.Asked.{lent_list, call_of}
 
 -- the action that a command of a script that is not over names
-pub named : {n : ℕ} (o : Option Action) (a : Action) → Named n o → n ≤ 2 → number_of (unwrap_or o a) ≡ n
+pub named : {n : ℕ} (o : Option Action) (a : Action) → Named n o → n ≤ 2 → action_number (unwrap_or o a) ≡ n
 named None a unknown known = absurd (omega (arith, unknown, known))
 named (Some b) a is known = is
 

@@ -9,7 +9,7 @@ ghost use Rattle.script_call.specs.Log.{entries_of, Made};
 
 use answers::{report_next, report_search};
 use gate::Ask;
-use next::{Listed, next};
+use next::{NextList, next};
 use numbers::Reason;
 use search::{SearchAnswer, search};
 
@@ -35,7 +35,7 @@ fn search_entries(answer: Result<SearchAnswer, Reason>) -> usize
 }
 
 // The entries of the list that a next brings.
-fn next_entries(answer: Result<Option<Listed>, Reason>) -> usize
+fn next_entries(answer: Result<Option<NextList>, Reason>) -> usize
     ensures { result ≡ entries_of (found_length (of_next (next_outcome_of answer))) }
 {
     match answer {

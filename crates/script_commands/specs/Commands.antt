@@ -12,14 +12,14 @@ abbrev pub action : List ℕ → ℕ
 action script = get_or script 0 0
 
 -- the number that names each action of the code
-abbrev pub number_of : Action → ℕ
-number_of Search = 0
-number_of NextOfCopy = 1
-number_of NextOfList = 2
+abbrev pub action_number : Action → ℕ
+action_number Search = 0
+action_number NextOfCopy = 1
+action_number NextOfList = 2
 
 -- what is told of a number: the action that it names, or that it names none
 abbrev pub Named : ℕ → Option Action → Type 0
-Named n o = MatchOption o (2 < n) (λ a. number_of a ≡ n)
+Named n o = MatchOption o (2 < n) (λ a. action_number a ≡ n)
 
 -- the mark table that its call names
 abbrev pub mark_table : List ℕ → ℕ

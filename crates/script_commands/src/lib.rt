@@ -2,7 +2,7 @@
 #![tactic(auto)]
 
 ghost use Rattle.std.specs.Prelude.{◌≡◌, get_or};
-ghost use Rattle.script_commands.specs.Commands.{behind, number_of, Named, size_of};
+ghost use Rattle.script_commands.specs.Commands.{behind, action_number, Named, size_of};
 
 // What a command asks for: a search, a next with the copy last received, or a next with a list of its own.
 #[derive(Clone, Copy)]
@@ -27,7 +27,7 @@ impl Action {
 
     // How many numbers stand after the first two of a command.
     fn numbers_behind(self, third: u16) -> usize
-        ensures { result ≡ behind (number_of self) third }
+        ensures { result ≡ behind (action_number self) third }
     {
         match self {
             Action::Search => 2,

@@ -1,6 +1,6 @@
 -- `play_one` meets its contract: the call that is made is the one that the first command asks for.
 use Rattle.std.proofs.Common.{refl, ap, ◌∙◌, ◌≡◌, arith}
-use Rattle.script_commands.specs.Commands.{number_of}
+use Rattle.script_commands.specs.Commands.{action_number}
 use Rattle.script_commands.specs.declared.Action.TheVariants.{NextOfList}
 use Rattle.script_commands.proofs.CommandLaws.{action_known}
 use Rattle.script.proofs.AskedLaws.{called_copy, called_list, made_search, named}
@@ -9,10 +9,10 @@ use Rattle.script.proofs.play_one.Goals as goal
 use Rattle.script.proofs.play_one.Goals.{After-unwrap_or-action}
 
 -- the action is the one that the command names
-its_action : (c : After-unwrap_or-action) → number_of c.unwrap_or-action.result ≡ c.number_at.result
+its_action : (c : After-unwrap_or-action) → action_number c.unwrap_or-action.result ≡ c.number_at.result
 its_action c =
     let known = action_known c.args.script.now c.requires.script_value in
-    ap number_of c.unwrap_or-action.ensures ∙ named c.of.result NextOfList c.of.ensures (omega (arith, known, c.number_at.ensures))
+    ap action_number c.unwrap_or-action.ensures ∙ named c.of.result NextOfList c.of.ensures (omega (arith, known, c.number_at.ensures))
 
 pub returns-in-Search : goal.returns-in-Search
 returns-in-Search c =
