@@ -42,7 +42,13 @@ fn show_command(rt: &impl Print, command: &[u16], action: Action) {
 
 // Prints the answer whose four numbers stand at a place of the log, with the list in the answer table. A search that was
 // stopped has a best length as its third figure if the second is not 0; one that finds has one figure more than a next.
-fn show_answer(rt: &impl Print, log: &[u16; LOG], place: usize, action: Action, answer: &[u16; ANSWER])
+fn show_answer(
+    rt: &impl Print,
+    log: &[u16; LOG],
+    place: usize,
+    action: Action,
+    answer: &[u16; ANSWER],
+)
     requires { place ≤ 60 }
 {
     let kind = log[place];
@@ -53,7 +59,9 @@ fn show_answer(rt: &impl Print, log: &[u16; LOG], place: usize, action: Action, 
         _ if kind < KINDS_FROM => print!(rt; ": refused {kind}"),
         STOPPED if second == 0 => print!(rt; ": stopped {figure} none"),
         STOPPED => print!(rt; ": stopped {figure} {third}"),
-        FOUND if matches!(action, Action::Search) => print!(rt; ": found {figure} {second} {third}, list"),
+        FOUND if matches!(action, Action::Search) => print!(rt;
+            ": found {figure} {second} {third}, list"
+        ),
         FOUND => print!(rt; ": found {figure} {second}, list"),
         NONE_WITHIN => print!(rt; ": none within {figure}"),
         _ => print!(rt; ": no more"),
