@@ -15,6 +15,7 @@ use format::total_of;
 use model::Header;
 use numbers::{Reason, limit};
 use property::{check_property, has_zero_mask};
+use text::Output;
 
 // Combines a rule, whose states have the letters, with a property, and writes the combination as a model file from the
 // first byte of the output on. The rule has one mark table or two, which are not used, the property and the combination
@@ -92,6 +93,10 @@ fn within_limits(
     if output.len() < total {
         return Err(Reason::NoRoom);
     }
-    let written = write_product(output, rule, h, letters, property, k, edges);
-    Ok(written)
+    let mut out = Output {
+        bytes: output,
+        at: 0,
+    };
+    write_product(&mut out, rule, h, letters, property, k, edges);
+    Ok(out.at)
 }

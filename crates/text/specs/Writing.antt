@@ -17,6 +17,7 @@ pub record Wrote (t : List ℕ) (at : ℕ) (bytes t' : List ℕ) (next : ℕ) : 
 abbrev pub HasRoom : Output → ℕ → Type 0
 HasRoom o n = o.at + n ≤ length o.bytes.now
 
--- the second output is the first with the bytes written
-abbrev pub Adds : Output → List ℕ → Output → Type 0
-Adds o bytes o' = Wrote o.bytes.now o.at bytes o'.bytes.now o'.at
+-- the second output is the first with the bytes written: its text is still the same one, not another that is lent
+pub record Adds (o : Output) (bytes : List ℕ) (o' : Output) : Type 0 where
+  pub wrote : Wrote o.bytes.now o.at bytes o'.bytes.now o'.at
+  pub same : o'.bytes.ghost_name ≡ o.bytes.ghost_name

@@ -1,18 +1,19 @@
--- The row table and the edge table, written in one pass: the entries of the states below c, and their edges.
+-- The row table and the edge table, written in one pass: the entries of the states below c to one part of the output, and
+-- their edges to the part after it.
 use Prim.Native.Nat.{ℕ, suc, ◌+◌, ◌*◌, ◌-◌, ◌/◌, ◌≤◌, ◌<◌}
-use mathlib.Core.Path.{◌≡◌, sym, ap, ap₂, ◌∙◌}
+use mathlib.Core.Path.{◌≡◌, sym, ap, subst, ◌∙◌}
 use mathlib.Core.List.{List, [], ◌∷◌, ◌++◌, map}
 use native.Mathlib.Omega.{arith}
 use native.Mathlib.Numerals.{add-one}
-use lib.ListN.{length, length-append}
+use lib.ListN.{length, take, drop, length-append, length-take, length-drop}
 use Rattle.lists.specs.Lists.{below}
 use Rattle.lasso.specs.Graph.{Graph}
 use Rattle.lists.proofs.BelowLaws.{map-below-length}
-use Rattle.format.specs.Layout.{edges_at}
-use Rattle.text.specs.Writing.{Wrote}
+use Rattle.text.specs.declared.Output.{Output}
+use Rattle.text.specs.Writing.{Wrote, HasRoom}
+use Rattle.text.proofs.WroteLaws.{wrote_length, wrote_none, wrote_then, wrote_as, wrote_parts}
 use Rattle.writer.specs.File.{word16, words16, edges_below, edge_total, row_words}
 use Rattle.writer.proofs.FileLaws.{words16-length, words16-append, edges_next, edges-below_le, row_words_next, row_words-length}
-use Rattle.writer.proofs.PutLaws.{put_bytes, wrote_put, put_length, put_next, put_apart, put_none}
 use Rattle.writer.specs.Tables.{table_bytes, TablesFit}
 
 -- the bytes of the row entries of the states below c
@@ -23,15 +24,15 @@ entry_bytes g c = words16 (map (λ s. length (edges_below g s)) (below c))
 abbrev pub edge_bytes : Graph → ℕ → List ℕ
 edge_bytes g c = words16 (edges_below g c)
 
--- the output with the row entries of the states below c and the edges of those below d
-abbrev pub tables_to : Graph → (c d : ℕ) → List ℕ → List ℕ
-tables_to g c d out = put_bytes (edges_at g.size) (edge_bytes g d) (put_bytes 24 (entry_bytes g c) out)
+-- where the edge table begins
+abbrev pub cut : Graph → Output → ℕ
+cut g out = out.at + 2 * (g.size + 1)
 
--- the pass has come to c: the tables up to c are written, and `at` is after the last edge
-pub record PassedTo (g : Graph) (out₀ : List ℕ) (c : ℕ) (out : List ℕ) (at : ℕ) : Type 0 where
-  pub within : c ≤ g.size
-  pub at_is : at ≡ edges_at g.size + 2 * length (edges_below g c)
-  pub out_is : out ≡ tables_to g c c out₀
+-- the pass has come to c: the entries of the states below c are written to the front of the output, from place `at` on,
+-- and their edges to what comes after it
+pub record PassedTo (g : Graph) (front back : List ℕ) (at c : ℕ) (rows edges : Output) : Type 0 where
+  pub entries : Wrote front at (entry_bytes g c) rows.bytes.now rows.at
+  pub targets : Wrote back 0 (edge_bytes g c) edges.bytes.now edges.at
 
 -- so many bytes as two for each entry
 pub entry_bytes_length : (g : Graph) (c : ℕ) → length (entry_bytes g c) ≡ 2 * c
@@ -54,102 +55,78 @@ entry_bytes_next g c =
 edge_bytes_next : (g : Graph) (c : ℕ) → edge_bytes g (c + 1) ≡ edge_bytes g c ++ words16 (g.succs c)
 edge_bytes_next g c = ap words16 (edges_next g c) ∙ words16-append (edges_below g c) (g.succs c)
 
-module _ {g : Graph} {out₀ : List ℕ} (fit : TablesFit g out₀) where
-  -- the edges of the states below one of them have room after the row table
-  pub edges_room : (c : ℕ) → c ≤ g.size → edges_at g.size + 2 * length (edges_below g c) ≤ length out₀
-  edges_room c le = omega (arith, fit.room, edges-below_le g c g.size le)
+-- the two parts of an output before the pass: up to the end of the row table, and what comes after it
+pub record Parted (g : Graph) (out : Output) (front back : List ℕ) : Type 0 where
+  pub fit : TablesFit g out
+  pub front_is : front ≡ take (cut g out) out.bytes.now
+  pub back_is : back ≡ drop (cut g out) out.bytes.now
 
-  -- the first entries have room
-  entries_room : (c : ℕ) → c ≤ g.size + 1 → length (put_bytes 24 (entry_bytes g c) out₀) ≡ length out₀
-  entries_room c le = put_length out₀ 24 (entry_bytes g c) (omega (arith, entry_bytes_length g c, fit.room))
+module _ {g : Graph} {out : Output} {front back : List ℕ} (P : Parted g out front back) where
+  -- the front ends where the edge table begins
+  front_length : length front ≡ cut g out
+  front_length = ap length P.front_is ∙ simp length-take (omega (arith, P.fit.room, table_bytes-length g))
 
-  -- the output keeps its length
-  pub tables_length : (c d : ℕ) → c ≤ g.size + 1 → d ≤ g.size → length (tables_to g c d out₀) ≡ length out₀
-  tables_length c d lc ld =
-      put_length (put_bytes 24 (entry_bytes g c) out₀) (edges_at g.size) (edge_bytes g d)
-      (omega (arith, words16-length (edges_below g d), edges_room d ld, entries_room c lc))
-      ∙ entries_room c lc
+  -- the edges of the states below one of them have room
+  edges_room : (c : ℕ) → c ≤ g.size → 2 * length (edges_below g c) ≤ length back
+  edges_room c le =
+      let long : length back ≡ length out.bytes.now - cut g out = ap length P.back_is ∙ length-drop (cut g out) out.bytes.now in
+      omega (arith, long, P.fit.room, table_bytes-length g, edges-below_le g c g.size le)
 
   -- at the start nothing is written
-  pub passed_none : PassedTo g out₀ 0 out₀ (edges_at g.size)
-  passed_none =
-      record {
-        within = omega arith;
-        at_is = omega arith;
-        out_is = sym (put_none (put_bytes 24 [] out₀) (edges_at g.size) ∙ put_none out₀ 24);
-      }
+  pub passed_none : Wrote front out.at (entry_bytes g 0) front out.at × Wrote back 0 (edge_bytes g 0) back 0
+  passed_none = (wrote_none front out.at (omega (arith, front_length)), wrote_none back 0 (omega arith))
 
-  module _ {c : ℕ} {out : List ℕ} {at : ℕ} (P : PassedTo g out₀ c out at) where
-    -- the output keeps its length
-    pub passed_length : length out ≡ length out₀
-    passed_length = ap length P.out_is ∙ tables_length c c (omega (arith, P.within)) P.within
-
+  module _ {c : ℕ} {rows edges : Output} (le : c ≤ g.size) (Q : PassedTo g front back out.at c rows edges) where
     -- the entry of row c is the number of edges written, and fits 16 bits
-    pub passed_entry : ((at - edges_at g.size) / 2 ≡ length (edges_below g c)) × (length (edges_below g c) ≤ 8192)
-    passed_entry =
-        (omega (arith, P.at_is), omega (arith, edges-below_le g c g.size P.within, fit.edges_limit))
+    pub passed_entry : (edges.at / 2 ≡ length (edges_below g c)) × (length (edges_below g c) ≤ 8192)
+    passed_entry = (
+      omega (arith, Q.targets.place, words16-length (edges_below g c)),
+      omega (arith, edges-below_le g c g.size le, P.fit.edges_limit),
+    )
+
+    -- the entry of row c has room
+    pub entry_room : HasRoom rows 2
+    entry_room = omega (arith, le, Q.entries.place, wrote_length Q.entries, front_length, entry_bytes_length g c)
 
     -- the entry of row c is written
-    pub entry-written : {x next : ℕ} {out' : List ℕ} → x ≡ length (edges_below g c) → Wrote out (24 + 2 * c) (word16 x) out' next
-        → out' ≡ tables_to g (c + 1) c out₀
-    entry-written {x} {out' = out'} e w =
-        let E : ℕ = edges_at g.size in
-        let t : List ℕ = put_bytes 24 (entry_bytes g c) out₀ in
-        let long : length t ≡ length out₀ = entries_room c (omega (arith, P.within)) in
-        let place : 24 + 2 * c ≡ 24 + length (entry_bytes g c) = omega (arith, entry_bytes_length g c) in
-        let here : out' ≡ put_bytes (24 + 2 * c) (word16 x) (put_bytes E (edge_bytes g c) t) =
-        wrote_put w ∙ ap (put_bytes (24 + 2 * c) (word16 x)) P.out_is in
-        let apart : put_bytes (24 + 2 * c) (word16 x) (put_bytes E (edge_bytes g c) t) ≡ put_bytes E (edge_bytes g c) (put_bytes (24 + 2 * c) (word16 x) t) =
-        put_apart t (24 + 2 * c) E (word16 x) (edge_bytes g c) (omega (arith, P.within)) (omega (arith, long, fit.room)) in
-        let next : put_bytes (24 + 2 * c) (word16 x) t ≡ put_bytes 24 (entry_bytes g (c + 1)) out₀ =
-        ap₂ (λ (i y : ℕ). put_bytes i (word16 y) t) place e
-        ∙ put_next out₀ 24 (entry_bytes g c) (word16 (length (edges_below g c))) (omega (arith, fit.room))
-        ∙ ap (λ (xs : List ℕ). put_bytes 24 xs out₀) (sym (entry_bytes_next g c)) in
-        here ∙ apart ∙ ap (put_bytes E (edge_bytes g c)) next
-
-    -- the edges of c are written after its entry
-    pub edges-written : {out' out'' : List ℕ} {at' : ℕ} → c < g.size → out' ≡ tables_to g (c + 1) c out₀
-        → Wrote out' at (words16 (g.succs c)) out'' at' → PassedTo g out₀ (c + 1) out'' at'
-    edges-written {out'} {out''} {at'} less e w =
-        let E : ℕ = edges_at g.size in
-        let t : List ℕ = put_bytes 24 (entry_bytes g (c + 1)) out₀ in
-        let long : length t ≡ length out₀ = entries_room (c + 1) (omega arith) in
-        let place : at ≡ E + length (edge_bytes g c) = omega (arith, P.at_is, words16-length (edges_below g c)) in
-        record {
-          within = omega arith;
-          at_is = omega (arith, w.place, P.at_is, words16-length (g.succs c), ap length (edges_next g c), length-append (edges_below g c) (g.succs c));
-          out_is =
-              wrote_put w ∙ ap₂ (λ (i : ℕ) (u : List ℕ). put_bytes i (words16 (g.succs c)) u) place e
-              ∙ put_next t E (edge_bytes g c) (words16 (g.succs c)) (omega (arith, long, fit.room))
-              ∙ ap (λ (xs : List ℕ). put_bytes E xs t) (sym (edge_bytes_next g c));
-        }
+    pub entry-written : {t' : List ℕ} {next : ℕ} → Wrote rows.bytes.now rows.at (word16 (edges.at / 2)) t' next
+        → Wrote front out.at (entry_bytes g (c + 1)) t' next
+    entry-written w =
+        wrote_as (sym (entry_bytes_next g c)) (wrote_then Q.entries (wrote_as (ap word16 passed_entry.0) w))
 
     -- the edges of c have room
-    pub edges_fit : {out' : List ℕ} → c < g.size → out' ≡ tables_to g (c + 1) c out₀ → at + 2 * length (g.succs c) ≤ length out'
-    edges_fit less e =
+    pub edges_fit : c < g.size → HasRoom edges (2 * length (g.succs c))
+    edges_fit less =
         omega (
           arith,
-          P.at_is,
-          ap length e,
-          tables_length (c + 1) c (omega arith) (omega arith),
+          Q.targets.place,
+          wrote_length Q.targets,
+          words16-length (edges_below g c),
           edges_room (c + 1) (omega arith),
           ap length (edges_next g c),
           length-append (edges_below g c) (g.succs c),
         )
 
+    -- the edges of c are written
+    pub edges-written : {t' : List ℕ} {next : ℕ} → Wrote edges.bytes.now edges.at (words16 (g.succs c)) t' next
+        → Wrote back 0 (edge_bytes g (c + 1)) t' next
+    edges-written w = wrote_as (sym (edge_bytes_next g c)) (wrote_then Q.targets w)
+
     -- with the last entry both tables are written
-    pub tables_written : {out' : List ℕ} → c ≡ g.size → out' ≡ tables_to g (c + 1) c out₀ → Wrote out₀ 24 (table_bytes g) out' at
-    tables_written {out'} all e =
-        let E : ℕ = edges_at g.size in
-        let rows : List ℕ = words16 (row_words g) in
-        let last : entry_bytes g (c + 1) ≡ rows = ap (λ (i : ℕ). entry_bytes g i) (add-one c ∙ ap suc all) in
-        let place : E ≡ 24 + length rows = omega (arith, words16-length (row_words g), row_words-length g) in
-        let whole : out' ≡ put_bytes 24 (table_bytes g) out₀ =
-        e ∙ ap₂ (λ (xs : List ℕ) (i : ℕ). put_bytes E (edge_bytes g i) (put_bytes 24 xs out₀)) last all
-        ∙ ap (λ (i : ℕ). put_bytes i (edge_bytes g g.size) (put_bytes 24 rows out₀)) place
-        ∙ put_next out₀ 24 rows (edge_bytes g g.size) (omega (arith, fit.room)) in
-        record {
-          room = omega (arith, table_bytes-length g, fit.room);
-          text = whole;
-          place = omega (arith, table_bytes-length g, P.at_is, ap (λ (i : ℕ). length (edges_below g i)) all);
-        }
+    pub tables_written : {t' : List ℕ} {next : ℕ} → c ≡ g.size → Wrote rows.bytes.now rows.at (word16 (edges.at / 2)) t' next
+        → Wrote out.bytes.now out.at (table_bytes g) (t' ++ edges.bytes.now) (cut g out + edges.at)
+    tables_written {t'} {next} all w =
+        let t : List ℕ = out.bytes.now in
+        let R : List ℕ = words16 (row_words g) in
+        let whole : Wrote front out.at R t' next = wrote_as (ap (entry_bytes g) (add-one c ∙ ap suc all)) (entry-written w) in
+        let end : next ≡ cut g out = omega (arith, whole.place, words16-length (row_words g), row_words-length g) in
+        wrote_parts t
+        (subst (λ (x : List ℕ). Wrote x out.at R t' (cut g out)) P.front_is (subst (λ (n : ℕ). Wrote front out.at R t' n) end whole))
+        (subst (λ (x : List ℕ). Wrote x 0 (edge_bytes g g.size) edges.bytes.now edges.at) P.back_is (wrote_as (ap (edge_bytes g) all) Q.targets))
+
+-- once both parts end, the output has what is left of them: the last two arguments are what is known of them then
+pub tables_left : {t bytes front back left right : List ℕ} {at next f f' b b' : ℕ} → Wrote t at bytes (front ++ back) next → f' ≡ f → b' ≡ b
+    → (f ≡ f' → left ≡ front) → (b ≡ b' → right ≡ back) → Wrote t at bytes (left ++ right) next
+tables_left {t} {bytes} {front} {back} {left} {right} {at} {next} w same same' known known' =
+    subst (λ (x : List ℕ). Wrote t at bytes (x ++ right) next) (sym (known (sym same)))
+    (subst (λ (y : List ℕ). Wrote t at bytes (front ++ y) next) (sym (known' (sym same'))) w)

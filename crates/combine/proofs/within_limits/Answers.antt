@@ -1,5 +1,5 @@
 -- `within_limits` meets its contract: 18 for too many states or edges, 15 for a short output, else the file is written.
-use Rattle.std.proofs.Common.{◌≡◌, ◌∙◌, sym, ◌≤◌, false, length, arith}
+use Rattle.std.proofs.Common.{rules, ◌≡◌, ◌∙◌, sym, ◌≤◌, false, length, arith}
 use native.Mathlib.Nat.{mul-le-mul}
 use Rattle.model.proofs.Laws.{valid_sizes}
 use Rattle.property.proofs.PropertyLaws.{property_facts, property_numbers}
@@ -8,7 +8,7 @@ use Rattle.combine_graph.proofs.CombinedLaws.{combined_size}
 use Rattle.combine_outcome.specs.Combination.{too_large, combined_file}
 use Rattle.combine_outcome.proofs.ReasonLaws.{large_states, large_edges, within_both, combined-length}
 use Rattle.combine.proofs.ReasonLaws.{combinable, refused_18, refused_15, written_is}
-use Rattle.text.proofs.WroteLaws.{wrote_length}
+use Rattle.text.proofs.WroteLaws.{adds_left}
 use Rattle.combine.proofs.within_limits.Goals as goal
 use Rattle.combine.proofs.within_limits.Goals.{After-total_of-total, Else-edges-gt-MOST_EDGES, Else-states-gt-MOST_STATES}
 
@@ -63,10 +63,10 @@ returns-then-output-total c =
     let is = refused_15 a.rule.now a.letters.now a.property.now a.output.now r.valid.accepted r.letters_value r.property_value (not_large (goal.at.After-total_of-total total).Else-edges-gt-MOST_EDGES)
     (omega (arith, c.if-output-total.true, total_told total)) in record { outcome = is.0; output = is.1 }
 
-pub write_product-written-requires : goal.write_product-written-requires
-write_product-written-requires c =
+pub write_product-requires : goal.write_product-requires
+write_product-requires c =
     record {
-      combinable = ready (goal.at.write_product-written-requires c).Else-states-gt-MOST_STATES;
+      combinable = ready (goal.at.write_product-requires c).Else-states-gt-MOST_STATES;
       edges_value = (c.count_edges-edges.ensures, omega (arith, c.if-edges-gt-MOST_EDGES.false));
       edges_in_bounds = omega (arith, c.total_of-total.ensures, c.if-output-total.false);
     }
@@ -78,10 +78,7 @@ returns c =
     let a = c.args in
     let r = c.requires in
     let is = written_is a.rule.now a.letters.now a.property.now a.output.now r.valid.accepted r.letters_value r.property_value (not_large (goal.at.After-total_of-total total).Else-edges-gt-MOST_EDGES)
-    (omega (arith, c.if-output-total.false, total_told total)) c.write_product-written.ensures in record {
+    (omega (arith, c.if-output-total.false, total_told total)) (adds_left c.write_product.ensures (search rules)) in record {
       outcome = is.0;
       output = is.1;
     }
-
-pub shape_of-output : goal.shape_of-output
-shape_of-output c = wrote_length c.write_product-written.ensures

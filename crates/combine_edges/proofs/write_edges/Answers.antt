@@ -3,7 +3,7 @@ use Prim.Native.Nat.{◌/◌, ◌%◌}
 use mathlib.Core.Path.{◌≡◌, sym, ap}
 use native.Mathlib.Omega.{arith}
 use lib.ListN.{length}
-use Rattle.text.proofs.WroteLaws.{wrote_as}
+use Rattle.text.proofs.WroteLaws.{adds_as}
 use Rattle.writer.specs.File.{words16}
 use Rattle.format.specs.Bytes.{words}
 use Rattle.format.specs.Layout.{row_targets}
@@ -41,4 +41,4 @@ write_row-requires c =
     }
 
 pub returns : goal.returns
-returns c = wrote_as (ap words16 (row_told (goal.at.returns c).After-mask_part-masks)) c.write_row.ensures
+returns c = adds_as (ap words16 (row_told (goal.at.returns c).After-mask_part-masks)) c.write_row.ensures

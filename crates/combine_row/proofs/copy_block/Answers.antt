@@ -19,14 +19,14 @@ entry c =
     let start = at_loop in
     let i = start.args.from + 2 * at_loop.loop-j.j in
     let fits = start.requires.block_fits at_loop.loop-j.j (omega arith) in
-    (c.word-entry.ensures.0 ∙ ap (λ t. word t i) c.bytes.ensures ∙ word_before i (omega arith) at_loop.loop-j.invariant, fits.0, fits.1)
+    (c.word-entry.ensures.0 ∙ ap (λ t. word t i) c.bytes.ensures ∙ word_before i (omega arith) at_loop.loop-j.invariant.wrote, fits.0, fits.1)
 
 -- where all numbers have room, the next one has
 room : (c : In-loop-j) →
     HasRoom c.loop-j.out 2
 room c =
     let a = c.args in
-    let w = c.loop-j.invariant in
+    let w = c.loop-j.invariant.wrote in
     omega (arith, w.place, wrote_length w, copied_bytes a.out.now.bytes.now a.from a.base a.other c.loop-j.j)
 
 pub write_word-requires : goal.write_word-requires
@@ -44,4 +44,7 @@ loop-j-preserved c =
     let a = at_loop.args in
     let x = a.other + (read.word-entry.result - a.base) in
     let e = ap (λ t. a.other + (t - a.base)) (entry read).0 in
-    wrote_copied a.out.now.bytes.now a.from a.base a.other at_loop.loop-j.j x e at_loop.loop-j.invariant done.write_word.ensures
+    record {
+      wrote = wrote_copied a.out.now.bytes.now a.from a.base a.other at_loop.loop-j.j x e at_loop.loop-j.invariant.wrote done.write_word.ensures.wrote;
+      same = done.write_word.ensures.same ∙ at_loop.loop-j.invariant.same;
+    }

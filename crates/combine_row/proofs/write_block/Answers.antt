@@ -60,7 +60,7 @@ write_word-requires c =
     let a = start.args in
     let inside = within (goal.at.write_word-requires c).In-loop-k in
     let held = turn (goal.at.write_word-requires c).After-mask_holds ∙ c.if-mask_holds.true in record {
-      at_in_bounds = held_room a.letter a.base (words a.masks.now) (words a.targets.now) at_loop.loop-k.k inside.0 inside.1 held start.requires.targets_in_bounds at_loop.loop-k.invariant;
+      at_in_bounds = held_room a.letter a.base (words a.masks.now) (words a.targets.now) at_loop.loop-k.k inside.0 inside.1 held start.requires.targets_in_bounds at_loop.loop-k.invariant.wrote;
       x_bound = omega (arith, number (goal.at.write_word-requires c).After-mask_holds c.word-then-mask_holds.result c.word-then-mask_holds.ensures.0);
     }
 
@@ -78,11 +78,11 @@ loop-k-preserved c =
       | then-mask_holds w ↦
           let x = a.base + w.word-then-mask_holds.result in
           let e = ap (λ t. a.base + t) (number at w.word-then-mask_holds.result w.word-then-mask_holds.ensures.0).0 in
-          let written = wrote_held a.letter a.base ms ts k x inside.0 inside.1 (turn at ∙ w.if-mask_holds.true) e so_far w.write_word.ensures in
-          rw w.out-is written
+          let written = wrote_held a.letter a.base ms ts k x inside.0 inside.1 (turn at ∙ w.if-mask_holds.true) e so_far.wrote w.write_word.ensures.wrote in
+          rw w.out-is (record { wrote = written; same = w.write_word.ensures.same ∙ so_far.same })
       | else-mask_holds w ↦
-          let passed = wrote_passed a.letter a.base ms ts k inside.0 inside.1 (turn at ∙ w.if-mask_holds.false) so_far in
-          rw w.out-is passed
+          let passed = wrote_passed a.letter a.base ms ts k inside.0 inside.1 (turn at ∙ w.if-mask_holds.false) so_far.wrote in
+          rw w.out-is (record { wrote = passed; same = so_far.same })
     ]
 
 pub returns : goal.returns
@@ -91,4 +91,7 @@ returns c =
     let a = start.args in
     let ms = words a.masks.now in
     let ts = words a.targets.now in
-    wrote_block a.letter a.base ms ts c.loop-k.k (omega (arith, words-length a.targets.now, start.requires.masks_len, c.loop-k-test.false)) (omega (arith, words-length a.targets.now, c.loop-k-test.false)) c.loop-k.invariant
+    let w = c.loop-k.invariant in record {
+      wrote = wrote_block a.letter a.base ms ts c.loop-k.k (omega (arith, words-length a.targets.now, start.requires.masks_len, c.loop-k-test.false)) (omega (arith, words-length a.targets.now, c.loop-k-test.false)) w.wrote;
+      same = w.same;
+    }

@@ -1,5 +1,6 @@
 -- `write_row` meets its contract. The loop's invariant: with the first block, the blocks of the first k successors are written.
 use Prim.Native.Nat.{ℕ, ◌≤◌}
+use mathlib.Core.Path.{◌≡◌}
 use mathlib.Core.List.{List}
 use lib.ListN.{take}
 use Rattle.format.specs.Bytes.{words}
@@ -14,5 +15,6 @@ invariant-loop-k l =
     let ss : List ℕ = l.successors in
     let qs = chosen l.letter (words l.masks) (words l.targets) in
     (1 ≤ l.k)
+    × (l.out.bytes.ghost_name ≡ l.initial.out.bytes.ghost_name)
     × ((w₀ : List ℕ) → Wrote w₀ l.from (words16 (row_of l.size (take 1 ss) qs)) l.initial.out.bytes.now l.initial.out.at
     → Wrote w₀ l.from (words16 (row_of l.size (take l.k ss) qs)) l.out.bytes.now l.out.at)
