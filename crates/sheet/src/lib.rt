@@ -9,6 +9,7 @@ use gate::{enter, leave};
 use numbers::limit;
 use sheet_head::write_refusal;
 use sheet_text::sheet_model;
+use text::Output;
 
 // The mark table that a sheet is about.
 const SHEET_TABLE: u16 = 0;
@@ -30,9 +31,10 @@ pub fn sheet(input: &[u8], answer: &mut [u16], work: &mut [u16], text: &mut [u8]
     match enter(input, SHEET_TABLE, work) {
         Err(reason) => write_refusal(text, u16::from(reason) as usize),
         Ok(h) => {
-            let written = sheet_model(input, h, answer, work, text);
+            let mut sheet = Output { bytes: text, at: 0 };
+            sheet_model(input, h, answer, work, &mut sheet);
             leave(work);
-            written
+            sheet.at
         }
     }
 }

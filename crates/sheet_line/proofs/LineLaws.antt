@@ -1,13 +1,15 @@
 -- The line of a list: how long it is, and how its parts follow one another.
 use Prim.Native.Nat.{ℕ, zero, suc, ◌+◌, ◌-◌, ◌≤◌}
 use mathlib.Core.Path.{◌≡◌, sym, ◌∙◌, ap}
-use mathlib.Core.List.{List, [], ◌∷◌, ◌++◌, append_assoc}
+use mathlib.Core.List.{List, [], ◌∷◌, ◌++◌, append_assoc, append-nil}
 use native.Mathlib.Omega.{arith}
 use lib.ListN.{length, take, drop, length-append, length-drop}
 use lib.Seq.{take-append-le, drop-append-le, take-nil}
 use Rattle.lasso.specs.Graph.{stem, loop, edges, loop_start}
-use Rattle.text.specs.Characters.{line_feed}
-use Rattle.sheet_line.specs.Line.{bar, space_after, space_before, stem_loop, line}
+use Rattle.lists.specs.Lists.{collect}
+use Rattle.text.specs.Characters.{space, line_feed}
+use Rattle.text.specs.Decimal.{decimal}
+use Rattle.sheet_line.specs.Line.{bar, between, space_after, space_before, stem_loop, line}
 
 -- the line of a list
 pub stem_loop-length : (ss ls : List ℕ)
@@ -18,6 +20,10 @@ stem_loop-length ss ls = simp length-append (omega arith)
 pub stem_loop_parts : (ss ls : List ℕ)
     → space_after ss ++ (bar ∷ []) ++ space_before ls ++ (line_feed ∷ []) ≡ stem_loop ss ls
 stem_loop_parts ss ls = ap (λ (r : List ℕ). r ++ (line_feed ∷ [])) (append_assoc (space_after ss) (bar ∷ []) (space_before ls))
+
+-- no text after each state, and a space before it
+pub between_before : (ss : List ℕ) → between (space ∷ []) [] ss ≡ space_before ss
+between_before ss = λ i. collect (λ s. append-nil (space ∷ decimal s) i) ss
 
 -- a part of a list, cut at its end first or at its start first
 drop-take : (k n : ℕ) (xs : List ℕ) → drop k (take n xs) ≡ take (n - k) (drop k xs)

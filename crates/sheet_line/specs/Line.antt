@@ -8,6 +8,10 @@ use Rattle.text.specs.Decimal.{decimal}
 abbrev pub bar : ℕ
 bar = 124
 
+-- each state between two texts
+abbrev pub between : (before after ss : List ℕ) → List ℕ
+between before after ss = collect (λ s. before ++ decimal s ++ after) ss
+
 -- each state followed by a space
 abbrev pub space_after : List ℕ → List ℕ
 space_after ss = collect (λ s. decimal s ++ space ∷ []) ss

@@ -11,8 +11,9 @@ use lib.Seq.{take_all}
 use Rattle.lists.specs.Lists.{collect}
 use Rattle.numbers.specs.Limits.{most_lists}
 use Rattle.outcomes.specs.Tables.{written}
-use Rattle.text.specs.Writing.{Wrote}
-use Rattle.text.proofs.WroteLaws.{wrote_then, wrote_as}
+use Rattle.text.specs.declared.Output.{Output}
+use Rattle.text.specs.Writing.{Adds}
+use Rattle.text.proofs.WroteLaws.{adds_then, adds_as}
 use Rattle.lists.proofs.CollectLaws.{take_next}
 use Rattle.sheet_line.specs.Line.{line}
 use Rattle.sheet_lists.specs.RollText.{closing_line, closing, lists_text, last_of, last_printed}
@@ -41,12 +42,11 @@ closed_more rs n all more =
     }
 
 -- the lines of the lists printed, and then the closing line
-pub wrote_closed : {rs : List (List ℕ)} {more : Bool} {t t' t'' : List ℕ} {at n next next' : ℕ} → Closed rs more n
-    → Wrote t at (collect line (take n rs)) t' next → Wrote t' next (closing_line more n) t'' next'
-    → Wrote t at (lists_text rs) t'' next'
-wrote_closed {rs} {more} {n = n} c w v =
-    wrote_as (ap (λ (ls : List (List ℕ)). collect line ls ++ closing_line more n) c.printed ∙ ap (λ (b : List ℕ). collect line (take most_lists rs) ++ b) c.closes)
-    (wrote_then w v)
+pub adds_closed : {rs : List (List ℕ)} {more : Bool} {n : ℕ} {o o' o'' : Output} → Closed rs more n
+    → Adds o (collect line (take n rs)) o' → Adds o' (closing_line more n) o'' → Adds o (lists_text rs) o''
+adds_closed {rs} {more} {n} c w v =
+    adds_as (ap (λ (ls : List (List ℕ)). collect line ls ++ closing_line more n) c.printed ∙ ap (λ (b : List ℕ). collect line (take most_lists rs) ++ b) c.closes)
+    (adds_then w v)
 
 -- the last of some lists with one after them
 last_of_snoc : (rs : List (List ℕ)) (xs : List ℕ) → last_of (rs ++ xs ∷ []) ≡ some xs

@@ -15,41 +15,42 @@ use Rattle.model.specs.Model.{graph_in}
 use Rattle.model.proofs.Laws.{valid_sizes, valid_well_formed}
 use Rattle.follow.proofs.PlacesTable.{length_fits}
 use Rattle.outcomes.specs.Tables.{written}
-use Rattle.text.specs.Writing.{Wrote}
-use Rattle.text.proofs.WroteLaws.{wrote_length, wrote_none}
+use Rattle.text.specs.declared.Output.{Output}
+use Rattle.text.specs.Writing.{Adds, HasRoom}
+use Rattle.text.proofs.WroteLaws.{adds_length, adds_none}
 use Rattle.lists.proofs.CollectLaws.{collect_next}
-use Rattle.text.proofs.EntriesLaws.{wrote_next}
+use Rattle.text.proofs.EntriesLaws.{adds_next}
 use Rattle.sheet_line.specs.Line.{line}
 use Rattle.sheet_lists.specs.RollText.{closing_line, lists_text, last_printed}
 use Rattle.cursor.specs.Cursor.{At}
-use Rattle.sheet_lists.proofs.ClosingLaws.{Closed, closed_end, closed_more, wrote_closed, answer_closed}
+use Rattle.sheet_lists.proofs.ClosingLaws.{Closed, closed_end, closed_more, adds_closed, answer_closed}
 use Rattle.sheet_lists.proofs.RoomLaws.{roll_room, lines_room, closing_room}
 
 -- Before a list is printed: it stands in region 0, those before it in the roll are printed, and the answer table is as
 -- before from entry L + 1 on.
-pub record Printing (f : List ℕ) (h : Header) (l : ℕ) (a₀ w₀ t₀ : List ℕ) (at : ℕ) (a w t : List ℕ) (next count : ℕ) : Type 0 where
+pub record Printing (f : List ℕ) (h : Header) (l : ℕ) (a₀ w₀ : List ℕ) (o₀ : Output) (a w : List ℕ) (o : Output) (count : ℕ) : Type 0 where
   pub here : At f h l count w
   pub few : count < most_lists
-  pub lines : Wrote t₀ at (collect line (take count (roll (graph_in f h)))) t next
+  pub lines : Adds o₀ (collect line (take count (roll (graph_in f h)))) o
   pub answer_length : length a ≡ length a₀
   pub answer_rest : drop (l + 1) a ≡ drop (l + 1) a₀
   pub work_length : length w ≡ length w₀
 
 -- before the first list
-pub printing_first : {f : List ℕ} {h : Header} {l at : ℕ} {a w t : List ℕ} → At f h l 0 w → at ≤ length t
-    → Printing f h l a w t at a w t at 0
-printing_first {at = at} {t = t} here fits =
+pub printing_first : {f : List ℕ} {h : Header} {l : ℕ} {a w : List ℕ} {o : Output} → At f h l 0 w → o.at ≤ length o.bytes.now
+    → Printing f h l a w o a w o 0
+printing_first {o = o} here fits =
     record {
       here = here;
       few = omega arith;
-      lines = wrote_none t at fits;
+      lines = adds_none o (omega (arith, fits));
       answer_length = refl;
       answer_rest = refl;
       work_length = refl;
     }
 
-module _ {f : List ℕ} {h : Header} {l at next count : ℕ} {a₀ w₀ t₀ a w t : List ℕ}
-    (p : Printing f h l a₀ w₀ t₀ at a w t next count) where
+module _ {f : List ℕ} {h : Header} {l count : ℕ} {a₀ w₀ a w : List ℕ} {o₀ o : Output}
+    (p : Printing f h l a₀ w₀ o₀ a w o count) where
   -- the list in region 0 after the start, as the code reads it
   abbrev listed : List ℕ
   listed = h.start ∷ take l w
@@ -59,7 +60,7 @@ module _ {f : List ℕ} {h : Header} {l at next count : ℕ} {a₀ w₀ t₀ a w
   listed_at = sym p.here.current.list_at
 
   -- its line has room, since the first 20 lines have
-  pub listed_room : at + lists_room ≤ length t₀ → next + length (line listed) ≤ length t
+  pub listed_room : HasRoom o₀ lists_room → HasRoom o (length (line listed))
   listed_room room =
       let g : Graph = graph_in f h in
       let sizes = valid_sizes p.here.prepared.valid in
@@ -69,11 +70,11 @@ module _ {f : List ℕ} {h : Header} {l at next count : ℕ} {a₀ w₀ t₀ a w
       let sum : length (collect line (take (count + 1) (roll g))) ≡ n + m =
       ap length (collect_next line (roll g) count [] p.here.current.place_in) ∙ length-append (collect line (take count (roll g))) (line (get_or (roll g) count [])) in
       let same : length (line listed) ≡ m = ap (λ (xs : List ℕ). length (line xs)) listed_at in
-      omega (arith, lines_room (count + 1) (roll g) small, p.few, p.lines.place, wrote_length p.lines)
+      omega (arith, lines_room (count + 1) (roll g) small, p.few, p.lines.wrote.place, adds_length p.lines)
 
   -- what the writer of the list and its line asks
-  pub listed_asks : l < length a₀ → at + lists_room ≤ length t₀
-      → (l ≤ length w) × ((l < length a) × ((h.start < 65536) × (next + length (line listed) ≤ length t)))
+  pub listed_asks : l < length a₀ → HasRoom o₀ lists_room
+      → (l ≤ length w) × ((l < length a) × ((h.start < 65536) × HasRoom o (length (line listed))))
   listed_asks fits room =
       let sizes = valid_sizes p.here.prepared.valid in
       let le : l ≤ h.states = length_fits p.here.prepared in
@@ -87,10 +88,10 @@ module _ {f : List ℕ} {h : Header} {l at next count : ℕ} {a₀ w₀ t₀ a w
   pub closed_full : {w' : List ℕ} → At f h l (count + 1) w' → count + 1 ≡ 20 → Closed (roll (graph_in f h)) true (count + 1)
   closed_full at' full = closed_more (roll (graph_in f h)) (count + 1) full at'.current.place_in
 
-  module _ {a' t' : List ℕ} {next' : ℕ} (lined : Wrote t next (line listed) t' next') (answered : a' ≡ listed ++ drop (l + 1) a) where
+  module _ {a' : List ℕ} {o' : Output} (lined : Adds o (line listed) o') (answered : a' ≡ listed ++ drop (l + 1) a) where
     -- the lines up to it are printed
-    pub printed_lines : Wrote t₀ at (collect line (take (count + 1) (roll (graph_in f h)))) t' next'
-    printed_lines = wrote_next line (roll (graph_in f h)) count [] listed p.here.current.place_in listed_at p.lines lined
+    pub printed_lines : Adds o₀ (collect line (take (count + 1) (roll (graph_in f h)))) o'
+    printed_lines = adds_next line (roll (graph_in f h)) count [] listed p.here.current.place_in listed_at p.lines lined
 
     -- the list has one entry more than transitions
     listed_length : length listed ≡ suc l
@@ -109,16 +110,16 @@ module _ {f : List ℕ} {h : Header} {l at next count : ℕ} {a₀ w₀ t₀ a w
         ap length printed_answer ∙ length-append listed (drop (l + 1) a₀) ∙ omega (arith, length-drop (l + 1) a₀, listed_length)
 
     -- the closing line has room
-    pub closing_asks : at + lists_room ≤ length t₀ → (more : Bool) → next' + length (closing_line more (count + 1)) ≤ length t'
+    pub closing_asks : HasRoom o₀ lists_room → (more : Bool) → HasRoom o' (length (closing_line more (count + 1)))
     closing_asks room more =
         let g : Graph = graph_in f h in
         let sizes = valid_sizes p.here.prepared.valid in
         let small = roll_room g (valid_well_formed p.here.prepared.valid) l p.here.prepared.least (omega arith) in
-        omega (arith, p.few, closing_room more (count + 1) (omega (arith, p.few)), lines_room (count + 1) (roll g) small, printed_lines.place, wrote_length printed_lines)
+        omega (arith, p.few, closing_room more (count + 1) (omega (arith, p.few)), lines_room (count + 1) (roll g) small, printed_lines.wrote.place, adds_length printed_lines)
 
     -- before the following list
     pub printing_next : l < length a₀ → {w' : List ℕ} → At f h l (count + 1) w' → length w' ≡ length w → (count + 1 ≡ 20 → ⊥)
-        → Printing f h l a₀ w₀ t₀ at a' w' t' next' (count + 1)
+        → Printing f h l a₀ w₀ o₀ a' w' o' (count + 1)
     printing_next fits at' kept apart =
         record {
           here = at';
@@ -130,10 +131,10 @@ module _ {f : List ℕ} {h : Header} {l at next count : ℕ} {a₀ w₀ t₀ a w
         }
 
     -- the whole text of the lists, and the answer table, once the closing line is written
-    pub printing_closed : {more : Bool} {t'' : List ℕ} {next'' : ℕ} → Closed (roll (graph_in f h)) more (count + 1)
-        → Wrote t' next' (closing_line more (count + 1)) t'' next''
-        → Wrote t₀ at (lists_text (roll (graph_in f h))) t'' next'' × (a' ≡ written (last_printed (roll (graph_in f h))) a₀)
+    pub printing_closed : {more : Bool} {o'' : Output} → Closed (roll (graph_in f h)) more (count + 1)
+        → Adds o' (closing_line more (count + 1)) o''
+        → Adds o₀ (lists_text (roll (graph_in f h))) o'' × (a' ≡ written (last_printed (roll (graph_in f h))) a₀)
     printing_closed c v = (
-      wrote_closed c printed_lines v,
+      adds_closed c printed_lines v,
       answer_closed a₀ a' listed count l c p.here.current.place_in (sym listed_at) listed_length printed_answer,
     )

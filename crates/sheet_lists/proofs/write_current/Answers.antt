@@ -1,6 +1,6 @@
 -- `write_current` meets its contract: the list is written to the answer table, and its line is read off there.
 use Rattle.std.proofs.Common.{◌≡◌, ◌-◌, ◌∷◌, length, take, drop, ap, arith, length-take-le}
-use Rattle.text.proofs.WroteLaws.{wrote_as}
+use Rattle.text.proofs.WroteLaws.{adds_as}
 use Rattle.sheet_line.specs.Line.{stem_loop, line}
 use Rattle.sheet_line.proofs.LineLaws.{line_read}
 use Rattle.sheet_lists.proofs.write_current.Goals as goal
@@ -20,4 +20,4 @@ write_line-requires-clause-list_in_bounds c =
     omega (arith, c.requires.transitions_in_bounds_3, ap length (same_line (goal.at.write_line-requires-clause-list_in_bounds c).After-write_list-k))
 
 pub returns-clause-line : goal.returns-clause-line
-returns-clause-line c = wrote_as (same_line (goal.at.returns-clause-line c).After-write_list-k) c.write_line.ensures
+returns-clause-line c = adds_as (same_line (goal.at.returns-clause-line c).After-write_list-k) c.write_line.ensures

@@ -7,7 +7,7 @@ use Rattle.sheet_lists.proofs.write_lists.Given as goal
 
 abbrev pub invariant-loop-h : goal.invariant-loop-h
 invariant-loop-h l =
-    Printing l.file l.h l.transitions.0 l.initial.answer l.initial.work l.initial.text l.at l.answer l.work l.text l.next l.count
+    Printing l.file l.h l.transitions.0 l.initial.answer l.initial.work l.initial.text l.answer l.work l.text l.count
 
 abbrev pub decreases-loop-h : goal.decreases-loop-h
 decreases-loop-h l = most_lists - l.count

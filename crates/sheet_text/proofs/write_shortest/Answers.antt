@@ -1,7 +1,6 @@
 -- `write_shortest` meets its contract: without room for a list the one line of 15, else the head, the length and the lists.
 use Rattle.std.proofs.Common.{◌≡◌, ℕ, ◌≤◌, sym, ◌∙◌, ap, subst, List, ◌++◌, length, arith}
 use Rattle.std.proofs.Math.Option.{some, none}
-use native.Mathlib.Nat.{le_trans}
 use Rattle.lasso.specs.Graph.{Graph}
 use Rattle.lasso.specs.Roll.{least_length, roll}
 use Rattle.lasso.specs.Rounds.{candidates}
@@ -13,7 +12,7 @@ use Rattle.model.proofs.Laws.{valid_sizes}
 use Rattle.gate.proofs.GateLaws.{named_graph, valid_room}
 use Rattle.outcomes.specs.Tables.{written}
 use Rattle.text.specs.Figure.{figure}
-use Rattle.text.proofs.WroteLaws.{wrote_length, wrote_then, wrote_as}
+use Rattle.text.proofs.WroteLaws.{adds_length, adds_then, adds_as}
 use Rattle.text.proofs.FigureLaws.{figure_room}
 use Rattle.sheet_head.specs.Words.{refused_word, shortest_word}
 use Rattle.sheet_lists.specs.RollText.{lists_text, last_printed}
@@ -57,39 +56,39 @@ no_room_is c =
     sheet_no_room a.file.now v.accepted (length a.answer.now) (length a.work.now) (valid_room v r.rounds_ready.0.room) a.transitions.0
     (least v r.rounds_ready.1 r.h_value) (omega (arith, c.entries.ensures, c.if-answer-entries.true))
 
-pub write_refusal-requires : goal.write_refusal-requires
-write_refusal-requires c = le_trans (figure_room refused_word _ (omega (arith, c.from.ensures))) (omega (arith, c.requires.sheet_room_in_bounds))
+pub write_refused-requires : goal.write_refused-requires
+write_refused-requires c = omega (arith, figure_room refused_word c.from.result (omega (arith, c.from.ensures)), c.requires.sheet_room_in_bounds)
 
 pub returns-then-answer-entries-clause-text : goal.returns-then-answer-entries-clause-text
 returns-then-answer-entries-clause-text c =
-    wrote_as (ap (figure refused_word) c.from.ensures ∙ sym (no_room_is (goal.at.returns-then-answer-entries-clause-text c).Then-answer-entries).text_is) c.write_refusal.ensures
+    adds_as (ap (figure refused_word) c.from.ensures ∙ sym (no_room_is (goal.at.returns-then-answer-entries-clause-text c).Then-answer-entries).text_is) c.write_refused.ensures
 
 pub returns-then-answer-entries-clause-answer : goal.returns-then-answer-entries-clause-answer
 returns-then-answer-entries-clause-answer c =
     sym (sheet_answer_lem c.args.answer.now (no_room_is (goal.at.returns-then-answer-entries-clause-answer c).Then-answer-entries))
 
-pub write_head-at-requires : goal.write_head-at-requires
-write_head-at-requires c =
+pub write_head-requires : goal.write_head-requires
+write_head-requires c =
     let r = c.requires in
     let v = r.rounds_ready.0.valid in
     omega (arith, head_fits v (rounds_are v r.rounds_ready.1 r.rounds_value), r.sheet_room_in_bounds)
 
-pub write_figure-after_length-requires : goal.write_figure-after_length-requires
-write_figure-after_length-requires c =
+pub write_figure-requires : goal.write_figure-requires
+write_figure-requires c =
     let r = c.requires in
     let v = r.rounds_ready.0.valid in
-    let w = c.write_head-at.ensures in
+    let w = c.write_head.ensures in
     let number = c.number in
-    omega (arith, head_fits v (rounds_are v r.rounds_ready.1 r.rounds_value), figure_room shortest_word number.result (omega (arith, number.ensures, length_range v r.rounds_ready.1 r.h_value)), r.sheet_room_in_bounds, w.place, wrote_length w)
+    omega (arith, head_fits v (rounds_are v r.rounds_ready.1 r.rounds_value), figure_room shortest_word number.result (omega (arith, number.ensures, length_range v r.rounds_ready.1 r.h_value)), r.sheet_room_in_bounds, w.wrote.place, adds_length w)
 
 pub write_lists-requires-clause-lists_room_in_bounds : goal.write_lists-requires-clause-lists_room_in_bounds
 write_lists-requires-clause-lists_room_in_bounds c =
     let r = c.requires in
     let v = r.rounds_ready.0.valid in
-    let w = c.write_head-at.ensures in
-    let u = c.write_figure-after_length.ensures in
+    let w = c.write_head.ensures in
+    let u = c.write_figure.ensures in
     let number = c.number in
-    omega (arith, head_fits v (rounds_are v r.rounds_ready.1 r.rounds_value), figure_room shortest_word number.result (omega (arith, number.ensures, length_range v r.rounds_ready.1 r.h_value)), r.sheet_room_in_bounds, w.place, u.place, wrote_length w, wrote_length u)
+    omega (arith, head_fits v (rounds_are v r.rounds_ready.1 r.rounds_value), figure_room shortest_word number.result (omega (arith, number.ensures, length_range v r.rounds_ready.1 r.h_value)), r.sheet_room_in_bounds, w.wrote.place, adds_length w, u.wrote.place, adds_length u)
 
 pub returns-clause-text : goal.returns-clause-text
 returns-clause-text c =
@@ -98,9 +97,9 @@ returns-clause-text c =
     let v = r.rounds_ready.0.valid in
     let is = lists_are (goal.at.returns-clause-text c).Else-answer-entries in
     let same = ap (λ (g : Graph). lists_text (roll g)) (named_graph v r.rounds_ready.1) in
-    wrote_as
+    adds_as
     (ap (λ (x : List ℕ). x ++ figure shortest_word a.transitions.0 ++ lists_text (roll (graph_of a.file.now 0))) (head_is v (rounds_are v r.rounds_ready.1 r.rounds_value)) ∙ sym is.text_is)
-    (wrote_then (wrote_then c.write_head-at.ensures (wrote_as (ap (figure shortest_word) c.number.ensures) c.write_figure-after_length.ensures)) (wrote_as same c.write_lists.ensures.text))
+    (adds_then (adds_then c.write_head.ensures (adds_as (ap (figure shortest_word) c.number.ensures) c.write_figure.ensures)) (adds_as same c.write_lists.ensures.text))
 
 pub returns-clause-answer : goal.returns-clause-answer
 returns-clause-answer c =
