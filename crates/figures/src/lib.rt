@@ -7,7 +7,6 @@ ghost use Rattle.std.proofs.Math.Option.{some};
 ghost use Rattle.lasso.specs.Values.{record_of};
 ghost use Rattle.outcomes.specs.Tables.{written};
 ghost use Rattle.figures.specs.Kinds.{record_figures};
-ghost use Rattle.figures.specs.Numbered.{kind_number};
 ghost use Rattle.figures.specs.Short.{too_few};
 
 mod kind;
@@ -25,10 +24,10 @@ pub fn too_few(entries: usize) -> bool
     entries < OUT_ENTRIES
 }
 
-// Reports a kind with its figures: they go to the front of the table.
-pub fn report_figures(kind: Kind, figures: &[u16], out: &mut [u16]) -> u16
+// Reports a kind, or its number, with its figures: they go to the front of the table.
+pub fn report_figures<K: Into<u16>>(kind: K, figures: &[u16], out: &mut [u16]) -> u16
     requires { length figures.now ≤ length out.old }
-    ensures kind { result ≡ kind_number kind }
+    ensures kind { K.converts kind result }
     ensures out { out.new ≡ written (some figures.now) out.old }
 {
     out[..figures.len()].copy_from_slice(figures);
@@ -36,9 +35,9 @@ pub fn report_figures(kind: Kind, figures: &[u16], out: &mut [u16]) -> u16
 }
 
 // Reports a record: the rounds done, whether there is a best length, and that length or 0.
-pub fn report_record(kind: Kind, r: RoundRecord, out: &mut [u16]) -> u16
+pub fn report_record<K: Into<u16>>(kind: K, r: RoundRecord, out: &mut [u16]) -> u16
     requires { 3 ≤ length out.old }
-    ensures kind { result ≡ kind_number kind }
+    ensures kind { K.converts kind result }
     ensures out { out.new ≡ written (some (record_figures (record_of r))) out.old }
 {
     match r.best {
