@@ -5,7 +5,7 @@ use mathlib.Core.Bool.{Bool, true, false, ◌&&◌}
 use mathlib.Core.List.{List, [], ◌∷◌}
 use mathlib.Core.Logic.{◌⊎◌, inl, inr}
 use native.Mathlib.Omega.{arith}
-use lib.ListN.{length}
+use lib.ListN.{length, get_or, drop}
 use lib.Dec.{T, eqb, ltb, ltb→lt, eqb→eq, eqb_refl}
 use Rattle.lists.specs.Lists.{memb, ascendingb}
 use Rattle.lasso.specs.Graph.{Graph, WellFormed}
@@ -22,6 +22,13 @@ pub implied_or_itself : (b : Bool) (s : ℕ) (ts : List ℕ) → (with_implied b
 implied_or_itself true s [] = inr refl
 implied_or_itself false s [] = inl refl
 implied_or_itself b s (t ∷ ts) = inl refl
+
+-- after the first successor there are only edges
+pub implied_behind_first : (b : Bool) (s : ℕ) (ts : List ℕ) → 0 < length (with_implied b s ts)
+    → with_implied b s ts ≡ get_or (with_implied b s ts) 0 0 ∷ drop 1 ts
+implied_behind_first true s [] l = refl
+implied_behind_first false s [] l = absurd (omega arith)
+implied_behind_first b s (t ∷ ts) l = refl
 
 -- where nothing stays there is no implied step
 pub implied_not : (s : ℕ) (ts : List ℕ) → with_implied false s ts ≡ ts

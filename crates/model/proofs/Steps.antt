@@ -1,13 +1,13 @@
 -- The successors that a row's part stands for: its numbers, or the implied step.
-use Prim.Native.Nat.{ℕ, ◌≤◌}
+use Prim.Native.Nat.{ℕ, ◌≤◌, ◌<◌}
 use mathlib.Core.Path.{◌≡◌, refl, ◌∙◌}
 use mathlib.Core.List.{List, [], ◌∷◌}
 use mathlib.Core.Logic.{◌⊎◌}
-use lib.ListN.{length}
+use lib.ListN.{length, get_or, drop}
 use Rattle.format.specs.Bytes.{words}
 use Rattle.model.specs.declared.Header.{Header}
 use Rattle.model.specs.Model.{with_implied, steps_of}
-use Rattle.model.proofs.Implied.{implied_some, implied_or_itself}
+use Rattle.model.proofs.Implied.{implied_some, implied_or_itself, implied_behind_first}
 
 module _ (h : Header) (s : ℕ) (part : List ℕ) where
   -- the successors are the numbers of the part, with the implied step
@@ -23,3 +23,8 @@ module _ (h : Header) (s : ℕ) (part : List ℕ) where
   pub steps_or_itself : (steps_of h s part ≡ words part) ⊎ (steps_of h s part ≡ s ∷ [])
   unfolding steps_of
   steps_or_itself = implied_or_itself h.stays s (words part)
+
+  -- after the first successor there are only edges
+  pub steps_behind_first : 0 < length (steps_of h s part) → steps_of h s part ≡ get_or (steps_of h s part) 0 0 ∷ drop 1 (words part)
+  unfolding steps_of
+  steps_behind_first l = implied_behind_first h.stays s (words part) l

@@ -1,11 +1,18 @@
--- Laws of changed tables: tables that are the same outside a range, one store, and a table that is cleared as a whole.
-use Prim.Native.Nat.{ℕ, ◌≤◌, ◌<◌}
+-- Laws of changed tables: tables that are the same outside a range, one store, a table that is cleared as a whole, and one
+-- more entry copied.
+use Prim.Native.Nat.{ℕ, ◌+◌, ◌≤◌, ◌<◌}
 use mathlib.Core.Path.{◌≡◌, refl, sym, ◌∙◌}
+use mathlib.Core.Logic.{◌⊎◌, ⊎_elim}
 use mathlib.Core.List.{List}
+use native.Mathlib.Nat.{eq-or-lt_of_le}
 use native.Mathlib.Omega.{arith}
-use lib.ListN.{length, set, replicate, length-set, length-replicate, get_or-replicate}
-use lib.Seq.{get_or-set_other, ext_get_or}
-use Rattle.table.specs.Changes.{SameOutside, Cleared}
+use lib.ListN.{length, get_or, set, replicate, length-set, length-replicate, get_or-replicate}
+use lib.Seq.{get_or-set_same, get_or-set_other, ext_get_or}
+use Rattle.table.specs.Changes.{SameOutside, Cleared, Copied}
+
+-- a number below i + 1 is i or below i
+pub last_or_below : (s i : ℕ) → s < i + 1 → (s ≡ i) ⊎ (s < i)
+last_or_below s i l = let q : s ≤ i = omega arith in eq-or-lt_of_le q
 
 -- a table is the same as itself
 pub same_outside_refl : (from to : ℕ) (w : List ℕ) → SameOutside from to w w
@@ -58,3 +65,21 @@ cleared_all w w' c =
   where
     inside : (i : ℕ) → i < length w' → i < length w
     inside i h = omega (arith, c.others.same_length)
+
+-- one more entry is copied by storing it after the copies: it stands as before, since the two parts are apart
+pub copied_more : (from to m n : ℕ) (w w' : List ℕ) (at source : ℕ) → at ≡ to + n → source ≡ from + n → (to + m ≤ from) ⊎ (from + m ≤ to) → n < m → to + n < length w → Copied from to n w w'
+    → Copied from to (n + 1) w (set w' at (get_or w' source 0))
+copied_more from to m n w w' at source at_is source_is apart l q c =
+    rw (at_is, source_is)
+    record {
+      others = same_outside_set (to + n) (get_or w' (from + n) 0) (omega arith) (omega arith) (same_outside_widen to (to + (n + 1)) (omega arith) (omega arith) c.others);
+      copies = λ i l. ⊎_elim (λ e. rw e here) (λ k. get_or-set_other w' (to + n) (to + i) (get_or w' (from + n) 0) 0 (omega arith) ∙ c.copies i k) (last_or_below i n l);
+    }
+  where
+    inside : to + n < length w'
+    inside = omega (arith, c.others.same_length)
+
+    here : get_or (set w' (to + n) (get_or w' (from + n) 0)) (to + n) 0 ≡ get_or w (from + n) 0
+    here =
+        get_or-set_same w' (to + n) (get_or w' (from + n) 0) 0 inside
+        ∙ ⊎_elim (λ a. c.others.same_after (from + n) (omega arith)) (λ a. c.others.same_before (from + n) (omega arith)) apart
