@@ -31,8 +31,8 @@ so_far c =
     let a = c.args in
     record {
       wrote = c.loop-k.invariant.2 a.out.now.bytes.now
-    (wrote_first_block a.size a.successors.now (picked (goal.at.At-loop-k c).Start) _ (omega (arith, c.len-d.ensures, c.if-d-eq0.false))
-    (ap (λ x. x * a.size) c.target.ensures) c.write_block.ensures.wrote);
+          (wrote_first_block a.size a.successors.now (picked (goal.at.At-loop-k c).Start) _ (omega (arith, c.len-d.ensures, c.if-d-eq0.false))
+          (ap (λ x. x * a.size) c.target.ensures) c.write_block.ensures.wrote);
       same = c.loop-k.invariant.1 ∙ c.write_block.ensures.same;
     }
 
@@ -48,8 +48,11 @@ pub returns-then-count-eq0 : goal.returns-then-count-eq0
 returns-then-count-eq0 c =
     let w = (goal.at.returns-then-count-eq0 c).After-write_block in
     let s = (goal.at.returns-then-count-eq0 c).Start in
-    record { same = c.write_block.ensures.same; wrote = wrote_empty_row c.args.size c.args.successors.now (picked s) (c.target.result * c.args.size)
-    (omega (arith, (counted w).1, c.if-count-eq0.true)) c.write_block.ensures.wrote }
+    record {
+      same = c.write_block.ensures.same;
+      wrote = wrote_empty_row c.args.size c.args.successors.now (picked s) (c.target.result * c.args.size)
+          (omega (arith, (counted w).1, c.if-count-eq0.true)) c.write_block.ensures.wrote;
+    }
 
 pub copy_block-requires : goal.copy_block-requires
 copy_block-requires c =
