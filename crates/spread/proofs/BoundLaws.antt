@@ -122,36 +122,38 @@ module _ {g : Graph} {limit target : ℕ} {w : List ℕ} {b : ℕ} (B : OwnLevel
           let up = source_up g.size limit b w (omega (arith, B.below)) target a q in
           let same : a ≡ b = cc (up.0, B.source) in absurd (omega (arith, up.1))
 
-module _ {g : Graph} {limit target : ℕ} {w : List ℕ} {b : ℕ} (w' : List ℕ) (B : OwnLevel g limit target w b) where
-  -- lengths up to the bound are those that sources below it give
+module _ (g : Graph) {limit : ℕ} (target : ℕ) (w : List ℕ) {b : ℕ} (le : b ≤ limit) where
+  -- lengths up to a bound are those that sources below it give
   same_lengths : under (suc b) (hit_length g (sources g.size limit w) target) ≡ under (suc b) (hit_length g (sources g.size b w) target)
   same_lengths =
       let all : ℕ → Option ℕ = λ s. value_of (entry 2 g.size w s) in
       let whole : Option ℕ = hit_length g (sources g.size limit w) target in
-      sym (under-under (suc b) (suc limit) whole (omega (arith, B.below)))
+      sym (under-under (suc b) (suc limit) whole (omega (arith, le)))
       ∙ ap (under (suc b)) (hit_length-under g limit all target)
-      ∙ under-under (suc b) (suc limit) (hit_length g all target) (omega (arith, B.below))
+      ∙ under-under (suc b) (suc limit) (hit_length g all target) (omega (arith, le))
       ∙ sym (hit_length-under g b all target)
 
   -- a length found up to the bound is the one up to the limit
-  pub found_before : (l : ℕ) → Spread g b target w w' (Length l) → Spread g limit target w w' (Length l)
-  found_before l F =
+  pub found_before : (w' : List ℕ) (l : ℕ) → Spread g b target w w' (Length l) → Spread g limit target w w' (Length l)
+  found_before w' l F =
       let whole : Option ℕ = hit_length g (sources g.size limit w) target in
       let least = under_some (suc b) whole l (same_lengths ∙ F.length) in
-      record { outside = F.outside; length = some_under (suc limit) whole l least.0 (omega (arith, least.1, B.below)) }
+      record { outside = F.outside; length = some_under (suc limit) whole l least.0 (omega (arith, least.1, le)) }
 
+module _ {g : Graph} {limit target : ℕ} {w : List ℕ} {b : ℕ} (w' : List ℕ) (B : OwnLevel g limit target w b) where
   -- if none is found up to the bound, below the limit, the step from the target to itself has the least
   pub found_itself : WellFormed g → (count : ℕ) → Spread g b target w w' (Nothing count) → Spread g limit target w w' (Length (b + 1))
   found_itself wf count N =
       let source : ℕ → Option ℕ = sources g.size limit w in
       let whole : Option ℕ = hit_length g source target in
       let own : source target ≡ some b = B.source in
+      let le : b ≤ limit = omega (arith, B.below) in
       let P : ℕ → Type 0 = Timed g.size source (λ s m. (1 ≤ m) × Walk g s target m) in
       let step : P (b + 1) = (target, b, 1, B.inside, own, (omega arith, walk_edge (own_edge g target B.alone)), omega arith) in
       let (m, is, most) = is_least_le P whole (hit_length_least wf source target) (b + 1) step in
       let not_less : suc b ≤ m =
       elim (lt_or_ge m (suc b)) [
-        | inl small ↦ let z : ◌≡◌ {A = ℕ} 0 1 = cc (some_under (suc b) whole m is small, same_lengths, N.length) in absurd (omega arith)
+        | inl small ↦ let z : ◌≡◌ {A = ℕ} 0 1 = cc (some_under (suc b) whole m is small, same_lengths g target w le, N.length) in absurd (omega arith)
         | inr large ↦ large
       ] in
       let same : m ≡ b + 1 = omega arith in

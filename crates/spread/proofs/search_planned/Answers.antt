@@ -1,6 +1,6 @@
 -- `search_planned` meets its contract: the search by edges up to the limit, or up to the bound below it; if that one finds nothing,
 -- the step from the target to itself.
-use Prim.Native.Nat.{ℕ}
+use Prim.Native.Nat.{ℕ, ◌≤◌}
 use mathlib.Core.Path.{sym, subst}
 use mathlib.Core.List.{List}
 use native.Mathlib.Omega.{arith}
@@ -64,8 +64,9 @@ returns-in-Length c =
     let a = (start b).args in
     let left : List ℕ = done.search_edges-answer.new.work in
     let before = subst (Spread (graph (start b)) b.in-Some.bound a.target origin left) c.in-Length.is (searched done origin P) in
+    let le : b.in-Some.bound ≤ a.limit = omega (arith, (b.in-Some.ensures origin P).below) in
     subst (Spread (graph (start b)) a.limit a.target origin left) (sym c.in-Length.is)
-    (found_before left (b.in-Some.ensures origin P) _ before)
+    (found_before (graph (start b)) a.target origin le left _ before)
 
 pub returns-in-Nothing : goal.returns-in-Nothing
 returns-in-Nothing c =
