@@ -1,15 +1,37 @@
 -- Region 0 while a list is put into it: the entries from place 1 on stand at the front of the working table.
-use Prim.Native.Nat.{ℕ, suc, ◌+◌, ◌-◌, ◌≤◌}
+use Prim.Native.Nat.{ℕ, suc, ◌+◌, ◌-◌, ◌≤◌, ◌<◌}
 use mathlib.Core.Path.{◌≡◌, ◌∙◌, ap}
 use mathlib.Core.List.{List, [], ◌∷◌, ◌++◌}
 use native.Mathlib.Omega.{arith}
-use lib.ListN.{length, get_or, take, drop, length-append, length-drop}
-use lib.Seq.{take_at, get_or-append-add, get_or-drop}
+use lib.ListN.{length, get_or, take, drop, set, length-append, length-drop}
+use lib.Seq.{take_all, take_at, get_or-append-add, get_or-drop}
 use Rattle.lasso.specs.Graph.{edges}
+use Rattle.current.proofs.CurrentLaws.{front_store, front_length}
+
+-- the table with the entries of xs from place 1 up to j in front
+abbrev pub loaded_to : ℕ → List ℕ → List ℕ → List ℕ
+loaded_to j xs d = take (j - 1) (drop 1 xs) ++ drop (j - 1) d
 
 -- the table with all entries of xs from place 1 on in front
 abbrev pub loaded : List ℕ → List ℕ → List ℕ
 loaded xs d = drop 1 xs ++ drop (edges xs) d
+
+-- the entry at place j is put after those before it
+pub load_more : (xs d p : List ℕ) (j v : ℕ) → p ≡ loaded_to j xs d → v ≡ get_or xs j 0 → 1 ≤ j → j < length xs → j ≤ length d
+    → set p (j - 1) v ≡ loaded_to (j + 1) xs d
+load_more xs d p j v at_p at-v low high fits =
+    let q : j ≡ 1 + (j - 1) = omega arith in
+    let next : j - 1 + 1 ≡ j + 1 - 1 = omega arith in
+    front_store xs d p 1 (j - 1) v at_p (at-v ∙ ap (λ (i : ℕ). get_or xs i 0) q) (omega arith) (omega arith)
+    ∙ ap (λ (i : ℕ). take i (drop 1 xs) ++ drop i d) next
+
+-- the table keeps its length
+pub load_length : (xs d : List ℕ) (j : ℕ) → j ≤ length xs → j ≤ length d + 1 → length (loaded_to j xs d) ≡ length d
+load_length xs d j high fits = front_length (drop 1 xs) d (j - 1) (rw length-drop (omega arith)) (omega arith)
+
+-- at the end of the list all entries are there
+pub load_done : (xs d : List ℕ) (j : ℕ) → j ≡ length xs → loaded_to j xs d ≡ loaded xs d
+load_done xs d j e = rw (e, take_all (length xs - 1) (drop 1 xs) (rw length-drop (omega arith)))
 
 -- the list from the start: it is the one that was put there
 pub loaded_list : (s : ℕ) (xs w : List ℕ) (l : ℕ) → length xs ≡ suc l → get_or xs 0 0 ≡ s → s ∷ take l (loaded xs w) ≡ xs

@@ -37,7 +37,11 @@ fn load(list: &[u16], work: &mut [u16])
     ensures { work.new
         ≡ drop 1 list.now ++ drop (edges list.now) work.old }
 {
-    work[..list.len() - 1].copy_from_slice(&list[1..]);
+    // Entry by entry: with the library's copy of a slice the archive for C would need `memmove` from outside.
+    for j in 1..list.len() {
+        let s = get(list, j);
+        put(work, j - 1, s);
+    }
 }
 
 // Goes to a given list of the roll.
