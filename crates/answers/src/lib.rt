@@ -2,21 +2,18 @@
 #![tactic(auto)]
 
 ghost use Rattle.std.specs.Prelude.{◌≡◌, ◌≤◌, length};
-ghost use Rattle.search.specs.Search.{search_outcome_of};
-ghost use Rattle.next.specs.Next.{next_outcome_of};
-ghost use Rattle.figures.specs.Kinds.{figures_in};
-ghost use Rattle.answers.specs.Kinds.{search_report, next_report};
+ghost use Rattle.figures.specs.Kinds.{KindTold, figures_told};
+ghost use Rattle.answers.specs.Kinds.{report_of_searched, report_of_followed};
 
 use figures::{Kind, report_figures, report_record};
 use next::NextList;
-use numbers::Reason;
 use search::SearchAnswer;
 
-// Reports the answer of a search.
-pub fn report_search(answer: Result<SearchAnswer, Reason>, out: &mut [u16]) -> u16
+// Reports the answer of a search, whose refusal is a reason or a number.
+pub fn report_search<N: Into<u16>>(answer: Result<SearchAnswer, N>, out: &mut [u16]) -> u16
     requires { 3 ≤ length out.old }
-    ensures kind { result ≡ (search_report (search_outcome_of answer)).kind }
-    ensures out { out.new ≡ figures_in out.old (search_report (search_outcome_of answer)) }
+    ensures kind { KindTold N.converts report_of_searched answer result }
+    ensures out { out.new ≡ figures_told out.old report_of_searched answer }
 {
     match answer {
         Err(refusal) => refusal.into(),
@@ -30,11 +27,11 @@ pub fn report_search(answer: Result<SearchAnswer, Reason>, out: &mut [u16]) -> u
     }
 }
 
-// Reports the answer of next.
-pub fn report_next(answer: Result<Option<NextList>, Reason>, out: &mut [u16]) -> u16
+// Reports the answer of next, whose refusal is a reason or a number.
+pub fn report_next<N: Into<u16>>(answer: Result<Option<NextList>, N>, out: &mut [u16]) -> u16
     requires { 3 ≤ length out.old }
-    ensures kind { result ≡ (next_report (next_outcome_of answer)).kind }
-    ensures out { out.new ≡ figures_in out.old (next_report (next_outcome_of answer)) }
+    ensures kind { KindTold N.converts report_of_followed answer result }
+    ensures out { out.new ≡ figures_told out.old report_of_followed answer }
 {
     match answer {
         Err(reason) => reason.into(),

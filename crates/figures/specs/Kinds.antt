@@ -1,5 +1,5 @@
 -- Answers as numbers: a kind, and figures that go to a table from entry 0 on.
-use Rattle.std.specs.Prelude.{ℕ, List, [], ◌∷◌, eqb}
+use Rattle.std.specs.Prelude.{ℕ, ◌≡◌, List, [], ◌∷◌, Result, Ok, Err, eqb}
 use Rattle.std.proofs.Math.Option.{Option, some, none}
 use Rattle.lists.specs.Lists.{pick}
 use Rattle.lasso.specs.Rounds.{Record}
@@ -32,6 +32,16 @@ record_given done has best = record { done = done; best = pick (eqb has 0) none 
 -- a refusal: its number stands for the kind, and there are no figures
 abbrev pub refusal : ℕ → Report
 refusal n = record { kind = n; figures = [] }
+
+-- which kind the report of a result has: the number that its error tells, or the kind of what is reported of its answer
+abbrev pub KindTold : {A E : Type 0} → (tells : E → ℕ → Type 0) → (A → Report) → Result A E → ℕ → Type 0
+KindTold tells report (Err e) kind = tells e kind
+KindTold tells report (Ok a) kind = kind ≡ (report a).kind
+
+-- the table after the report of a result: nothing goes there for an error
+abbrev pub figures_told : {A E : Type 0} → List ℕ → (A → Report) → Result A E → List ℕ
+figures_told out report (Err e) = out
+figures_told out report (Ok a) = written (some (report a).figures) out
 
 -- a combination or a distance call: 107 written (bytes of the one, entries of the other)
 abbrev pub written_report : Outcome ℕ → Report

@@ -2,14 +2,13 @@
 #![tactic(auto)]
 
 ghost use Rattle.std.specs.Prelude.{◌≡◌, ◌≤◌, length};
-ghost use Rattle.grade.specs.Grade.{verdict_of, grade_outcome_of};
-ghost use Rattle.figures.specs.Kinds.{figures_in};
+ghost use Rattle.grade.specs.Grade.{verdict_of};
+ghost use Rattle.figures.specs.Kinds.{KindTold, figures_told};
 ghost use Rattle.figures.specs.Numbered.{kind_number};
-ghost use Rattle.grade_report.specs.Grades.{verdict_kind, grade_report, place_in};
+ghost use Rattle.grade_report.specs.Grades.{verdict_kind, report_of_graded, place_told};
 
 use figures::Kind;
 use grade::{Graded, Verdict};
-use numbers::Reason;
 
 // The kind of a verdict.
 fn kind_of(v: Verdict) -> Kind
@@ -22,14 +21,18 @@ fn kind_of(v: Verdict) -> Kind
     }
 }
 
-// Reports the answer of the grader: the one figure is whether there is a place where the list breaks. The place itself goes
-// to a table of its own, and nothing goes there if there is none.
-pub fn report_grade(answer: Result<Graded, Reason>, place: &mut [usize], out: &mut [u16]) -> u16
+// Reports the answer of the grader, whose refusal is a reason or a number: the one figure is whether there is a place where
+// the list breaks. The place itself goes to a table of its own, and nothing goes there if there is none.
+pub fn report_grade<N: Into<u16>>(
+    answer: Result<Graded, N>,
+    place: &mut [usize],
+    out: &mut [u16],
+) -> u16
     requires in_bounds { 1 ≤ length place.old }
     requires in_bounds_2 { 1 ≤ length out.old }
-    ensures kind { result ≡ (grade_report (grade_outcome_of answer)).kind }
-    ensures out { out.new ≡ figures_in out.old (grade_report (grade_outcome_of answer)) }
-    ensures place { place.new ≡ place_in place.old (grade_outcome_of answer) }
+    ensures kind { KindTold N.converts report_of_graded answer result }
+    ensures out { out.new ≡ figures_told out.old report_of_graded answer }
+    ensures place { place.new ≡ place_told place.old answer }
 {
     match answer {
         Err(reason) => reason.into(),

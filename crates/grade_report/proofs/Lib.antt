@@ -1,0 +1,2 @@
+-- The place in a report of a result with a reason.
+pub mod PlaceLaws
