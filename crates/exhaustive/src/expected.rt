@@ -4,7 +4,7 @@ ghost use Rattle.std.specs.Prelude.{◌≤◌};
 
 use crate::digits::{digit, member, size};
 use crate::search::{Truth, loop_states};
-use harness::{Answer, Tried};
+use harness::{Answer, Best, Tried};
 
 // What a call answers, and the list that it writes, 0 if it writes none.
 #[derive(Clone, Copy, PartialEq, Eq)]
@@ -54,7 +54,8 @@ pub fn plain(answer: Answer) -> Seen {
 }
 
 // The answer of a step from a record, the working table being too short or not.
-pub fn of_step(t: Truth, done: u16, best: Option<u16>, short: bool) -> Seen {
+pub fn of_step<B: Into<Best>>(t: Truth, done: u16, best: B, short: bool) -> Seen {
+    let Best(best) = best.into();
     if short {
         return plain(Answer::Refused(12));
     }

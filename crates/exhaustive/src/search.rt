@@ -101,14 +101,14 @@ fn kept(t: Truth, list: u64, count: u16, lengths: u64, roll: &mut [u64]) -> Trut
 
 // What is known after the trail's next state has been tried as a way back. A path that is longer than the ceiling is
 // not there.
-fn closed(m: Model, ceiling: u16, trail: Trail, t: Truth, roll: &mut [u64]) -> Truth {
+fn closed(m: Model, ceiling: usize, trail: Trail, t: Truth, roll: &mut [u64]) -> Truth {
     let Trail {
         list,
         count,
         passed,
         next,
     } = trail;
-    if ceiling < count || !holds(passed, next) || !has_edge(m, digit(list, 0), next) {
+    if ceiling < usize::from(count) || !holds(passed, next) || !has_edge(m, digit(list, 0), next) {
         return t;
     }
     let marked = loop_states(list, count, next) & m.marks;
@@ -139,14 +139,14 @@ fn left(trail: Trail) -> Trail {
 }
 
 // The trail after one more turn of the enumeration. One that has more states than the ceiling has transitions is left.
-fn moved(m: Model, ceiling: u16, trail: Trail) -> Trail {
+fn moved(m: Model, ceiling: usize, trail: Trail) -> Trail {
     let Trail {
         list,
         count,
         passed,
         next,
     } = trail;
-    if 7 < next || 15 < count || ceiling < count {
+    if 7 < next || 15 < count || ceiling < usize::from(count) {
         return left(trail);
     }
     if has_edge(m, digit(list, 0), next) && !holds(passed, next) {
@@ -187,7 +187,7 @@ fn start(m: Model) -> Trail {
 // Follows all paths of a model up to a ceiling, along its edges and its implied steps, in dictionary order among those of
 // one length; the shortest accepting ones go to the roll. It has far more turns than it needs; should they not be enough,
 // it answers more lists than the roll has room for.
-pub fn explore(model: Model, ceiling: u16, roll: &mut [u64]) -> Truth {
+pub fn explore(model: Model, ceiling: usize, roll: &mut [u64]) -> Truth {
     let m = explicit(model);
     let mut trail = start(m);
     let mut t = nothing(m);

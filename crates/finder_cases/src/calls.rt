@@ -109,9 +109,9 @@ pub fn try_all(rt: &impl Print, file: &[u8], earlier: &[u16], f: CaseNumbers) ->
 pub fn spoilt() -> u8 {
     let mut table = [0u16; 8];
     fill(&mut table, Filling::Varied);
-    let work = u8::from(wrong_work(&table, Some(13))) + u8::from(wrong_work(&table, Some(22)));
+    let work = u8::from(wrong_work(&table, 13)) + u8::from(wrong_work(&table, 22));
     table[5] = 0;
-    work + u8::from(wrong_work(&table, Some(12)))
+    work + u8::from(wrong_work(&table, 12))
         + u8::from(wrong_answer(&table, 5))
         + u8::from(wrong_answer(&table, 6))
 }

@@ -29,7 +29,7 @@ fn compare_ceiling(
     tally: &mut Tally,
 ) {
     let mut roll = [0u64; ROLL];
-    let within = exhaustive::explore(m, ceiling, &mut roll);
+    let within = exhaustive::explore(m, usize::from(ceiling), &mut roll);
     add(&mut tally.ceilings, 1);
     checks::check_steps(t, within, ceiling, file, mark_table, tally);
     checks::check_searches(t, within, &roll, ceiling, file, mark_table, tally);

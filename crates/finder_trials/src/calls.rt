@@ -2,19 +2,20 @@
 use crate::answer::{of_distances, of_next, of_search, of_step};
 use crate::look::{seen, seen_work};
 use gate::Ask;
-use harness::{Filling, Tried, fill};
+use harness::{Best, Filling, Tried, fill};
 use lasso::{RoundRecord, Transitions};
 
 // A step by the marks of a table, under a ceiling and from a record, lent a working table.
-pub fn step(
+pub fn step<B: Into<Best>>(
     file: &[u8],
     mark_table: u16,
     ceiling: u16,
     done: u16,
-    best: Option<u16>,
+    best: B,
     work: &mut [u16],
 ) -> Tried {
     fill(work, Filling::Varied);
+    let Best(best) = best.into();
     let so_far = RoundRecord {
         done,
         best: best.map(Transitions),

@@ -62,8 +62,25 @@ fn accepts(m: Model, c: Claim, length: usize) -> bool {
         && entries_between(c, c.k, length) & m.marks != 0
 }
 
+// How many transitions the shortest accepting paths of a model have, if it has any.
+#[derive(Clone, Copy)]
+pub struct Least(Option<usize>);
+
+impl From<usize> for Least {
+    fn from(transitions: usize) -> Least {
+        Least(Some(transitions))
+    }
+}
+
+impl From<Option<u16>> for Least {
+    fn from(transitions: Option<u16>) -> Least {
+        Least(transitions.map(usize::from))
+    }
+}
+
 // The grade of a list, on a model whose steps are all edges and whose shortest accepting paths have so many transitions.
-pub fn grade(m: Model, least: Option<u16>, c: Claim) -> Graded {
+pub fn grade<L: Into<Least>>(m: Model, least: L, c: Claim) -> Graded {
+    let Least(least) = least.into();
     let place = (0..c.entries).find(|place| breaks(m, c, *place));
     if c.entries < 2 || place.is_some() {
         return Graded {
@@ -76,7 +93,7 @@ pub fn grade(m: Model, least: Option<u16>, c: Claim) -> Graded {
     let accepting = accepts(m, c, length);
     Graded {
         accepting,
-        shortest: accepting && least.map(usize::from) == Some(length),
+        shortest: accepting && least == Some(length),
         place,
     }
 }

@@ -48,9 +48,22 @@ impl Answer {
     }
 }
 
-// A best length in print, `none` where there is none.
+// A best length; in print `none` where there is none.
 #[derive(Clone, Copy)]
-struct Best(Option<u16>);
+pub struct Best(pub Option<u16>);
+
+impl From<Option<u16>> for Best {
+    fn from(length: Option<u16>) -> Best {
+        Best(length)
+    }
+}
+
+impl From<u64> for Best {
+    // A number above 65,535 stands for none.
+    fn from(number: u64) -> Best {
+        Best(u16::try_from(number).ok())
+    }
+}
 
 impl fmt::Display for Best {
     fn fmt<W: fmt::Write>(&self, f: &mut fmt::Formatter<W>) -> fmt::Result {

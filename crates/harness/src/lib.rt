@@ -9,9 +9,9 @@ mod print;
 mod read;
 mod tables;
 
-pub use answer::{Answer, Tried};
+pub use answer::{Answer, Best, Tried};
 pub use counts::{add, add_if, sum};
 pub use files::{header_word, put_byte, put16};
 pub use print::{entries, text};
 pub use read::read_text;
-pub use tables::{Filling, entry, fill, first, holds, wrong_work};
+pub use tables::{Filling, Left, entry, fill, first, holds, wrong_work};

@@ -8,6 +8,17 @@ pub enum Filling {
     Varied,
 }
 
+impl From<usize> for Filling {
+    // By its number: 0, 1, and any other.
+    fn from(number: usize) -> Filling {
+        match number {
+            0 => Filling::Zeros,
+            1 => Filling::Nines,
+            _ => Filling::Varied,
+        }
+    }
+}
+
 impl Filling {
     // What stands at a place of a table with such a filling.
     fn at(self, place: usize) -> u16 {
@@ -21,28 +32,44 @@ impl Filling {
 
 // What a working table that was filled with varied numbers must hold after a call: it is untouched after a refusal with
 // 1 to 12, and zero after every other answer.
-fn left_after(refusal: Option<u16>) -> Filling {
-    match refusal {
-        Some(1..=12) => Filling::Varied,
-        _ => Filling::Zeros,
+#[derive(Clone, Copy)]
+pub struct Left(Filling);
+
+impl From<usize> for Left {
+    // After a refusal with a number, or 0 for an answer that is none.
+    fn from(refusal: usize) -> Left {
+        match refusal {
+            1..=12 => Left(Filling::Varied),
+            _ => Left(Filling::Zeros),
+        }
+    }
+}
+
+impl From<Option<u16>> for Left {
+    // After a refusal, or after another answer.
+    fn from(refusal: Option<u16>) -> Left {
+        Left::from(refusal.map_or(0, usize::from))
     }
 }
 
 // Fills a table.
-pub fn fill(table: &mut [u16], filling: Filling) {
+pub fn fill<F: Into<Filling>>(table: &mut [u16], filling: F) {
+    let filling = filling.into();
     for (place, entry) in table.iter_mut().enumerate() {
         *entry = filling.at(place);
     }
 }
 
 // Whether a table holds its filling from a place on.
-pub fn holds(table: &[u16], from: usize, filling: Filling) -> bool {
+pub fn holds<F: Into<Filling>>(table: &[u16], from: usize, filling: F) -> bool {
+    let filling = filling.into();
     (from..table.len()).all(|place| table[place] == filling.at(place))
 }
 
 // Whether the working table does not hold what it must after a refusal, or after another answer.
-pub fn wrong_work(work: &[u16], refusal: Option<u16>) -> bool {
-    !holds(work, 0, left_after(refusal))
+pub fn wrong_work<R: Into<Left>>(work: &[u16], refusal: R) -> bool {
+    let Left(filling) = refusal.into();
+    !holds(work, 0, filling)
 }
 
 // The entry at a place, 0 after the end.
