@@ -18,14 +18,19 @@ fn filling(at: usize) -> u8 {
 
 // Fills an output.
 pub fn fill(out: &mut [u8]) {
-    for (at, byte) in out.iter_mut().enumerate() {
-        *byte = filling(at);
+    for at in 0..out.len() {
+        out[at] = filling(at);
     }
 }
 
 // Whether an output does not hold its filling from a place on.
 pub fn changed(out: &[u8], from: usize) -> bool {
-    (from..out.len()).any(|at| out[at] != filling(at))
+    for at in from..out.len() {
+        if out[at] != filling(at) {
+            return true;
+        }
+    }
+    false
 }
 
 // A combination that is lent so many bytes of an output; the bytes after them are looked at too.
